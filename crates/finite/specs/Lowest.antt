@@ -1,0 +1,38 @@
+-- The lowest number below n that passes a test, or n.
+-- Assumes nothing.
+use mathlib.Core.Path.{_≡_, refl, ap, subst, sym, _∙_}
+use mathlib.Core.Bool.{Bool, true, false, cond}
+use mathlib.Core.Logic.{⊎-elim}
+use Prim.Native.Nat.{ℕ, zero, suc, _+_, _<_, _≤_}
+use native.Mathlib.Nat.{le-of-suc-le-suc, not-suc-le-zero, eq-or-lt-of-le}
+use native.Mathlib.Omega.{arith}
+use lib.Dec.{T, ltb, lt→ltb, ltb→lt}
+use Rattle.finite.specs.Truth.{cond-true, cond-false, by-test}
+
+unfoldable pub lowest : (ℕ → Bool) → ℕ → ℕ
+lowest f zero = 0
+lowest f (suc n) = cond (ltb (lowest f n) n) (lowest f n) (cond (f n) n (suc n))
+
+-- where none below n passes, it is n
+pub lowest-none : (f : ℕ → Bool) (n : ℕ) → ((k : ℕ) → k < n → T (f k) → ⊥) → lowest f n ≡ n
+unfolding lowest
+lowest-none f zero h = refl
+lowest-none f (suc n) h =
+    let e : lowest f n ≡ n = lowest-none f n (λ k l. h k (omega arith)) in
+    cond-false (ltb (lowest f n) n) (lowest f n) (cond (f n) n (suc n)) (λ t. let l = ltb→lt (lowest f n) n t in absurd (omega arith))
+    ∙ cond-false (f n) n (suc n) (h n (omega arith))
+
+-- where k passes and none below it does, it is k
+pub lowest-is : (f : ℕ → Bool) (n k : ℕ) → k < n → ((j : ℕ) → j < k → T (f j) → ⊥) → T (f k) → lowest f n ≡ k
+unfolding lowest
+lowest-is f zero k l h t = absurd (not-suc-le-zero l)
+lowest-is f (suc n) k l h t =
+    ⊎-elim
+    (λ e. let g : (j : ℕ) → j < n → T (f j) → ⊥ = λ j m. h j (omega arith) in
+    let z : lowest f n ≡ n = lowest-none f n g in
+    cond-false (ltb (lowest f n) n) (lowest f n) (cond (f n) n (suc n)) (λ s. let l = ltb→lt (lowest f n) n s in absurd (omega arith))
+    ∙ cond-true (f n) n (suc n) (subst (λ (m : ℕ). T (f m)) e t)
+    ∙ sym e)
+    (λ m. let z : lowest f n ≡ k = lowest-is f n k m h t in
+    cond-true (ltb (lowest f n) n) (lowest f n) (cond (f n) n (suc n)) (lt→ltb (lowest f n) n (omega arith)) ∙ z)
+    (eq-or-lt-of-le (le-of-suc-le-suc l))
