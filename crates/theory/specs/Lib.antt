@@ -1,0 +1,17 @@
+pub mod Game
+pub mod Value
+pub mod Required
+pub mod Play
+pub mod Within
+pub mod Depth
+pub mod TrueBytes
+pub mod Better
+pub mod RuleLaws
+pub mod Step
+pub mod Consistency
+pub mod Alike
+pub mod Passes
+pub mod InPlace
+pub mod Choice
+pub mod OnePly
+pub mod Games
