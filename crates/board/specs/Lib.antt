@@ -1,0 +1,6 @@
+pub mod Square
+pub mod Reach
+pub mod Sets
+pub mod SquareLaws
+pub mod LineLaws
+pub mod ReachLaws
