@@ -4,3 +4,5 @@ pub mod Sets
 pub mod SquareLaws
 pub mod LineLaws
 pub mod ReachLaws
+pub mod SetLaws
+pub mod LowestLaws

@@ -3,6 +3,7 @@ use mathlib.Core.Bool.{Bool, true, false}
 use mathlib.Core.List.{List}
 use Prim.Native.Nat.{ℕ, zero, suc, _+_, _*_, _/_, _%_, _^_}
 use lib.Dec.{eqb}
+use lib.ListN.{getD}
 use Rattle.finite.specs.Filter.{filter}
 use Rattle.finite.specs.Numbers.{numbers}
 
@@ -17,6 +18,10 @@ squares = numbers 64 0
 -- the squares that the set holds, in rising order
 unfoldable pub members : ℕ → List ℕ
 members set = filter (has set) squares
+
+-- the lowest of them, or 64 where there is none
+abbrev pub lowest : ℕ → ℕ
+lowest set = getD (members set) 0 64
 
 abbrev pub digit : Bool → ℕ
 digit true = 1
