@@ -6,3 +6,4 @@ pub mod LineLaws
 pub mod ReachLaws
 pub mod SetLaws
 pub mod LowestLaws
+pub mod SweepLaws

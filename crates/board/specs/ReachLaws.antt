@@ -64,12 +64,16 @@ step-lt k h =
     (ltb→lt (getD stepXs k 0) 5 (and-left x y t), ltb→lt (getD stepYs k 0) 5 (and-right x y t))
 
 kind-small : ℕ → Bool
-kind-small kind = leb (getD firstSteps kind 0 + getD stepCounts kind 0) 16
+kind-small kind = leb (getD firstSteps kind 0 + getD stepCounts kind 0) 16 && leb (getD stepRanges kind 0) 7
 
 kinds-small : T (allBelow kind-small 6)
 unfolding allBelow kind-small
 kinds-small = tt
 
-pub steps-le : (kind : ℕ) → kind < 6 → getD firstSteps kind 0 + getD stepCounts kind 0 ≤ 16
+pub kind-le : (kind : ℕ) → kind < 6 → (getD firstSteps kind 0 + getD stepCounts kind 0 ≤ 16) × (getD stepRanges kind 0 ≤ 7)
 unfolding kind-small
-steps-le kind h = leb→le (getD firstSteps kind 0 + getD stepCounts kind 0) 16 (below kind-small 6 kinds-small kind h)
+kind-le kind h =
+    let t = below kind-small 6 kinds-small kind h in
+    let a = leb (getD firstSteps kind 0 + getD stepCounts kind 0) 16 in
+    let b = leb (getD stepRanges kind 0) 7 in
+    (leb→le (getD firstSteps kind 0 + getD stepCounts kind 0) 16 (and-left a b t), leb→le (getD stepRanges kind 0) 7 (and-right a b t))

@@ -66,6 +66,10 @@ module _ (a b u : ℕ) where
       ∙ same-answer (eqb (bitAnd (a / 2 ^ u % 2) (b / 2 ^ u % 2)) 1) (has a u && has b u)
       (below2 and-right 2 2 ands-right (a / 2 ^ u % 2) (b / 2 ^ u % 2) (omega arith) (omega arith))
 
+-- a square of the board put in, as the code's `set | 1 << s`
+pub has-added : (set s u : ℕ) → s < 64 → u < 64 → has (bitOr set (bit s)) u ≡ (has set u || eqb u s)
+has-added set s u hs hu = has-or set (bit s) u ∙ ap (λ b. has set u || b) (has-bit s u hs hu)
+
 -- ---- bit by bit
 
 has-zero : (s : ℕ) → has s 0 ≡ eqb (s % 2) 1
@@ -178,6 +182,10 @@ setOf-same p q e = pack-same p q 64 0 (λ i a b. e i b)
 -- a set that holds what a test says is the set of the test
 pub set-is : (p : ℕ → Bool) (set : ℕ) → set < 2 ^ 64 → ((u : ℕ) → u < 64 → has set u ≡ p u) → set ≡ setOf p
 set-is p set h e = sym (setOf-has set h) ∙ setOf-same (has set) p e
+
+-- what a set holds that is known as the set of a test
+pub set-has : (p : ℕ → Bool) {set : ℕ} → set ≡ setOf p → (u : ℕ) → u < 64 → has set u ≡ p u
+set-has p e u h = ap (λ z. has z u) e ∙ has-setOf p u h
 
 -- ---- members
 
