@@ -1,5 +1,7 @@
 pub mod Truth
 pub mod Members
+pub mod Filter
+pub mod Numbers
 pub mod Below
 pub mod Lowest
 pub mod Ranked

@@ -45,6 +45,12 @@ module _ {A : Type 0} where
       go (inl s) rest = (x, List·Memᴰ·head refl, s)
       go (inr s) rest = let r = rest s in (r .0, List·Memᴰ·tail (r .1), r .2)
 
+  -- tests that agree on the members
+  pub any-same : (f g : A → Bool) (l : List A) → ((x : A) → x ∈ l → f x ≡ g x) → any f l ≡ any g l
+  unfolding any
+  any-same f g [] h = refl
+  any-same f g (x ∷ l) h = rw (h x (List·Memᴰ·head refl), any-same f g l (λ y m. h y (List·Memᴰ·tail m)))
+
   pub all-out : (f : A → Bool) {x : A} {l : List A} → x ∈ l → T (all f l) → T (f x)
   unfolding all
   all-out f (List·Memᴰ·head {x = y} {xs = l} e) t = subst (λ (z : A). T (f z)) (sym e) (and-left (f y) (all f l) t)

@@ -1,8 +1,9 @@
 -- Boolean tests as facts: a test that passes is a proof of `T`, and back. Assumes nothing.
 use mathlib.Core.Path.{_≡_, refl, sym, subst}
 use mathlib.Core.Logic.{_⊎_, inl, inr}
-use mathlib.Core.Bool.{Bool, true, false, not, _&&_, _||_, cond}
-use lib.Dec.{T}
+use mathlib.Core.Bool.{Bool, true, false, not, _&&_, _||_, cond, Bool·beq}
+use Prim.Native.Nat.{ℕ, _≤_, _<_}
+use lib.Dec.{T, leb, eqb, leb→le, nleb→lt, eqb→eq, eqb-refl}
 
 -- a test passes or fails, kept as a fact
 pub decided : (b : Bool) → T b ⊎ T (not b)
@@ -63,6 +64,23 @@ same-test true true f g = refl
 same-test true false f g = absurd (f tt)
 same-test false true f g = absurd (g tt)
 same-test false false f g = refl
+
+pub same-answer : (a b : Bool) → T (Bool·beq a b) → a ≡ b
+same-answer true true t = refl
+same-answer true false t = absurd t
+same-answer false true t = absurd t
+same-answer false false t = refl
+
+pub eqb-sym : (m n : ℕ) → eqb m n ≡ eqb n m
+eqb-sym m n = same-test (eqb m n) (eqb n m) (λ t. rw (eqb→eq m n t) (eqb-refl n)) (λ t. rw (eqb→eq n m t) (eqb-refl m))
+
+-- two numbers are in order one way or the other
+pub le-or-lt : (m n : ℕ) → (m ≤ n) ⊎ (n < m)
+le-or-lt m n = go (decided (leb m n))
+  where
+    go : T (leb m n) ⊎ T (not (leb m n)) → (m ≤ n) ⊎ (n < m)
+    go (inl t) = inl (leb→le m n t)
+    go (inr t) = inr (nleb→lt m n t)
 
 -- a test that passes wherever another does
 abbrev pub implies : Bool → Bool → Bool

@@ -1,0 +1,70 @@
+-- Laws of lines: what a line does by what its next square is, as code that walks it finds out; and that only the board counts. Assumes nothing.
+use mathlib.Core.Path.{_≡_, refl, sym, ap, subst}
+use mathlib.Core.Logic.{⊎-elim}
+use mathlib.Core.Bool.{Bool, true, false, not, _&&_, _||_, and-false}
+use Prim.Native.Nat.{ℕ, zero, suc, _+_, _-_, _≤_, _<_}
+use native.Mathlib.Omega.{arith}
+use lib.Dec.{T, ltb, eqb, ltb→lt, eqb→eq}
+use borrow.Author.Tests.{lt-ltb, le-ltb, eq-eqb, ne-eqb}
+use Rattle.finite.specs.Truth.{and-left, and-right, or-cases, le-or-lt}
+use Rattle.board.specs.Square.{shift}
+use Rattle.board.specs.Reach.{line}
+use Rattle.board.specs.SquareLaws.{shift-lt, shift-from}
+
+module _ (occ : ℕ → Bool) (s dx dy t : ℕ) where
+  -- no step is left
+  pub line-end : (r n : ℕ) → r ≤ n → line occ (r - n) s dx dy t ≡ false
+  unfolding line
+  line-end r n h = let z : r - n ≡ 0 = omega arith in rw z
+
+  module _ (u : ℕ) (e : u ≡ shift s dx dy) where
+    -- the edge comes next
+    pub line-off : (n : ℕ) → u ≡ 64 → line occ n s dx dy t ≡ false
+    unfolding line
+    line-off zero h = refl
+    line-off (suc n) h = rw (← e, h)
+
+    -- the square u comes next
+    pub line-on : (r n : ℕ) → n < r → (u ≡ 64 → ⊥) → line occ (r - n) s dx dy t ≡ (eqb u t || not (occ u) && line occ (r - (n + 1)) u dx dy t)
+    unfolding line
+    line-on r n l h = let z : r - n ≡ suc (r - (n + 1)) = omega arith in rw (z, ← e, lt-ltb u 64 (shift-lt u s dx dy e h))
+
+    -- the target comes next
+    pub line-hit : (r n : ℕ) → n < r → (u ≡ 64 → ⊥) → u ≡ t → line occ (r - n) s dx dy t ≡ true
+    line-hit r n l h q = rw (line-on r n l h, eq-eqb u t q)
+
+    module _ (r n : ℕ) (l : n < r) (h : u ≡ 64 → ⊥) (q : u ≡ t → ⊥) where
+      -- another piece comes next
+      pub line-stop : occ u ≡ true → line occ (r - n) s dx dy t ≡ false
+      line-stop o = rw (line-on r n l h, ne-eqb u t q, o)
+
+      -- an empty square comes next
+      pub line-next : occ u ≡ false → line occ (r - n) s dx dy t ≡ line occ (r - (n + 1)) u dx dy t
+      line-next o = rw (line-on r n l h, ne-eqb u t q, o)
+
+-- a line starts and ends on the board
+pub line-squares : (occ : ℕ → Bool) (n s dx dy t : ℕ) → T (line occ n s dx dy t) → (s < 64) × (t < 64)
+unfolding line
+line-squares occ zero s dx dy t h = absurd h
+line-squares occ (suc n) s dx dy t h =
+    let u = shift s dx dy in
+    let more = not (occ u) && line occ n u dx dy t in
+    let on = ltb→lt u 64 (and-left (ltb u 64) (eqb u t || more) h) in (
+      shift-from s dx dy on,
+      ⊎-elim (λ e. subst (λ (z : ℕ). z < 64) (eqb→eq u t e) on) (λ r. line-squares occ n u dx dy t (and-right (not (occ u)) (line occ n u dx dy t) r) .1)
+          (or-cases (eqb u t) more (and-right (ltb u 64) (eqb u t || more) h)),
+    )
+
+-- only what stands on the board counts
+pub line-same : (occ occ′ : ℕ → Bool) → ((u : ℕ) → u < 64 → occ u ≡ occ′ u) → (n s dx dy t : ℕ) → line occ n s dx dy t ≡ line occ′ n s dx dy t
+unfolding line
+line-same occ occ′ same zero s dx dy t = refl
+line-same occ occ′ same (suc n) s dx dy t =
+    ⊎-elim (λ h. rw (le-ltb (shift s dx dy) 64 h))
+    (λ h. rw (same (shift s dx dy) h, line-same occ occ′ same n (shift s dx dy) dx dy t))
+    (le-or-lt 64 (shift s dx dy))
+
+-- nothing stands in the way of a single step
+pub line-one : (occ occ′ : ℕ → Bool) (s dx dy t : ℕ) → line occ 1 s dx dy t ≡ line occ′ 1 s dx dy t
+unfolding line
+line-one occ occ′ s dx dy t = rw (and-false (not (occ (shift s dx dy))), and-false (not (occ′ (shift s dx dy))))

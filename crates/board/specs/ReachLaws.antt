@@ -1,0 +1,79 @@
+-- Laws of reaching, and the ranges of the step tables. Assumes nothing.
+use mathlib.Core.Path.{_≡_, refl, ap}
+use mathlib.Core.Bool.{Bool, false, _&&_}
+use mathlib.Core.List.{[]}
+use mathlib.Core.Logic.{_⊎_, ⊎-elim}
+use Prim.Native.Nat.{ℕ, _+_, _≤_, _<_}
+use native.Mathlib.Omega.{arith}
+use lib.Dec.{T, leb, ltb, leb→le, ltb→lt}
+use lib.ListN.{getD, List·getD-eq-default}
+use Rattle.finite.specs.Truth.{and-left, and-right, fails}
+use Rattle.finite.specs.Members.{any, any-out, any-same}
+use Rattle.finite.specs.Numbers.{numbers}
+use Rattle.finite.specs.Below.{allBelow, below}
+use Rattle.board.specs.Reach.{stepXs, stepYs, firstSteps, stepCounts, stepRanges, stepsOf, lineOf, reaches}
+use Rattle.board.specs.LineLaws.{line-squares, line-same, line-one}
+
+-- a piece reaches squares of the board, from squares of the board
+pub reaches-squares : (occ : ℕ → Bool) (kind s t : ℕ) → T (reaches occ kind s t) → (s < 64) × (t < 64)
+unfolding reaches
+reaches-squares occ kind s t h =
+    let w = any-out (lineOf occ kind s t) (stepsOf kind) h in
+    line-squares occ (getD stepRanges kind 0) s (getD stepXs (w .0) 0) (getD stepYs (w .0) 0) t (w .2)
+
+pub reaches-off : (occ : ℕ → Bool) (kind s t : ℕ) → (64 ≤ s) ⊎ (64 ≤ t) → reaches occ kind s t ≡ false
+reaches-off occ kind s t h =
+    fails (reaches occ kind s t) (λ r. let w = reaches-squares occ kind s t r in let a = w .0 in let b = w .1 in ⊎-elim (λ q. omega arith) (λ q. omega arith) h)
+
+-- a code above the king's has no steps
+pub no-steps : (kind : ℕ) → 6 ≤ kind → stepsOf kind ≡ []
+unfolding numbers
+no-steps kind h = rw (List·getD-eq-default stepCounts 0 h)
+
+pub reaches-none : (occ : ℕ → Bool) (kind s t : ℕ) → 6 ≤ kind → reaches occ kind s t ≡ false
+unfolding reaches any
+reaches-none occ kind s t h = ap (any (lineOf occ kind s t)) (no-steps kind h)
+
+-- only what stands on the board counts
+pub reaches-same : (occ occ′ : ℕ → Bool) → ((u : ℕ) → u < 64 → occ u ≡ occ′ u) → (kind s t : ℕ) → reaches occ kind s t ≡ reaches occ′ kind s t
+unfolding reaches
+reaches-same occ occ′ same kind s t =
+    any-same (lineOf occ kind s t) (lineOf occ′ kind s t) (stepsOf kind)
+    (λ k m. line-same occ occ′ same (getD stepRanges kind 0) s (getD stepXs k 0) (getD stepYs k 0) t)
+
+-- nothing stands in a king's way
+pub king-reaches : (occ occ′ : ℕ → Bool) (s t : ℕ) → reaches occ 5 s t ≡ reaches occ′ 5 s t
+unfolding reaches
+king-reaches occ occ′ s t = any-same (lineOf occ 5 s t) (lineOf occ′ 5 s t) (stepsOf 5) (λ k m. line-one occ occ′ s (getD stepXs k 0) (getD stepYs k 0) t)
+
+-- ---- the ranges of the tables, each by one test over the whole table
+
+step-small : ℕ → Bool
+step-small k = ltb (getD stepXs k 0) 5 && ltb (getD stepYs k 0) 5
+
+steps-small : T (allBelow step-small 16)
+unfolding allBelow step-small
+steps-small = tt
+
+pub step-lt : (k : ℕ) → k < 16 → (getD stepXs k 0 < 5) × (getD stepYs k 0 < 5)
+unfolding step-small
+step-lt k h =
+    let t = below step-small 16 steps-small k h in
+    let x = ltb (getD stepXs k 0) 5 in
+    let y = ltb (getD stepYs k 0) 5 in
+    (ltb→lt (getD stepXs k 0) 5 (and-left x y t), ltb→lt (getD stepYs k 0) 5 (and-right x y t))
+
+kind-small : ℕ → Bool
+kind-small kind = leb (getD firstSteps kind 0 + getD stepCounts kind 0) 16 && leb (getD stepRanges kind 0) 7
+
+kinds-small : T (allBelow kind-small 6)
+unfolding allBelow kind-small
+kinds-small = tt
+
+pub kind-le : (kind : ℕ) → kind < 6 → (getD firstSteps kind 0 + getD stepCounts kind 0 ≤ 16) × (getD stepRanges kind 0 ≤ 7)
+unfolding kind-small
+kind-le kind h =
+    let t = below kind-small 6 kinds-small kind h in
+    let a = leb (getD firstSteps kind 0 + getD stepCounts kind 0) 16 in
+    let b = leb (getD stepRanges kind 0) 7 in
+    (leb→le (getD firstSteps kind 0 + getD stepCounts kind 0) 16 (and-left a b t), leb→le (getD stepRanges kind 0) 7 (and-right a b t))
