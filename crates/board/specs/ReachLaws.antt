@@ -1,5 +1,5 @@
 -- Laws of reaching, and the ranges of the step tables. Assumes nothing.
-use mathlib.Core.Path.{_≡_, refl, ap}
+use mathlib.Core.Path.{_≡_, ap}
 use mathlib.Core.Bool.{Bool, false, _&&_}
 use mathlib.Core.List.{[]}
 use mathlib.Core.Logic.{_⊎_, ⊎-elim}

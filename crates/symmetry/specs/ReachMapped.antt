@@ -1,17 +1,16 @@
 -- Lines and reaching under the eight maps, shown once for all eight, all directions and all kinds of piece. Assumes nothing.
-use mathlib.Core.Path.{_≡_, refl, sym, ap, subst, _∙_}
+use mathlib.Core.Path.{_≡_, refl, sym, ap, _∙_}
 use mathlib.Core.Bool.{Bool, _&&_}
 use mathlib.Core.Logic.{⊎-elim}
-use mathlib.Core.List.{List}
 use Prim.Native.Nat.{ℕ, zero, suc, _<_}
 use lib.Dec.{T, eqb, eqb→eq}
 use lib.ListN.{getD}
 use Rattle.finite.specs.Truth.{and-left, and-right, same-test, le-or-lt}
 use Rattle.finite.specs.Members.{_∈_, any, all, any-in, any-out, all-out, none-in}
-use Rattle.finite.specs.Numbers.{numbers, numbers-out}
+use Rattle.finite.specs.Numbers.{numbers}
 use Rattle.finite.specs.Below.{allBelow, below}
 use Rattle.board.specs.Square.{shift}
-use Rattle.board.specs.Reach.{line, stepXs, stepYs, stepRanges, stepsOf, lineOf, reaches}
+use Rattle.board.specs.Reach.{line, stepXs, stepYs, stepRanges, stepsOf, reaches}
 use Rattle.board.specs.ReachLaws.{no-steps, step-of}
 use Rattle.symmetry.specs.Symmetry.{Symmetry, mapped, mappedX, mappedY, inverse}
 use Rattle.symmetry.specs.SymmetryLaws.{allSymmetries, symmetry-at, mapped-inverse, inverse-mapped, ltb-mapped, eqb-mapped, shift-mapped}
