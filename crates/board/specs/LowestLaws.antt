@@ -2,19 +2,19 @@
 use mathlib.Core.Path.{_≡_, refl, sym, ap, subst, _∙_}
 use mathlib.Core.Bool.{Bool, true, false, not, _&&_, _||_, and-true}
 use mathlib.Core.List.{List, [], _∷_, List·Memᴰ·head}
-use Prim.Native.Nat.{ℕ, zero, suc, _+_, _%_, _^_, _≤_, _<_}
+use Prim.Native.Nat.{ℕ, zero, suc, _+_, _^_, _<_}
 use native.Mathlib.Nat.{zero-add, add-zero, add-suc, suc-add}
 use native.Mathlib.Omega.{arith}
-use lib.Dec.{T, eqb, eqb-refl}
+use lib.Dec.{T, eqb}
 use lib.ListN.{length, getD}
 use lib.Count.{ones, onesIn, ones-step, trailingZeros, under}
 use borrow.Author.Tests.{eq-eqb, ne-eqb, eqb-true}
-use Rattle.finite.specs.Truth.{true-of, fails, and-left, and-right}
+use Rattle.finite.specs.Truth.{true-of, fails}
 use Rattle.finite.specs.Members.{_∈_, none-in}
 use Rattle.finite.specs.Filter.{keep, filter, filter-same}
 use Rattle.finite.specs.Numbers.{numbers, numbers-out}
-use Rattle.board.specs.Sets.{has, squares, members, lowest, digit, pack, setOf}
-use Rattle.board.specs.SetLaws.{pack-low, pack-rest, eqb-digit, has-none, has-setOf, setOf-has, set-is, members-in, members-out, members-setOf}
+use Rattle.board.specs.Sets.{has, squares, members, lowestSquare, digit, pack, setOf}
+use Rattle.board.specs.SetLaws.{pack-low, pack-rest, has-none, has-setOf, setOf-has, set-is, members-in, members-out, members-setOf}
 
 -- ---- the count of the ones is the number of members
 
@@ -47,7 +47,7 @@ trailing-pack p (suc n) k = rw (pack-low, pack-rest) (go (p k) (trailing-pack p 
     go true e = add-zero k
     go false e = rw (add-suc k (trailingZeros n (pack p n (suc k))), add-suc k n, ← suc-add k n, ← suc-add k (trailingZeros n (pack p n (suc k)))) e
 
-pub trailing-lowest : (set : ℕ) → set < 2 ^ 64 → trailingZeros 64 set ≡ lowest set
+pub trailing-lowest : (set : ℕ) → set < 2 ^ 64 → trailingZeros 64 set ≡ lowestSquare set
 unfolding setOf members squares
 trailing-lowest set h = ap (trailingZeros 64) (sym (setOf-has set h)) ∙ sym (zero-add (trailingZeros 64 (pack (has set) 64 0))) ∙ trailing-pack (has set) 64 0
 
@@ -88,7 +88,7 @@ pub record Lowest (set t r : ℕ) : Type 0 where
 empty-set : (set : ℕ) → set < 2 ^ 64 → members set ≡ [] → set ≡ 0
 empty-set set h e = sym (set-is (has set) 0 (omega arith) (λ u l. has-none u ∙ sym (fails (has set u) (λ t. none-in e (members-in set u l t)))) ∙ setOf-has set h)
 
-pub lowest-of : (set t r : ℕ) → set < 2 ^ 64 → (set ≡ 0 → ⊥) → t ≡ lowest set → r ≡ setOf (λ u. has set u && not (eqb u t)) → Lowest set t r
+pub lowest-of : (set t r : ℕ) → set < 2 ^ 64 → (set ≡ 0 → ⊥) → t ≡ lowestSquare set → r ≡ setOf (λ u. has set u && not (eqb u t)) → Lowest set t r
 lowest-of set t r h some et er = go (members set) refl
   where
     facts : members set ≡ t ∷ members r → Lowest set t r

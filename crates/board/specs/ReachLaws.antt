@@ -1,5 +1,5 @@
 -- Laws of reaching, and the ranges of the step tables. Assumes nothing.
-use mathlib.Core.Path.{_≡_, refl, ap}
+use mathlib.Core.Path.{_≡_, ap}
 use mathlib.Core.Bool.{Bool, false, _&&_}
 use mathlib.Core.List.{[]}
 use mathlib.Core.Logic.{_⊎_, ⊎-elim}
@@ -7,9 +7,9 @@ use Prim.Native.Nat.{ℕ, _+_, _≤_, _<_}
 use native.Mathlib.Omega.{arith}
 use lib.Dec.{T, leb, ltb, leb→le, ltb→lt}
 use lib.ListN.{getD, List·getD-eq-default}
-use Rattle.finite.specs.Truth.{and-left, and-right, fails}
-use Rattle.finite.specs.Members.{any, any-out, any-same}
-use Rattle.finite.specs.Numbers.{numbers}
+use Rattle.finite.specs.Truth.{and-left, and-right, fails, le-or-lt}
+use Rattle.finite.specs.Members.{_∈_, any, any-out, any-same, none-in}
+use Rattle.finite.specs.Numbers.{numbers, numbers-out}
 use Rattle.finite.specs.Below.{allBelow, below}
 use Rattle.board.specs.Reach.{stepXs, stepYs, firstSteps, stepCounts, stepRanges, stepsOf, lineOf, reaches}
 use Rattle.board.specs.LineLaws.{line-squares, line-same, line-one}
@@ -77,3 +77,7 @@ kind-le kind h =
     let a = leb (getD firstSteps kind 0 + getD stepCounts kind 0) 16 in
     let b = leb (getD stepRanges kind 0) 7 in
     (leb→le (getD firstSteps kind 0 + getD stepCounts kind 0) 16 (and-left a b t), leb→le (getD stepRanges kind 0) 7 (and-right a b t))
+
+-- each step of a kind is a small one
+pub step-of : (kind k : ℕ) → k ∈ stepsOf kind → (getD stepXs k 0 < 5) × (getD stepYs k 0 < 5)
+step-of kind k i = step-lt k (⊎-elim (λ h. absurd (none-in (no-steps kind h) i)) (λ h. let a = kind-le kind h .0 in omega (arith, numbers-out (getD stepCounts kind 0) (getD firstSteps kind 0) k i .1)) (le-or-lt 6 kind))

@@ -1,7 +1,7 @@
 -- Laws of square sets: what a set holds after an operation on its bits, and that what it holds makes it up. Assumes nothing.
 use mathlib.Core.Path.{_≡_, refl, sym, ap, _∙_}
 use mathlib.Core.Bool.{Bool, true, false, not, _&&_, _||_, Bool·beq}
-use mathlib.Core.List.{List, []}
+use mathlib.Core.List.{[]}
 use Prim.Native.Nat.{ℕ, zero, suc, _+_, _-_, _*_, _/_, _%_, _^_, _≤_, _<_}
 use native.Mathlib.Nat.{zero-div, zero-add, add-zero, add-suc, suc-add, mul-comm, pow-suc, div-one, div-div-eq-div-mul, le-of-suc-le-suc}
 use native.Mathlib.Omega.{arith}
@@ -140,11 +140,6 @@ has-pack p zero k i h = absurd (omega arith)
 has-pack p (suc n) k zero h = rw (div-one, pack-low, eqb-digit, add-zero)
 has-pack p (suc n) k (suc i) h = has-suc (pack p (suc n) k) i ∙ rw (pack-rest, has-pack p n (suc k) i (le-of-suc-le-suc h), suc-add, add-suc)
 
-pack-lt : (p : ℕ → Bool) (n k : ℕ) → pack p n k < 2 ^ n
-unfolding pack
-pack-lt p zero k = omega arith
-pack-lt p (suc n) k = rw pow-suc (omega (arith, digit-le (p k), pack-lt p n (suc k)))
-
 pack-same : (p q : ℕ → Bool) (n k : ℕ) → ((i : ℕ) → k ≤ i → i < k + n → p i ≡ q i) → pack p n k ≡ pack q n k
 unfolding pack
 pack-same p q zero k e = refl
@@ -162,10 +157,6 @@ pack-has zero s h = omega arith
 pack-has (suc n) s h =
     rw (← pack-next (has s) n 0, pack-same (λ i. has s (suc i)) (has (s / 2)) n 0 (λ i a b. has-suc s i), pack-has n (s / 2) (half-lt n s h), has-zero, digit-eqb (s % 2) (omega arith))
     (omega arith)
-
-pub setOf-lt : (p : ℕ → Bool) → setOf p < 2 ^ 64
-unfolding setOf
-setOf-lt p = pack-lt p 64 0
 
 pub has-setOf : (p : ℕ → Bool) (u : ℕ) → u < 64 → has (setOf p) u ≡ p u
 unfolding setOf

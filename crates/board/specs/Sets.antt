@@ -20,8 +20,8 @@ unfoldable pub members : ℕ → List ℕ
 members set = filter (has set) squares
 
 -- the lowest of them, or 64 where there is none
-abbrev pub lowest : ℕ → ℕ
-lowest set = getD (members set) 0 64
+abbrev pub lowestSquare : ℕ → ℕ
+lowestSquare set = getD (members set) 0 64
 
 abbrev pub digit : Bool → ℕ
 digit true = 1

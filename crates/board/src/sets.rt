@@ -4,7 +4,7 @@ ghost use mathlib.Core.Bool.{_&&_, _||_, not};
 ghost use Prim.Native.Nat.{ℕ};
 ghost use lib.Dec.{eqb};
 ghost use lib.ListN.{length};
-ghost use Rattle.board.specs.Sets.{has as holds, setOf, members, lowest as lowestOf};
+ghost use Rattle.board.specs.Sets.{has as holds, setOf, members, lowestSquare};
 
 // Whether the set holds the square.
 pub fn has(set: u64, s: u8) -> bool
@@ -49,7 +49,7 @@ pub fn size(set: u64) -> u32
 
 // The lowest square of the set; 64 where it is empty.
 pub fn lowest(set: u64) -> u8
-    ensures { λ r. ⌜ r ≡ lowestOf set ⌝ }
+    ensures { λ r. ⌜ r ≡ lowestSquare set ⌝ }
 {
     u64::trailing_zeros(set) as u8
 }

@@ -8,7 +8,7 @@ use borrow.Author.Needs.{needs}
 use lib.ListN.{getD}
 use Rattle.finite.specs.Members.{any}
 use Rattle.finite.specs.Numbers.{numbers, any-end, any-here, any-skip}
-use Rattle.board.specs.Reach.{line, reaches, lineOf, stepXs, stepYs, firstSteps, stepCounts, stepRanges}
+use Rattle.board.specs.Reach.{line, reaches, lineOf, firstSteps, stepCounts, stepRanges}
 use Rattle.board.specs.Sets.{has}
 use Rattle.board.specs.SquareLaws.{shift-lt}
 use Rattle.board.specs.LineLaws.{line-end, line-off, line-hit, line-stop, line-next}

@@ -1,0 +1,5 @@
+pub mod Symmetry
+pub mod SymmetryLaws
+pub mod ReachMapped
+pub mod Opposite
+pub mod LongestLine
