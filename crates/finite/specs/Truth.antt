@@ -55,6 +55,9 @@ pub fails : (b : Bool) → (T b → ⊥) → b ≡ false
 fails true f = absurd (f tt)
 fails false f = refl
 
+pub refuted : {b : Bool} → b ≡ false → T b → ⊥
+refuted e t = subst T e t
+
 pub true-not-false : {b : Bool} → b ≡ true → b ≡ false → ⊥
 true-not-false {b} p q = let z : true ≡ false = cc in subst T z tt
 
