@@ -1,0 +1,40 @@
+// A position as it is keyed, and the refusals it may meet.
+use board::reaches;
+ghost use mathlib.Core.Path.{_≡_};
+ghost use Rattle.position.specs.Keyed.{placing};
+
+// As keyed: any bytes may come in.
+pub struct Position {
+    pub man: u8,
+    pub side: u8,
+    pub white: u8,
+    pub square: u8,
+    pub black: u8,
+}
+
+// Refusals 1 to 5, the lowest that applies; 0 where none does.
+pub fn placing_refusal(p: Position) -> u8
+    ensures { λ r. ⌜ r ≡ placing p ⌝ }
+{
+    let man = p.man;
+    let side = p.side;
+    let white = p.white;
+    let square = p.square;
+    let black = p.black;
+    if 4 <= man {
+        return 1;
+    }
+    if 2 <= side {
+        return 2;
+    }
+    if (64 <= white) | ((64 <= square) | (64 <= black)) {
+        return 3;
+    }
+    if (white == square) | ((white == black) | (square == black)) {
+        return 4;
+    }
+    if reaches(0, 5, white, black) {
+        return 5;
+    }
+    0
+}

@@ -1,0 +1,267 @@
+//! The command line: one function a subcommand.
+
+use std::ffi::{OsStr, OsString};
+use std::fs::File;
+use std::io::{self, BufWriter, Read, StdoutLock, Write};
+use std::time::Instant;
+
+use crate::cases;
+use crate::counts::{greatest_text, write_counts, write_numbering, Checksum};
+use crate::desk;
+use crate::failure::{usage, Done, Failure};
+use crate::fill::Filled;
+use crate::lines::{for_each_keyed, for_each_numbers};
+use crate::number::{back, number, NUMBERS};
+use crate::position::{Keyed, Man, Refused, MEN};
+use crate::rules::{legal_position, move_name, moves};
+use crate::table::{check, look_up, Checked};
+use crate::{fill_back, fill_every, samples, selftest};
+
+pub const USAGE: &str = "\
+usage: oracle SUBCOMMAND [ARGUMENTS]     (MAN is Q, R, B or N)
+
+  table MAN               write the 59,136 bytes of the true table
+  counts [MAN ...]        counts of each table's bytes, and its checksum
+  moves                   list the legal moves of each line on standard input
+  positions               write input lines for moves
+  numbers                 go over all numbers and back, with checksums
+  number                  number each line on standard input
+  back                    read `man number` lines, write side and squares
+  check MAN FILE          check a table: accepted, wrong N or refused N
+  lookup FILE             look up each line on standard input in a table
+  desk                    the desk program, on standard input
+  run                     write the input of the example run
+  bench-positions         answer the positions to keep by the bench
+  fill-every MAN [REPEAT] time the fill of every position at every depth
+  fill-back MAN [REPEAT]  time the fill that works back from the mates
+  selftest                hold the program to outside truth
+  --help                  write this text
+
+Lines for moves, number and lookup hold five decimal numbers from 0 to 255:
+man side whiteking mansquare blackking (queen 0, rook 1, bishop 2, knight 3;
+White 0, Black 1; square = 8 x rank + file, a1 = 0, h8 = 63).
+Exit status: 0 done, 1 failed self test or stream, 2 bad usage or malformed line.
+";
+
+type Out<'a> = BufWriter<StdoutLock<'a>>;
+
+pub fn run(arguments: &[OsString]) -> Done {
+    let Some((first, rest)) = arguments.split_first() else {
+        return usage(format!("no subcommand given\n{USAGE}"));
+    };
+    let output = &mut BufWriter::new(io::stdout().lock());
+    dispatch(&first.to_string_lossy(), rest, output)?;
+    output.flush()?;
+    Ok(())
+}
+
+fn dispatch(name: &str, rest: &[OsString], output: &mut Out) -> Done {
+    match name {
+        "table" => table(rest, output),
+        "counts" => counts(rest, output),
+        "fill-every" => timed("fill-every", fill_every::fill, rest, output),
+        "fill-back" => timed("fill-back", fill_back::fill, rest, output),
+        "check" => check_file(rest, output),
+        "lookup" => lookup(rest, output),
+        _ => without_arguments(name, rest, output),
+    }
+}
+
+fn without_arguments(name: &str, rest: &[OsString], output: &mut Out) -> Done {
+    let command: fn(&mut Out) -> Done = match name {
+        "moves" => list_moves,
+        "positions" => positions,
+        "numbers" => numbers,
+        "number" => number_lines,
+        "back" => back_lines,
+        "desk" => |output| desk::run(io::stdin().lock(), output),
+        "run" => |output| Ok(output.write_all(cases::RUN_INPUT.as_bytes())?),
+        "bench-positions" => bench_positions,
+        "selftest" => |output| selftest::run(output),
+        "--help" | "-h" | "help" => |output| Ok(output.write_all(USAGE.as_bytes())?),
+        _ => return usage(format!("no subcommand `{name}`; see oracle --help")),
+    };
+    if !rest.is_empty() {
+        return usage(format!("{name} takes no arguments; see oracle --help"));
+    }
+    command(output)
+}
+
+fn man_named(word: &OsStr) -> Result<Man, Failure> {
+    let found = match word.as_encoded_bytes() {
+        &[letter] => Man::from_letter(letter),
+        _ => None,
+    };
+    found.map_or_else(|| usage(format!("no man {word:?}: give Q, R, B or N")), Ok)
+}
+
+fn refused_text(Refused(number): Refused) -> String {
+    format!("refused {number}")
+}
+
+/// The true table. The plain fill makes it; the self test holds the other one to it.
+fn true_table(man: Man) -> (Filled, Vec<u8>) {
+    let mut bytes = vec![0; NUMBERS];
+    let filled = fill_every::fill(man.code(), &mut bytes);
+    (filled, bytes)
+}
+
+fn table(rest: &[OsString], output: &mut Out) -> Done {
+    let [man] = rest else {
+        return usage("table takes one man: oracle table Q");
+    };
+    let (filled, bytes) = true_table(man_named(man)?);
+    match filled {
+        Ok(_) => Ok(output.write_all(&bytes)?),
+        Err(refused) => usage(refused_text(refused)),
+    }
+}
+
+fn counts(rest: &[OsString], output: &mut Out) -> Done {
+    let men: Result<Vec<Man>, Failure> = rest.iter().map(|word| man_named(word)).collect();
+    let men = men?;
+    for &man in if men.is_empty() { &MEN[..] } else { &men } {
+        let (filled, bytes) = true_table(man);
+        write_counts(output, man, &filled, &bytes)?;
+    }
+    Ok(())
+}
+
+fn moves_text(keyed: &Keyed) -> String {
+    let position = match legal_position(keyed) {
+        Ok(position) => position,
+        Err(refused) => return refused_text(refused),
+    };
+    let list = moves(&position);
+    let mut text = list.as_slice().len().to_string();
+    for &chosen in list.as_slice() {
+        text.push(' ');
+        text.push_str(&move_name(chosen));
+    }
+    text
+}
+
+fn list_moves(output: &mut Out) -> Done {
+    for_each_keyed(io::stdin().lock(), output, |keyed, output| {
+        writeln!(output, "{}", moves_text(keyed))
+    })
+}
+
+fn positions(output: &mut Out) -> Done {
+    for keyed in samples::lines() {
+        let Keyed { man, side, white_king, man_square, black_king } = keyed;
+        writeln!(output, "{man} {side} {white_king} {man_square} {black_king}")?;
+    }
+    Ok(())
+}
+
+fn numbers(output: &mut Out) -> Done {
+    for man in MEN {
+        write_numbering(output, man)?;
+    }
+    Ok(())
+}
+
+fn number_lines(output: &mut Out) -> Done {
+    for_each_keyed(io::stdin().lock(), output, |keyed, output| match number(keyed) {
+        Ok(number) => writeln!(output, "number {number}"),
+        Err(refused) => writeln!(output, "{}", refused_text(refused)),
+    })
+}
+
+fn back_text(man: u8, number: u64) -> String {
+    match back(man, number) {
+        Ok(position) => {
+            let Keyed { side, white_king, man_square, black_king, .. } = position.keyed();
+            format!("{side} {white_king} {man_square} {black_king}")
+        }
+        Err(refused) => refused_text(refused),
+    }
+}
+
+fn back_lines(output: &mut Out) -> Done {
+    let wanted = "man number (man from 0 to 255)";
+    for_each_numbers(io::stdin().lock(), output, wanted, |[man, number]: [u64; 2], output| {
+        let man = u8::try_from(man).ok()?;
+        Some(writeln!(output, "{}", back_text(man, number)).map_err(Failure::from))
+    })
+}
+
+/// A table file's bytes; of a longer file one byte too many shows that it is too long.
+fn read_table(path: &OsStr) -> Result<Vec<u8>, Failure> {
+    let mut bytes = Vec::new();
+    let read =
+        File::open(path).and_then(|file| file.take(NUMBERS as u64 + 1).read_to_end(&mut bytes));
+    match read {
+        Ok(_) => Ok(bytes),
+        Err(error) => usage(format!("cannot read {path:?}: {error}")),
+    }
+}
+
+fn check_file(rest: &[OsString], output: &mut Out) -> Done {
+    let [man, path] = rest else {
+        return usage("check takes a man and a file: oracle check Q FILE");
+    };
+    let man = man_named(man)?;
+    match check(man.code(), &read_table(path)?) {
+        Ok(Checked::Accepted) => writeln!(output, "accepted")?,
+        Ok(Checked::Wrong(number)) => writeln!(output, "wrong {number}")?,
+        Err(refused) => writeln!(output, "{}", refused_text(refused))?,
+    }
+    Ok(())
+}
+
+fn lookup(rest: &[OsString], output: &mut Out) -> Done {
+    let [path] = rest else {
+        return usage("lookup takes a file: oracle lookup FILE");
+    };
+    let bytes = read_table(path)?;
+    for_each_keyed(io::stdin().lock(), output, |keyed, output| {
+        writeln!(output, "{}", desk::answer_text(&look_up(&bytes, keyed)))
+    })
+}
+
+fn bench_positions(output: &mut Out) -> Done {
+    for case in &cases::CASES {
+        writeln!(output, "{}: {}", case.says, cases::answer(&case.ask))?;
+    }
+    Ok(())
+}
+
+fn repeats(word: Option<&OsString>) -> Result<u32, Failure> {
+    let Some(word) = word else { return Ok(1) };
+    let count = word.to_str().and_then(|text| text.parse().ok());
+    match count {
+        Some(count @ 1..=100_000) => Ok(count),
+        _ => usage(format!("REPEAT is a number from 1 to 100000, not {word:?}")),
+    }
+}
+
+/// What a lent table holds before a timed fill: the fill must clear it itself.
+const DIRT: u8 = 165;
+
+fn timed(
+    name: &str,
+    fill: fn(u8, &mut [u8]) -> Filled,
+    rest: &[OsString],
+    output: &mut Out,
+) -> Done {
+    let ([man] | [man, _]) = rest else {
+        return usage(format!("{name} takes a man and a count: oracle {name} Q 10"));
+    };
+    let (man, repeat) = (man_named(man)?, repeats(rest.get(1))?);
+    let mut bytes = vec![0; NUMBERS];
+    let (mut filled, mut milliseconds) = (Ok(None), 0.0);
+    for _ in 0..repeat {
+        bytes.fill(DIRT);
+        let start = Instant::now();
+        filled = fill(man.code(), &mut bytes);
+        milliseconds += start.elapsed().as_secs_f64() * 1000.0;
+    }
+    let (greatest, sum) = (greatest_text(&filled), Checksum::of(&bytes));
+    let each = milliseconds / repeat as f64;
+    writeln!(output, "{name} {}, {greatest}, checksum {sum}", man.name())?;
+    writeln!(output, "{each:.3} ms per fill over {repeat}")?;
+    writeln!(output, "buffer not cleared beforehand: every byte {DIRT}, cleared within the time")?;
+    Ok(())
+}

@@ -1,0 +1,57 @@
+//! The oracle: an independent second program for two kings and one white man.
+
+mod board;
+mod cases;
+mod commands;
+mod counts;
+mod desk;
+mod failure;
+mod fill;
+mod fill_back;
+mod fill_every;
+mod index;
+mod lines;
+mod number;
+mod plain;
+mod position;
+mod retract;
+mod rule;
+mod rules;
+mod samples;
+mod selftest;
+mod symmetry;
+mod table;
+mod tests_board;
+mod tests_desk;
+mod tests_games;
+mod tests_number;
+mod tests_table;
+
+use std::ffi::OsString;
+use std::io::{self, Write};
+use std::process::ExitCode;
+
+use failure::Failure;
+
+/// A message on standard error; if even that is closed there is nobody to tell.
+fn tell(message: &str) {
+    let _ = writeln!(io::stderr(), "oracle: {message}");
+}
+
+fn main() -> ExitCode {
+    let arguments: Vec<OsString> = std::env::args_os().skip(1).collect();
+    match commands::run(&arguments) {
+        Ok(()) => ExitCode::SUCCESS,
+        Err(Failure::Usage(message)) => {
+            tell(&message);
+            ExitCode::from(2)
+        }
+        Err(Failure::Stream(error)) => {
+            if error.kind() != io::ErrorKind::BrokenPipe {
+                tell(&error.to_string());
+            }
+            ExitCode::from(1)
+        }
+        Err(Failure::Fault) => ExitCode::from(1),
+    }
+}

@@ -1,0 +1,126 @@
+//! Check, legality and legal moves, by the Laws of Chess.
+
+use crate::board::{self, bit, holds, king_attack, Square, SquareSet, Squares};
+use crate::position::{Keyed, Man, Position, Refused, Side};
+
+/// "There are at most 35": 27 queen moves and 8 king moves.
+pub const MOST_MOVES: usize = 35;
+
+#[derive(Clone, Copy, PartialEq, Eq, Debug, Default)]
+pub struct Move {
+    pub from: Square,
+    pub to: Square,
+}
+
+/// Moves by from-square, then to-square; unused places hold zero.
+#[derive(Clone, Copy)]
+pub struct MoveList {
+    count: usize,
+    moves: [Move; MOST_MOVES],
+}
+
+impl MoveList {
+    fn new() -> MoveList {
+        MoveList { count: 0, moves: [Move::default(); MOST_MOVES] }
+    }
+
+    fn add_all(&mut self, from: Square, targets: SquareSet) {
+        for to in Squares(targets) {
+            if let Some(place) = self.moves.get_mut(self.count) {
+                *place = Move { from, to };
+                self.count += 1;
+            }
+        }
+    }
+
+    pub fn as_slice(&self) -> &[Move] {
+        &self.moves[..self.count]
+    }
+}
+
+/// The squares the white man attacks from `from`.
+pub fn man_attack(man: Man, from: Square, occupied: SquareSet) -> SquareSet {
+    match man {
+        Man::Queen => board::queen_attack(from, occupied),
+        Man::Rook => board::rook_attack(from, occupied),
+        Man::Bishop => board::bishop_attack(from, occupied),
+        Man::Knight => board::knight_attack(from),
+    }
+}
+
+fn black_attacked(position: &Position) -> bool {
+    // Only the white king can stand between; the white king's own attack is refusal 5.
+    let seen = man_attack(position.man, position.man_square, bit(position.white_king));
+    holds(seen, position.black_king)
+}
+
+/// Is the side to move in check? White never is: Black has but the king.
+pub fn in_check(position: &Position) -> bool {
+    position.side == Side::Black && black_attacked(position)
+}
+
+/// "Side not to move not in check": the part of legality left after placing.
+pub fn legal(position: &Position) -> bool {
+    position.side == Side::Black || !black_attacked(position)
+}
+
+/// Refusals 1 to 6, for the move list and look-up.
+pub fn legal_position(keyed: &Keyed) -> Result<Position, Refused> {
+    let position = keyed.placed()?;
+    if legal(&position) {
+        Ok(position)
+    } else {
+        Err(Refused(6))
+    }
+}
+
+fn white_king_targets(position: &Position) -> SquareSet {
+    king_attack(position.white_king) & !king_attack(position.black_king) & !bit(position.man_square)
+}
+
+fn man_targets(position: &Position) -> SquareSet {
+    let kings = position.kings();
+    man_attack(position.man, position.man_square, kings) & !kings
+}
+
+fn black_king_targets(position: &Position) -> SquareSet {
+    // The black king has left his square, so a line passes through it. No man attacks
+    // its own square, so it can be taken unless the white king stands next to it.
+    let seen = man_attack(position.man, position.man_square, bit(position.white_king));
+    king_attack(position.black_king) & !king_attack(position.white_king) & !seen
+}
+
+/// The legal moves of a legal position.
+pub fn moves(position: &Position) -> MoveList {
+    let mut list = MoveList::new();
+    if position.side == Side::Black {
+        list.add_all(position.black_king, black_king_targets(position));
+        return list;
+    }
+    if position.white_king < position.man_square {
+        list.add_all(position.white_king, white_king_targets(position));
+        list.add_all(position.man_square, man_targets(position));
+    } else {
+        list.add_all(position.man_square, man_targets(position));
+        list.add_all(position.white_king, white_king_targets(position));
+    }
+    list
+}
+
+/// The position after a move, or none where the man is taken and bare kings are left.
+pub fn play(position: &Position, chosen: Move) -> Option<Position> {
+    let mut next = *position;
+    next.side = position.side.other();
+    match position.side {
+        Side::White if chosen.from == position.white_king => next.white_king = chosen.to,
+        Side::White => next.man_square = chosen.to,
+        Side::Black if chosen.to == position.man_square => return None,
+        Side::Black => next.black_king = chosen.to,
+    }
+    Some(next)
+}
+
+/// A move as the desk writes it, `h2g1`.
+pub fn move_name(chosen: Move) -> String {
+    board::name(chosen.from) + &board::name(chosen.to)
+}

@@ -1,0 +1,86 @@
+//! The self test: the program held to outside truth, one line a test.
+
+use std::io::Write;
+
+use crate::failure::{Done, Failure};
+use crate::fill::Filled;
+use crate::fill_every;
+use crate::number::NUMBERS;
+use crate::position::{Keyed, Man, MEN};
+use crate::{tests_board, tests_desk, tests_games, tests_number, tests_table};
+
+/// The four tables by the plain fill, made once for all tests.
+pub struct Truth {
+    pub tables: [Vec<u8>; 4],
+    pub filled: [Filled; 4],
+}
+
+impl Truth {
+    fn new() -> Truth {
+        let mut tables = MEN.map(|_| vec![0; NUMBERS]);
+        let filled = MEN.map(|man| fill_every::fill(man.code(), &mut tables[man as usize]));
+        Truth { tables, filled }
+    }
+
+    pub fn table(&self, man: Man) -> &[u8] {
+        &self.tables[man as usize]
+    }
+}
+
+/// What a test says: nothing, or what is wrong.
+pub type Verdict = Result<(), String>;
+
+pub type Test = (&'static str, fn(&Truth) -> Verdict);
+
+pub fn expect(right: bool, wrong: impl FnOnce() -> String) -> Verdict {
+    if right {
+        Ok(())
+    } else {
+        Err(wrong())
+    }
+}
+
+/// Every position as keyed with known codes and squares on the board.
+pub fn every_keyed(man: Man) -> impl Iterator<Item = Keyed> {
+    let man = man.code();
+    (0..2u32 << 18).map(move |place| Keyed {
+        man,
+        side: (place >> 18) as u8,
+        white_king: (place >> 12 & 63) as u8,
+        man_square: (place >> 6 & 63) as u8,
+        black_king: (place & 63) as u8,
+    })
+}
+
+/// Runs all tests; a fault makes the program end with status 1.
+pub fn run(output: &mut impl Write) -> Done {
+    let truth = Truth::new();
+    let (mut passed, mut failed) = (0, 0);
+    let lists = [
+        tests_board::TESTS,
+        tests_number::TESTS,
+        tests_table::TESTS,
+        tests_games::TESTS,
+        tests_desk::TESTS,
+    ];
+    for &(name, test) in lists.into_iter().flatten() {
+        match test(&truth) {
+            Ok(()) => {
+                passed += 1;
+                writeln!(output, "ok    {name}")?;
+            }
+            Err(wrong) => {
+                failed += 1;
+                writeln!(output, "FAIL  {name}: {wrong}")?;
+            }
+        }
+        output.flush()?;
+    }
+    writeln!(output, "{passed} passed, {failed} failed")?;
+    output.flush()?;
+    if failed == 0 {
+        Ok(())
+    } else {
+        Err(Failure::Fault)
+    }
+}

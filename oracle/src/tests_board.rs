@@ -1,0 +1,141 @@
+//! Self tests of the maps, the refusals and the moves.
+
+use crate::number::number;
+use crate::plain;
+use crate::position::{Keyed, Position, Refused, MEN};
+use crate::rules::{in_check, legal_position, moves, play, MOST_MOVES};
+use crate::samples::{self, Sequence};
+use crate::selftest::{every_keyed, expect, Test, Truth, Verdict};
+use crate::symmetry::{mapped, position_mapped};
+
+pub const TESTS: &[Test] = &[
+    ("the eight maps are eight, and two in turn make one of them", maps_compose),
+    ("the lowest refusal counts, on 400,000 raw lines", lowest_refusal),
+    ("legal moves and check are a plain reading's on every legal position", moves_plain),
+    ("there are at most 35 moves, and 35 occur", most_moves),
+    ("a mapped position has the mapped moves, on 20,000 positions", moves_mapped),
+    ("a move leads to a position that can be placed and is legal", moves_lead),
+    ("the sample lines are 450 or more, distinct, with every refusal", sample_lines),
+];
+
+fn maps_compose(_: &Truth) -> Verdict {
+    let image = |map: u8| -> Vec<u8> { (0..64).map(|square| mapped(map, square)).collect() };
+    let images: Vec<Vec<u8>> = (0..8).map(image).collect();
+    for (first, one) in images.iter().enumerate() {
+        let alike = images.iter().filter(|&other| other == one).count();
+        expect(alike == 1, || format!("map {first} occurs {alike} times"))?;
+        for (second, other) in images.iter().enumerate() {
+            let both: Vec<u8> = one.iter().map(|&square| other[square as usize & 63]).collect();
+            expect(images.contains(&both), || format!("maps {first} then {second}"))?;
+        }
+    }
+    Ok(())
+}
+
+fn raw_keyed(sequence: &mut Sequence) -> Keyed {
+    let mut byte = |right: u64| match sequence.below(12) {
+        0 => sequence.below(256) as u8,
+        _ => sequence.below(right) as u8,
+    };
+    Keyed {
+        man: byte(4),
+        side: byte(2),
+        white_king: byte(64),
+        man_square: byte(64),
+        black_king: byte(64),
+    }
+}
+
+fn lowest_refusal(_: &Truth) -> Verdict {
+    let mut sequence = Sequence(1);
+    for _ in 0..400_000 {
+        let keyed = raw_keyed(&mut sequence);
+        let lowest = plain::lowest_refusal(&keyed).map(Refused);
+        let listed = legal_position(&keyed).err();
+        expect(listed == lowest, || format!("{keyed:?}: {listed:?}, not {lowest:?}"))?;
+        // Numbering does not ask for 6.
+        let asked = lowest.filter(|&refused| refused != Refused(6));
+        let numbered = number(&keyed).err();
+        expect(numbered == asked, || format!("{keyed:?}: number {numbered:?}, not {asked:?}"))?;
+    }
+    Ok(())
+}
+
+/// Every legal position of every man, all 64 squares.
+fn on_every_legal(mut test: impl FnMut(&Position) -> Verdict) -> Verdict {
+    for man in MEN {
+        for keyed in every_keyed(man) {
+            if let Ok(position) = legal_position(&keyed) {
+                test(&position)?;
+            }
+        }
+    }
+    Ok(())
+}
+
+fn moves_plain(_: &Truth) -> Verdict {
+    on_every_legal(|position| {
+        let list = moves(position);
+        let found: Vec<(u8, u8)> = list.as_slice().iter().map(|m| (m.from, m.to)).collect();
+        expect(found == plain::moves(position), || format!("moves of {position:?}"))?;
+        let check = plain::side_in_check(position);
+        expect(in_check(position) == check, || format!("check in {position:?}"))
+    })
+}
+
+fn most_moves(_: &Truth) -> Verdict {
+    let mut most = [0; 4];
+    on_every_legal(|position| {
+        let count = moves(position).as_slice().len();
+        let place = &mut most[position.man as usize];
+        *place = count.max(*place);
+        Ok(())
+    })?;
+    let greatest = most.into_iter().max();
+    expect(greatest == Some(MOST_MOVES), || format!("most moves {most:?}"))
+}
+
+fn moves_mapped(_: &Truth) -> Verdict {
+    let mut sequence = Sequence(35);
+    for _ in 0..20_000 {
+        let Ok(position) = legal_position(&raw_keyed(&mut sequence)) else { continue };
+        for map in 0..8 {
+            let there = position_mapped(map, &position);
+            let mut carried: Vec<(u8, u8)> = moves(&position)
+                .as_slice()
+                .iter()
+                .map(|m| (mapped(map, m.from), mapped(map, m.to)))
+                .collect();
+            carried.sort();
+            let found: Vec<(u8, u8)> =
+                moves(&there).as_slice().iter().map(|m| (m.from, m.to)).collect();
+            expect(found == carried, || format!("map {map} of {position:?}"))?;
+        }
+    }
+    Ok(())
+}
+
+fn moves_lead(_: &Truth) -> Verdict {
+    on_every_legal(|position| {
+        for &chosen in moves(position).as_slice() {
+            let Some(next) = play(position, chosen) else { continue };
+            let kept = legal_position(&next.keyed()) == Ok(next);
+            expect(kept, || format!("{chosen:?} in {position:?}"))?;
+        }
+        Ok(())
+    })
+}
+
+fn sample_lines(_: &Truth) -> Verdict {
+    let lines = samples::lines();
+    let mut distinct = lines.clone();
+    distinct.sort();
+    distinct.dedup();
+    let enough = lines.len() >= 450 && distinct.len() == lines.len();
+    expect(enough, || format!("{} lines, {} distinct", lines.len(), distinct.len()))?;
+    for refusal in 1..=6 {
+        let count = lines.iter().filter(|keyed| legal_position(keyed) == Err(Refused(refusal)));
+        expect(count.count() >= 10, || format!("too few lines refused {refusal}"))?;
+    }
+    Ok(())
+}

@@ -1,0 +1,148 @@
+//! Self tests of the desk program and of 01's own examples.
+
+use std::io::{self, Read};
+
+use crate::cases::{answer, CASES, RUN_INPUT, RUN_OUTPUT};
+use crate::desk;
+use crate::selftest::{expect, Test, Truth, Verdict};
+
+pub const TESTS: &[Test] = &[
+    ("every position of 01's bench has its answer", bench),
+    ("01's run, byte for byte", example_run),
+    ("01's run, read in pieces of every size up to 20 bytes", run_in_pieces),
+    ("the desk answers each odd line as 01 says", odd_lines),
+    ("the desk takes lines of any length, and ends each answer in a newline", whole_inputs),
+];
+
+fn desk_on(input: impl Read) -> Result<String, String> {
+    let mut output = Vec::new();
+    if desk::run(input, &mut output).is_err() {
+        return Err("the desk failed".to_string());
+    }
+    String::from_utf8(output).map_err(|error| error.to_string())
+}
+
+fn bench(_: &Truth) -> Verdict {
+    for case in &CASES {
+        let found = answer(&case.ask);
+        expect(found == case.answer, || format!("{}: {found}", case.says))?;
+    }
+    Ok(())
+}
+
+fn example_run(_: &Truth) -> Verdict {
+    let output = desk_on(RUN_INPUT.as_bytes())?;
+    expect(output == RUN_OUTPUT, || output.clone())?;
+    let unended = RUN_INPUT.trim_end_matches('\n');
+    let output = desk_on(unended.as_bytes())?;
+    expect(output == RUN_OUTPUT, || format!("without the last newline: {output}"))
+}
+
+/// Input that comes a few bytes at a time.
+struct Pieces<'a>(&'a [u8], usize);
+
+impl Read for Pieces<'_> {
+    fn read(&mut self, buffer: &mut [u8]) -> io::Result<usize> {
+        let count = self.1.min(self.0.len()).min(buffer.len());
+        let (piece, rest) = self.0.split_at(count);
+        buffer[..count].copy_from_slice(piece);
+        self.0 = rest;
+        Ok(count)
+    }
+}
+
+fn run_in_pieces(_: &Truth) -> Verdict {
+    for size in 1..=20 {
+        let output = desk_on(Pieces(RUN_INPUT.as_bytes(), size))?;
+        expect(output == RUN_OUTPUT, || format!("pieces of {size}: {output}"))?;
+    }
+    Ok(())
+}
+
+/// Lines and answers; a line's shape comes first, then the lowest number.
+const ODD_LINES: &[(&str, &str)] = &[
+    ("", "refused 12"),
+    (" ", "refused 12"),
+    ("Q", "refused 12"),
+    ("Q w b3 h2 a", "refused 12"),
+    ("Q w b3 h2 a1 ", "refused 12"),
+    ("Q w b3 h2 a1\r", "refused 12"),
+    (" Q w b3 h2 a", "refused 12"),
+    ("Q  w b3h2 a1", "refused 12"),
+    ("Qxw b3 h2 a1", "refused 12"),
+    ("Q w b3\th2 a1", "refused 12"),
+    ("  w b3 h2 a1", "refused 12"),
+    ("Q   b3 h2 a1", "refused 12"),
+    ("Q w  3 h2 a1", "refused 12"),
+    ("Q w b3 h  a1", "refused 12"),
+    ("Q w b3 h2 a ", "refused 12"),
+    ("X y z9 z9 z ", "refused 12"),
+    ("P y z9 z9 z9", "refused 1"),
+    ("q w b3 h2 a1", "refused 1"),
+    ("K w b3 h2 a1", "refused 1"),
+    ("\0 w b3 h2 a1", "refused 1"),
+    ("Q W b3 h2 a1", "refused 2"),
+    ("Q # b3 h2 a1", "refused 2"),
+    ("P # b3 h2 a1", "refused 1"),
+    ("Q \0 z9 h2 a1", "refused 2"),
+    ("Q w B3 h2 a1", "refused 3"),
+    ("Q w b0 h2 a1", "refused 3"),
+    ("Q w b3 h9 a1", "refused 3"),
+    ("Q w b3 i2 a1", "refused 3"),
+    ("Q w b3 h2 1a", "refused 3"),
+    ("Q w b3 b3 z1", "refused 3"),
+    ("Q w b3 h2 a\r", "refused 3"),
+    ("Q w b3 b3 a1", "refused 4"),
+    ("Q w b3 a2 a2", "refused 4"),
+    ("Q w b2 a8 a1", "refused 5"),
+    ("Q # 0204", "refused 12"),
+    ("Q # 020490", "refused 12"),
+    ("Q w 02049", "refused 12"),
+    ("Q#  02049", "refused 12"),
+    ("Q # 0204x", "refused 12"),
+    ("Q # 0 049", "refused 12"),
+    ("Q #  2049", "refused 12"),
+    ("Q # 2049 ", "refused 12"),
+    ("Q #+02049", "refused 12"),
+    ("  # 02049", "refused 12"),
+    ("Q\t# 02049", "refused 12"),
+    ("P # 0204x", "refused 12"),
+    ("P # 99999", "refused 1"),
+    ("P # 02056", "refused 1"),
+    ("Q # 59136", "refused 8"),
+    ("Q # 99999", "refused 8"),
+    ("Q # 02056", "refused 9"),
+    ("R # 59128", "refused 9"),
+    ("N # 59127", "b d4 h7 h8"),
+    ("B # 00063", "w a1 h8 c1"),
+];
+
+fn odd_lines(_: &Truth) -> Verdict {
+    for (line, due) in ODD_LINES {
+        let output = desk_on(format!("{line}\n").as_bytes())?;
+        expect(output == format!("{due}\n"), || format!("{line:?}: {output}"))?;
+    }
+    let input: String = ODD_LINES.iter().map(|(line, _)| format!("{line}\n")).collect();
+    let due: String = ODD_LINES.iter().map(|(_, due)| format!("{due}\n")).collect();
+    let output = desk_on(input.as_bytes())?;
+    expect(output == due, || "all the odd lines in one input".to_string())
+}
+
+fn whole_inputs(_: &Truth) -> Verdict {
+    let long = "Q".repeat(1_000_000);
+    let two = format!("{long}\nQ b b3 b2 a1\n{long}");
+    let inputs: [(&[u8], &str); 7] = [
+        (b"", ""),
+        (b"\n", "refused 12\n"),
+        (b"\n\n", "refused 12\nrefused 12\n"),
+        (b"Q b b3 b2 a1", "loss 0\n"),
+        (b"Q b b3 b2 a1\n", "loss 0\n"),
+        (b"\xff\xfe\r\n\0\n", "refused 12\nrefused 12\n"),
+        (two.as_bytes(), "refused 12\nloss 0\nrefused 12\n"),
+    ];
+    for (input, due) in inputs {
+        let output = desk_on(input)?;
+        expect(output == due, || format!("{} bytes: {output}", input.len()))?;
+    }
+    Ok(())
+}
