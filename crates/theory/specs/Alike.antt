@@ -19,7 +19,7 @@ pub record Alike (G H : Game) (R : G .Pos → H .Pos → Type 0) : Type 0 where
   pub back : (p : G .Pos) (r : H .Pos) → R p r → (s : H .Pos) → s ∈ next H r → (q : G .Pos) × (q ∈ next G p) × R q s
   pub mate : (p : G .Pos) (r : H .Pos) → R p r → G .mated p ≡ H .mated r
 
-flip : {G H : Game} {R : G .Pos → H .Pos → Type 0} → Alike G H R → Alike H G (λ r p. R p r)
+pub flip : {G H : Game} {R : G .Pos → H .Pos → Type 0} → Alike G H R → Alike H G (λ r p. R p r)
 flip a = record { forth = λ r p x s m. a .back p r x s m; back = λ r p x q m. a .forth p r x q m; mate = λ r p x. sym (a .mate p r x) }
 
 module _ (G H : Game) (R : G .Pos → H .Pos → Type 0) (a : Alike G H R) where

@@ -12,6 +12,7 @@ pub mod Consistency
 pub mod Alike
 pub mod Passes
 pub mod InPlace
+pub mod Verdict
 pub mod Choice
 pub mod OnePly
 pub mod Games

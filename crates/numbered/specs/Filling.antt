@@ -1,0 +1,112 @@
+-- Filling writes the true table and gives the greatest depth, or says that nothing is decided; it gives up, the table cleared, exactly
+-- where a depth exceeds 253. For endings whose positions without a number are drawn. Assumes nothing.
+use mathlib.Core.Path.{_≡_, refl, sym, ap, subst, _∙_}
+use mathlib.Core.Bool.{Bool, true, false, cond, not}
+use mathlib.Core.Logic.{_⊎_, inl, inr}
+use mathlib.Core.List.{List}
+use Prim.Native.Nat.{ℕ, zero, suc, _+_, _-_, _<_, _≤_}
+use native.Mathlib.Nat.{zero-add}
+use native.Mathlib.Omega.{arith}
+use lib.Dec.{T, eqb, not-T, T-not}
+use lib.ListN.{length, getD, List·getD-eq-default}
+use Rattle.finite.specs.Truth.{decided, true-of, false-of, le-or-lt}
+use Rattle.finite.specs.Below.{allBelow, below, fails-below}
+use Rattle.finite.specs.Mapped.{mapFrom, getD-mapFrom, length-mapFrom}
+use Rattle.theory.specs.Game.{Game}
+use Rattle.theory.specs.Value.{Drawn, DepthIs, TrueByte}
+use Rattle.theory.specs.Depth.{draw-is}
+use Rattle.theory.specs.Alike.{alike-depth}
+use Rattle.theory.specs.Passes.{settled, complete, all-below, Greatest, greatest}
+use Rattle.numbered.specs.Numbered.{Numbering, True, Result, undecided, deepest, tooDeep, Outcome, ended, settles, someSettles, startByte, passed, passesFrom, filled}
+use Rattle.numbered.specs.Passing.{Holds, start-holds, settles-depth, pass-holds}
+
+module _ (G : Game) (N : Numbering G) where
+  -- some position of D has this depth
+  abbrev pub Some : ℕ → Type 0
+  Some k = (p : G .Pos) × N .D p × DepthIs G k p
+
+  -- what is promised of a filled table, by how filling ends
+  unfoldable pub Filled : Result → List ℕ → Type 0
+  Filled undecided t = True G N t × ((k : ℕ) → Some k → ⊥)
+  Filled (deepest n) t = True G N t × Greatest G (N .D) (N .closed) n × (n ≤ 253)
+  Filled tooDeep t = ((n : ℕ) → getD t n 0 ≡ 0) × ((k : ℕ) × (253 < k) × Some k)
+
+  module _ (outer-drawn : (p : G .Pos) → N .D p → N .inside p ≡ false → Drawn G p) where
+    -- pass k settles a number exactly where some position has depth k
+    some-depth : (k : ℕ) (t : List ℕ) → Holds G N k t → T (someSettles G N k t) → Some k
+    unfolding someSettles
+    some-depth k t w s =
+        let f = fails-below (λ n. not (settles G N k t n)) (N .size) s in
+        let d = settles-depth G N k t w (f .0) (f .1) .0 (twice (settles G N k t (f .0)) (f .2)) in
+        (N .at (f .0), N .live-at (f .0) (f .1) (d .0) .0, d .1)
+      where
+        twice : (b : Bool) → T (not (not b)) → T b
+        twice true t = tt
+        twice false t = t
+
+    no-depth : (k : ℕ) (t : List ℕ) → Holds G N k t → T (not (someSettles G N k t)) → (p : G .Pos) → N .D p → DepthIs G k p → ⊥
+    unfolding someSettles
+    no-depth k t w s p d h = go (decided (N .inside p))
+      where
+        none : (n : ℕ) → n < N .size → T (settles G N k t n) → ⊥
+        none n l x = T-not (settles G N k t n) (below (λ m. not (settles G N k t m)) (N .size) (all (allBelow (λ m. not (settles G N k t m)) (N .size)) s) n l) x
+          where
+            all : (b : Bool) → T (not (not b)) → T b
+            all true t = tt
+            all false t = t
+
+        go : T (N .inside p) ⊎ T (not (N .inside p)) → ⊥
+        go (inl i) =
+            let l = N .number-live p d i in
+            none (N .number p) (l .0) (settles-depth G N k t w (N .number p) (l .0) .1 (l .1, alike-depth G G (N .Same) (N .alike) k p (N .at (N .number p)) (N .same-at p d i) h))
+        go (inr o) = draw-is G p .0 (outer-drawn p d (false-of o)) k h
+
+    -- the passes that settled something are done: the table is true
+    holds-true : (k : ℕ) (t : List ℕ) → Holds G N k t → ((p : G .Pos) → N .D p → DepthIs G k p → ⊥) → True G N t
+    holds-true k t w none = record {
+      legal-true = λ n h l. subst (λ (b : ℕ). TrueByte G (N .at n) b) (sym (w .byte n h ∙ rw (true-of {b = N .live n} l))) (complete G (N .D) (N .closed) k none (N .at n) (N .live-at n h l .0));
+      others-zero = λ n h e. w .byte n h ∙ rw e;
+    }
+
+    -- a pass that settles nothing ends the filling
+    ended-filled : (k : ℕ) (t : List ℕ) → k ≤ 254 → Holds G N k t → (k ≡ 0) ⊎ Some (k - 1) → ((p : G .Pos) → N .D p → DepthIs G k p → ⊥) → Filled (ended k) t
+    unfolding Filled
+    ended-filled zero t h w before none = (holds-true 0 t w none, λ k x. absurd (omega (arith, all-below G (N .D) (N .closed) 0 none k (x .0) (x .1) (x .2))))
+    ended-filled (suc k) t h w before none = (holds-true (suc k) t w none, top before, omega arith)
+      where
+        last : suc k - 1 ≡ k
+        last = omega arith
+
+        top : (suc k ≡ 0) ⊎ Some (suc k - 1) → Greatest G (N .D) (N .closed) k
+        top (inl e) = absurd (omega arith)
+        top (inr x) = let y : Some k = subst Some last x in greatest G (N .D) (N .closed) k (y .0) (y .1) (y .2) none
+
+    cleared : (t : List ℕ) (n : ℕ) → getD (mapFrom (λ i b. 0) 0 t) n 0 ≡ 0
+    cleared t n = go (le-or-lt (length t) n)
+      where
+        go : (length t ≤ n) ⊎ (n < length t) → getD (mapFrom (λ i b. 0) 0 t) n 0 ≡ 0
+        go (inl h) = List·getD-eq-default (mapFrom (λ i b. 0) 0 t) 0 (subst (λ (m : ℕ). m ≤ n) (sym (length-mapFrom (λ i b. 0) 0 t)) h)
+        go (inr h) = getD-mapFrom (λ i b. 0) 0 t n h
+
+    abbrev Right : Outcome → Type 0
+    Right o = Filled (o .result) (o .bytes)
+
+    passes-filled : (left k : ℕ) (t : List ℕ) → left + k ≡ 254 → Holds G N k t → (k ≡ 0) ⊎ Some (k - 1) → Right (passesFrom G N left k t)
+    unfolding passesFrom Filled
+    passes-filled zero k t e w before = go (someSettles G N k t) refl
+      where
+        go : (b : Bool) → someSettles G N k t ≡ b → Right (cond {A = Outcome} b (record { result = tooDeep; bytes = mapFrom (λ n b. 0) 0 t }) (record { result = ended k; bytes = t }))
+        go true s = (cleared t, (k, omega arith, some-depth k t w (subst T (sym s) tt)))
+        go false s = ended-filled k t (omega arith) w before (no-depth k t w (subst (λ (b : Bool). T (not b)) (sym s) tt))
+    passes-filled (suc left) k t e w before =
+        let z : suc k - 1 ≡ k = omega arith in
+        go (someSettles G N k t) refl (λ x. passes-filled left (suc k) (passed G N k t) (omega arith) (pass-holds G N k t w) (inr (subst Some (sym z) x)))
+      where
+        go : (b : Bool) → someSettles G N k t ≡ b → (Some k → Right (passesFrom G N left (suc k) (passed G N k t))) → Right (cond {A = Outcome} b (passesFrom G N left (suc k) (passed G N k t)) (record { result = ended k; bytes = t }))
+        go true s next = next (some-depth k t w (subst T (sym s) tt))
+        go false s next = ended-filled k t (omega arith) w before (no-depth k t w (subst (λ (b : Bool). T (not b)) (sym s) tt))
+
+    -- What filling promises, whatever the lent table held.
+    pub fill-right : (t : List ℕ) → length t ≡ N .size → Filled (filled G N t .result) (filled G N t .bytes)
+    unfolding filled
+    fill-right t e = passes-filled 254 0 (mapFrom (startByte G N) 0 t) refl (start-holds G N t e) (inl refl)

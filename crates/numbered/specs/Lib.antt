@@ -1,0 +1,4 @@
+pub mod Numbered
+pub mod Acceptance
+pub mod Passing
+pub mod Filling
