@@ -1,0 +1,3 @@
+pub mod Kings
+pub mod Normal
+pub mod Number
