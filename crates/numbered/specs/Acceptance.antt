@@ -31,8 +31,11 @@ module _ (G : Game) (N : Numbering G) (t : List ℕ) where
 
   -- positions that go alike read the same byte
   pub reads-same : (p q : G .Pos) → N .Same p q → reads G N t p ≡ reads G N t q
-  unfolding reads
-  reads-same p q s = rw (N .same-inside p q s, N .same-number p q s, N .same-outer p q s)
+  reads-same p q s = go (decided (N .inside p))
+    where
+      go : T (N .inside p) ⊎ T (not (N .inside p)) → reads G N t p ≡ reads G N t q
+      go (inl i) = reads-inside p i ∙ ap (λ (n : ℕ). getD t n 0) (N .same-number p q s i) ∙ sym (reads-inside q (subst T (N .same-inside p q s) i))
+      go (inr o) = let e : N .inside p ≡ false = false-of o in reads-outside p e ∙ N .same-outer p q s e ∙ sym (reads-outside q (sym (N .same-inside p q s) ∙ e))
 
   pub reads-at : (n : ℕ) → n < N .size → T (N .live n) → reads G N t (N .at n) ≡ getD t n 0
   reads-at n h l = let a = N .live-at n h l in reads-inside (N .at n) (a .1) ∙ ap (λ (m : ℕ). getD t m 0) (a .2)

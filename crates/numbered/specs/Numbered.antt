@@ -31,9 +31,9 @@ pub record Numbering (G : Game) : Type 1 where
   pub outer-next : (p q : G .Pos) → D p → inside p ≡ false → q ∈ next G p → inside q ≡ false
   pub Same : G .Pos → G .Pos → Type 0  -- the positions go alike
   pub alike : Alike G G Same
-  pub same-number : (p q : G .Pos) → Same p q → number p ≡ number q
   pub same-inside : (p q : G .Pos) → Same p q → inside p ≡ inside q
-  pub same-outer : (p q : G .Pos) → Same p q → outer p ≡ outer q
+  pub same-number : (p q : G .Pos) → Same p q → T (inside p) → number p ≡ number q
+  pub same-outer : (p q : G .Pos) → Same p q → inside p ≡ false → outer p ≡ outer q
   pub same-at : (p : G .Pos) → D p → T (inside p) → Same p (at (number p))
 
 -- How filling ends: no position is decided (which is not depth 0), or the greatest depth, or a depth above 253.

@@ -118,21 +118,17 @@ automorphism m x = record {
 }
 
 -- a legal board and any of its images have the same value
-pub Image : Symmetry → Bool → Board → Board → Type 0
+abbrev pub Image : Symmetry → Bool → Board → Board → Type 0
 Image m x b c = T (legal b) × (c ≡ changed m x b)
 
 pub image-alike : (m : Symmetry) (x : Bool) → Alike chess chess (Image m x)
-unfolding Image
 image-alike m x = automorphism-alike chess LegalBoard (changed m x) (changed (inverse m) x) (automorphism m x)
 
 pub won-changed : (m : Symmetry) (x : Bool) (k : ℕ) (b : Board) → T (legal b) → won chess k (changed m x b) ≡ won chess k b
-unfolding Image
 won-changed m x k b l = sym (alike-won chess chess (Image m x) (image-alike m x) k b (changed m x b) (l, refl))
 
 pub lost-changed : (m : Symmetry) (x : Bool) (k : ℕ) (b : Board) → T (legal b) → lost chess k (changed m x b) ≡ lost chess k b
-unfolding Image
 lost-changed m x k b l = sym (alike-lost chess chess (Image m x) (image-alike m x) k b (changed m x b) (l, refl))
 
 pub byte-changed : (m : Symmetry) (x : Bool) (b : Board) (v : ℕ) → T (legal b) → TrueByte chess b v → TrueByte chess (changed m x b) v
-unfolding Image
 byte-changed m x b v l t = alike-byte chess chess (Image m x) (image-alike m x) b (changed m x b) v (l, refl) t
