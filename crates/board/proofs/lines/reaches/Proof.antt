@@ -104,7 +104,7 @@ cast-if6 : tie.Need-cast-if6 Inv-loop μ-loop Inv-lines μ-lines
 cast-if6 c = omega (arith, shift-lt _ _ _ _ (c .before .before .next-square .ensures) (c .before .if4 .left))
 
 shr-if6 : tie.Need-shr-if6 Inv-loop μ-loop Inv-lines μ-lines
-shr-if6 c = shift-lt _ _ _ _ (c .before .before .next-square .ensures) (c .before .if4 .left)
+shr-if6 c = omega (arith, shift-lt _ _ _ _ (c .before .before .next-square .ensures) (c .before .if4 .left))
 
 add-n : tie.Need-add-n Inv-loop μ-loop Inv-lines μ-lines
 add-n c =
