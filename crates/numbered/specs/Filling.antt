@@ -17,7 +17,7 @@ use Rattle.theory.specs.Value.{Drawn, DepthIs, TrueByte}
 use Rattle.theory.specs.Depth.{draw-is}
 use Rattle.theory.specs.Alike.{alike-depth}
 use Rattle.theory.specs.Passes.{settled, complete, all-below, Greatest, greatest}
-use Rattle.numbered.specs.Numbered.{Numbering, True, Result, undecided, deepest, tooDeep, Outcome, ended, settles, someSettles, startByte, passed, passesFrom, filled}
+use Rattle.numbered.specs.Numbered.{Numbering, True, Result, undecided, deepest, tooDeep, Outcome, ended, settles, someSettles, startByte, passByte, passed, passesFrom, filled}
 use Rattle.numbered.specs.Passing.{Holds, start-holds, settles-depth, pass-holds}
 
 module _ (G : Game) (N : Numbering G) where
@@ -110,3 +110,24 @@ module _ (G : Game) (N : Numbering G) where
     pub fill-right : (t : List ℕ) → length t ≡ N .size → Filled (filled G N t .result) (filled G N t .bytes)
     unfolding filled
     fill-right t e = passes-filled 254 0 (mapFrom (startByte G N) 0 t) refl (start-holds G N t e) (inl refl)
+
+-- filling keeps the table's length
+passes-length : (G : Game) (N : Numbering G) (left k : ℕ) (t : List ℕ) → length (passesFrom G N left k t .bytes) ≡ length t
+unfolding passesFrom
+passes-length G N zero k t = go (someSettles G N k t)
+  where
+    go : (b : Bool) → length (cond {A = Outcome} b (record { result = tooDeep; bytes = mapFrom (λ n b. 0) 0 t }) (record { result = ended k; bytes = t }) .bytes) ≡ length t
+    go true = length-mapFrom (λ n b. 0) 0 t
+    go false = refl
+passes-length G N (suc left) k t = go (someSettles G N k t) (passes-length G N left (suc k) (passed G N k t))
+  where
+    pass-length : length (passed G N k t) ≡ length t
+    pass-length = unfold passed in length-mapFrom (passByte G N k t) 0 t
+
+    go : (b : Bool) → length (passesFrom G N left (suc k) (passed G N k t) .bytes) ≡ length (passed G N k t) → length (cond {A = Outcome} b (passesFrom G N left (suc k) (passed G N k t)) (record { result = ended k; bytes = t }) .bytes) ≡ length t
+    go true e = e ∙ pass-length
+    go false e = refl
+
+pub filled-length : (G : Game) (N : Numbering G) (t : List ℕ) → length (filled G N t .bytes) ≡ length t
+unfolding filled
+filled-length G N t = passes-length G N 254 0 (mapFrom (startByte G N) 0 t) ∙ length-mapFrom (startByte G N) 0 t

@@ -27,14 +27,14 @@ use Rattle.table.specs.IndexLaws.{number-of-ending, number-at, image-at,
 
 -- ---- boards with a man
 
-has-man : (man : ℕ) (b : Board) → Ending man b → T (not (empty (b .men))) → Lone man b
+pub has-man : (man : ℕ) (b : Board) → Ending man b → T (not (empty (b .men))) → Lone man b
 has-man man b d i = go (d .men)
   where
     go : (b .men ≡ []) ⊎ Lone man b → Lone man b
     go (inl e) = absurd (subst (λ (l : List Piece). T (not (empty l))) e i)
     go (inr l) = l
 
-bare-of : (man : ℕ) (b : Board) → Ending man b → not (empty (b .men)) ≡ false → b .men ≡ []
+pub bare-of : (man : ℕ) (b : Board) → Ending man b → not (empty (b .men)) ≡ false → b .men ≡ []
 bare-of man b d e = go (d .men)
   where
     go : (b .men ≡ []) ⊎ Lone man b → b .men ≡ []
@@ -46,7 +46,7 @@ bare-of man b d e = go (d .men)
 abbrev pub Turned : Board → Board → Type 0
 Turned b c = (m : Symmetry) × Image m false b c
 
-turned-alike : Alike chess chess Turned
+pub turned-alike : Alike chess chess Turned
 turned-alike = record {
   forth = λ b c x q i. let r = image-alike (x .0) false .forth b c (x .1) q i in (r .0, r .1, (x .0, r .2));
   back = λ b c x s i. let r = image-alike (x .0) false .back b c (x .1) s i in (r .0, r .1, (x .0, r .2));
@@ -54,17 +54,17 @@ turned-alike = record {
 }
 
 module _ (man : ℕ) where
-  live-at : (n : ℕ) → n < tableSize → T (legalNumber man n) → Ending man (boardAt man n) × T (not (empty (boardAt man n .men))) × (numberOf (boardAt man n) ≡ n)
+  pub live-at : (n : ℕ) → n < tableSize → T (legalNumber man n) → Ending man (boardAt man n) × T (not (empty (boardAt man n .men))) × (numberOf (boardAt man n) ≡ n)
   unfolding legalNumber boardAt boardOf positionAt
   live-at n h l = (record { legality = and-right (not (unused (positionAt man n))) (legal (boardOf (positionAt man n))) l; men = inr (n % 64, refl) }, tt, number-at man n h l)
 
   pub outer-drawn : (b : Board) → Ending man b → not (empty (b .men)) ≡ false → Drawn chess b
   outer-drawn b d e = bare-drawn b (d .legality) (bare-of man b d e)
 
-  bare-stays : (b q : Board) → Ending man b → not (empty (b .men)) ≡ false → q ∈ next chess b → not (empty (q .men)) ≡ false
+  pub bare-stays : (b q : Board) → Ending man b → not (empty (b .men)) ≡ false → q ∈ next chess b → not (empty (q .men)) ≡ false
   bare-stays b q d e i = absurd (none-in (ap (map (played b)) (bare-over b (d .legality) (bare-of man b d e))) i)
 
-  pub ending : Numbering chess
+  unfoldable pub ending : Numbering chess
   ending = record {
     D = Ending man;
     closed = ending-closed man;

@@ -5,3 +5,7 @@ pub mod Endings
 pub mod Answers
 pub mod Truth
 pub mod Checking
+pub mod LookingUp
+pub mod Desk
+pub mod Games
+pub mod FilledTrue

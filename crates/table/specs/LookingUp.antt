@@ -1,0 +1,98 @@
+-- Look-up on an accepted table never refuses a legal position of the ending, and answers its true value and depth (demand 2). Assumes nothing.
+use mathlib.Core.Path.{_≡_, refl, sym, ap, subst, _∙_}
+use mathlib.Core.Bool.{Bool, true, false, cond, not}
+use mathlib.Core.Logic.{_⊎_, inl, inr}
+use mathlib.Core.List.{List, [], map}
+use mathlib.Core.Option.{Option, none, some}
+use Prim.Native.Nat.{ℕ, zero, suc, _+_, _-_, _%_, _≤_}
+use native.Mathlib.Omega.{arith}
+use lib.Dec.{T, leb, eqb}
+use lib.ListN.{length}
+use borrow.Author.Tests.{eq-eqb, eqb-true, lt-leb, ne-eqb}
+use Rattle.finite.specs.Truth.{true-of}
+use Rattle.finite.specs.Members.{_∈_, first, none-in}
+use Rattle.theory.specs.Value.{WonIn, LostIn, DepthIs, TrueByte}
+use Rattle.theory.specs.Depth.{win-is, loss-is, no-win-in-0, won-odd, lost-even}
+use Rattle.theory.specs.Required.{requiredAt, Consistent}
+use Rattle.theory.specs.Play.{Over, firstSuited, Answered, suits}
+use Rattle.theory.specs.Choice.{first-chooses}
+use Rattle.theory.specs.OnePly.{answered-at}
+use Rattle.numbered.specs.Numbered.{reads}
+use Rattle.numbered.specs.Acceptance.{accepted-consistent}
+use Rattle.rules.specs.declared.Move.{Move}
+use Rattle.rules.specs.Rules.{Board, legal, moves}
+use Rattle.rules.specs.Chess.{chess, played}
+use Rattle.position.specs.declared.Position.{Position}
+use Rattle.position.specs.Keyed.{boardOf, standing}
+use Rattle.table.specs.declared.Advice.{Advice}
+use Rattle.table.specs.declared.Answer.{Answer}
+use Rattle.table.specs.declared.Checked.{Checked}
+use Rattle.table.specs.Chess.{tableSize, byteOf}
+use Rattle.table.specs.Ending.{Ending, ending-closed}
+use Rattle.table.specs.Endings.{ending}
+use Rattle.table.specs.IndexLaws.{standing-legal}
+use Rattle.table.specs.Truth.{TrueAnswer}
+use Rattle.table.specs.Answers.{checkOf, adviceOf, answerOf, lookUpOf}
+use Rattle.table.specs.Checking.{byte-reads, keyed-ending, accepted-ending}
+
+-- ---- the answer of a true byte
+
+module _ (b : Board) where
+  -- won: there is a move; lost with no move: mate
+  won-moves : (n : ℕ) → WonIn chess n b → Over chess b → ⊥
+  won-moves zero w o = no-win-in-0 chess b w
+  won-moves (suc n) w o = let r = win-is chess n b .0 w in none-in (ap (λ (l : List Move). map (played b) l) o) (r .legal)
+
+  lost-over : (n : ℕ) → LostIn chess n b → Over chess b → n ≡ 0
+  lost-over zero l o = refl
+  lost-over (suc n) l o = let r = loss-is chess n b .0 l in absurd (none-in (ap (λ (l : List Move). map (played b) l) o) (r .legal))
+
+  answer-win : (n : ℕ) (a : Advice) → n % 2 ≡ 1 → answerOf (2 + n) a ≡ Answer.Win n a
+  unfolding answerOf
+  answer-win n a e = let z : 2 + n - 2 ≡ n = omega arith in rw (lt-leb (2 + n) 1 (omega arith), eq-eqb ((2 + n) % 2) 1 (omega arith), z)
+
+  answer-loss : (n : ℕ) (a : Advice) → n % 2 ≡ 0 → answerOf (2 + n) a ≡ Answer.Loss n a
+  unfolding answerOf
+  answer-loss n a e = let z : 2 + n - 2 ≡ n = omega arith in rw (lt-leb (2 + n) 1 (omega arith), ne-eqb ((2 + n) % 2) 1 (λ q. omega arith), z)
+
+  answer-draw : (a : Advice) → answerOf 1 a ≡ Answer.Draw a
+  unfolding answerOf
+  answer-draw a = refl
+
+  pub over-none : (t : List ℕ) → Over chess b → firstSuited chess (byteOf t) b ≡ none
+  unfolding firstSuited first
+  over-none t o = rw o
+
+  abbrev pub adviceAt : List ℕ → Advice
+  adviceAt t = adviceOf (firstSuited chess (byteOf t) b)
+
+  true-answer : (t : List ℕ) → Answered chess (byteOf t) (firstSuited chess (byteOf t)) b → TrueAnswer b (answerOf (byteOf t b) (adviceAt t))
+  true-answer t w = go (w .truth) (w .goes-on)
+    where
+      go : TrueByte chess b (byteOf t b) → Over chess b ⊎ ((m : Move) × (firstSuited chess (byteOf t) b ≡ some m) × (m ∈ moves b)) → TrueAnswer b (answerOf (byteOf t b) (adviceAt t))
+      go (TrueByte.win n v e) (inl o) = absurd (won-moves n v o)
+      go (TrueByte.win n v e) (inr x) = TrueAnswer.won n (x .0) v (x .2) (rw (e, x .1) (answer-win n (Advice.Play (x .0)) (won-odd chess n b v)))
+      go (TrueByte.loss n v e) (inl o) = let z = lost-over n v o in TrueAnswer.mate (subst (λ (k : ℕ). LostIn chess k b) z v) o (rw (e, z, over-none t o) (answer-loss 0 Advice.NoMove refl))
+      go (TrueByte.loss n v e) (inr x) = TrueAnswer.lost n (x .0) v (x .2) (rw (e, x .1) (answer-loss n (Advice.Play (x .0)) (lost-even chess n b v)))
+      go (TrueByte.draw v e) (inl o) = TrueAnswer.stalemate v o (rw (e, over-none t o) (answer-draw Advice.NoMove))
+      go (TrueByte.draw v e) (inr x) = TrueAnswer.drawn (x .0) v (x .2) (rw (e, x .1) (answer-draw (Advice.Play (x .0))))
+
+-- ---- an accepted table
+
+module _ (man : ℕ) (t : List ℕ) (ok : checkOf man t ≡ Checked.Accepted) where
+  pub accepted-bytes : Consistent chess (Ending man) (byteOf t)
+  unfolding ending
+  accepted-bytes = rw (byte-reads man t) (accepted-consistent chess (ending man) t (accepted-ending man t ok .2))
+
+  -- what look-up answers, no test refusing
+  pub look-up-answers : (p : Position) → p .man ≡ man → T (legal (boardOf p)) → lookUpOf t p ≡ answerOf (byteOf t (boardOf p)) (adviceAt (boardOf p) t)
+  unfolding lookUpOf
+  look-up-answers p e l =
+      let s : eqb (standing p) 0 ≡ true = sym (standing-legal p) ∙ true-of {b = legal (boardOf p)} l in
+      rw (s, eq-eqb (length t) tableSize (accepted-ending man t ok .1), eq-eqb (byteOf t (boardOf p)) (requiredAt chess (byteOf t) (boardOf p)) (accepted-bytes (boardOf p) (keyed-ending man p e l)))
+
+  -- Look-up never refuses a legal position of the ending, and answers its true value and depth.
+  pub look-up-true : (p : Position) → p .man ≡ man → T (legal (boardOf p)) → TrueAnswer (boardOf p) (lookUpOf t p)
+  look-up-true p e l =
+      rw (look-up-answers p e l)
+      (true-answer (boardOf p) t (answered-at chess (Ending man) (ending-closed man) (byteOf t) accepted-bytes (firstSuited chess (byteOf t)) (first-chooses chess (Ending man) (byteOf t)) (boardOf p) (keyed-ending man p e l)))
