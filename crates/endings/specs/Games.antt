@@ -19,16 +19,16 @@ use Rattle.rules.specs.Rules.{Board, pieceOf, empty, legal, moves}
 use Rattle.rules.specs.Chess.{chess, played}
 use Rattle.position.specs.declared.Position.{Position}
 use Rattle.position.specs.Keyed.{boardOf}
-use Rattle.table.specs.declared.Advice.{Advice}
-use Rattle.table.specs.declared.Answer.{Answer}
-use Rattle.table.specs.declared.Checked.{Checked}
-use Rattle.table.specs.Chess.{byteOf}
-use Rattle.table.specs.Ending.{Lone, Ending, ending-closed, bare-over, bare-drawn}
-use Rattle.table.specs.Truth.{TrueAnswer}
-use Rattle.table.specs.Answers.{checkOf, adviceOf, answerOf, lookUpOf}
-use Rattle.table.specs.Checking.{keyed-ending}
-use Rattle.table.specs.LookingUp.{accepted-bytes, look-up-answers, look-up-true, over-none}
-use Rattle.table.specs.Desk.{squareOf, keyed, given, moveIn, deskMove, GamePromise}
+use Rattle.answers.specs.declared.Advice.{Advice}
+use Rattle.answers.specs.declared.Answer.{Answer}
+use Rattle.answers.specs.declared.Checked.{Checked}
+use Rattle.endings.specs.Chess.{byteOf}
+use Rattle.endings.specs.Ending.{Lone, Ending, ending-closed, bare-over, bare-drawn}
+use Rattle.endings.specs.Truth.{TrueAnswer}
+use Rattle.endings.specs.Answers.{checkOf, adviceOf, answerOf, lookUpOf}
+use Rattle.endings.specs.Checking.{keyed-ending}
+use Rattle.endings.specs.LookingUp.{accepted-bytes, look-up-answers, look-up-true, over-none}
+use Rattle.endings.specs.Desk.{squareOf, keyed, given, moveIn, deskMove, GamePromise}
 
 -- keying a board gives it back
 keyed-board : (man : ℕ) (b : Board) → Lone man b → boardOf (keyed man b) ≡ b

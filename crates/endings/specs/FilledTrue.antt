@@ -15,14 +15,14 @@ use Rattle.numbered.specs.Acceptance.{one-true-table}
 use Rattle.numbered.specs.Filling.{Filled, fill-right, filled-length}
 use Rattle.rules.specs.Rules.{Board}
 use Rattle.rules.specs.Chess.{chess}
-use Rattle.table.specs.declared.Filled as declared
-use Rattle.table.specs.declared.Checked.{Checked}
-use Rattle.table.specs.Chess.{tableSize}
-use Rattle.table.specs.Ending.{Ending}
-use Rattle.table.specs.Endings.{ending, outer-drawn}
-use Rattle.table.specs.Truth.{TrueTable}
-use Rattle.table.specs.Answers.{checkOf, resultOf, Fill, fillOf}
-use Rattle.table.specs.Checking.{true-chess, accepts-true-only}
+use Rattle.answers.specs.declared.Filled as declared
+use Rattle.answers.specs.declared.Checked.{Checked}
+use Rattle.endings.specs.Chess.{tableSize}
+use Rattle.endings.specs.Ending.{Ending}
+use Rattle.endings.specs.Endings.{ending, outer-drawn}
+use Rattle.endings.specs.Truth.{TrueTable}
+use Rattle.endings.specs.Answers.{checkOf, resultOf, Fill, fillOf}
+use Rattle.endings.specs.Checking.{true-chess, accepts-true-only}
 
 -- a position of the ending is decided in depth n
 abbrev pub Decided : ℕ → ℕ → Type 0

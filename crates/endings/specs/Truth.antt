@@ -13,9 +13,9 @@ use Rattle.rules.specs.Chess.{chess}
 use Rattle.position.specs.declared.Position.{Position}
 use Rattle.position.specs.Keyed.{boardOf}
 use Rattle.numbering.specs.Number.{numberOf}
-use Rattle.table.specs.declared.Advice.{Advice}
-use Rattle.table.specs.declared.Answer.{Answer}
-use Rattle.table.specs.Chess.{tableSize, legalNumber}
+use Rattle.answers.specs.declared.Advice.{Advice}
+use Rattle.answers.specs.declared.Answer.{Answer}
+use Rattle.endings.specs.Chess.{tableSize, legalNumber}
 
 -- Every legal position's byte is its true value and depth, and every byte of an unused number or illegal position is 0.
 pub record TrueTable (man : ℕ) (t : List ℕ) : Type 0 where

@@ -21,9 +21,9 @@ use Rattle.rules.specs.Chess.{chess, played, Image, image-alike}
 use Rattle.position.specs.Keyed.{boardOf}
 use Rattle.numbering.specs.Number.{numberOf}
 use Rattle.index.specs.Answers.{positionAt, unused}
-use Rattle.table.specs.Chess.{tableSize, boardAt, legalNumber, byteOf}
-use Rattle.table.specs.Ending.{Lone, Ending, ending-closed, bare-over, bare-drawn}
-use Rattle.table.specs.IndexLaws.{number-of-ending, number-at, image-at, number-image}
+use Rattle.endings.specs.Chess.{tableSize, boardAt, legalNumber, byteOf}
+use Rattle.endings.specs.Ending.{Lone, Ending, ending-closed, bare-over, bare-drawn}
+use Rattle.endings.specs.IndexLaws.{number-of-ending, number-at, image-at, number-image}
 
 -- ---- boards with a man
 

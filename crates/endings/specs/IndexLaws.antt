@@ -9,8 +9,8 @@ use Rattle.symmetry.specs.Symmetry.{Symmetry}
 use Rattle.rules.specs.Rules.{Board, legal}
 use Rattle.rules.specs.Changed.{changed}
 use Rattle.numbering.specs.Number.{numberOf}
-use Rattle.table.specs.Ending.{Lone}
-use Rattle.table.specs.Chess.{boardAt, legalNumber}
+use Rattle.endings.specs.Ending.{Lone}
+use Rattle.endings.specs.Chess.{boardAt, legalNumber}
 
 pub number-of-ending : (man : ℕ) (b : Board) → T (legal b) → Lone man b → (numberOf b < 59136) × T (legalNumber man (numberOf b))
 number-of-ending = ?

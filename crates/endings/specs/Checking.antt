@@ -20,12 +20,12 @@ use Rattle.position.specs.declared.Position.{Position}
 use Rattle.position.specs.Keyed.{boardOf}
 use Rattle.numbering.specs.Number.{numberOf}
 use Rattle.index.specs.Answers.{positionAt}
-use Rattle.table.specs.declared.Checked.{Checked}
-use Rattle.table.specs.Chess.{tableSize, boardAt, legalNumber, byteOf}
-use Rattle.table.specs.Ending.{Ending}
-use Rattle.table.specs.Endings.{ending, live-at}
-use Rattle.table.specs.Truth.{TrueTable}
-use Rattle.table.specs.Answers.{checkOf}
+use Rattle.answers.specs.declared.Checked.{Checked}
+use Rattle.endings.specs.Chess.{tableSize, boardAt, legalNumber, byteOf}
+use Rattle.endings.specs.Ending.{Ending}
+use Rattle.endings.specs.Endings.{ending, live-at}
+use Rattle.endings.specs.Truth.{TrueTable}
+use Rattle.endings.specs.Answers.{checkOf}
 
 -- how a board is read
 pub byte-reads : (man : ℕ) (t : List ℕ) → byteOf t ≡ reads chess (ending man) t

@@ -14,13 +14,13 @@ use Rattle.rules.specs.Rules.{Board, empty}
 use Rattle.rules.specs.Chess.{chess}
 use Rattle.position.specs.declared.Position.{Position}
 use Rattle.position.specs.Keyed.{boardOf}
-use Rattle.table.specs.declared.Advice.{Advice}
-use Rattle.table.specs.declared.Advice.the-variants.{Play, NoMove}
-use Rattle.table.specs.declared.Answer.{Answer}
-use Rattle.table.specs.declared.Answer.the-variants.{Win, Loss, Draw, Refused}
-use Rattle.table.specs.Chess.{byteOf}
-use Rattle.table.specs.Truth.{TrueAnswer}
-use Rattle.table.specs.Answers.{lookUpOf}
+use Rattle.answers.specs.declared.Advice.{Advice}
+use Rattle.answers.specs.declared.Advice.the-variants.{Play, NoMove}
+use Rattle.answers.specs.declared.Answer.{Answer}
+use Rattle.answers.specs.declared.Answer.the-variants.{Win, Loss, Draw, Refused}
+use Rattle.endings.specs.Chess.{byteOf}
+use Rattle.endings.specs.Truth.{TrueAnswer}
+use Rattle.endings.specs.Answers.{lookUpOf}
 
 -- a board with one man, keyed
 abbrev pub squareOf : List Piece → ℕ

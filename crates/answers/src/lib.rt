@@ -1,4 +1,4 @@
-// Tables of the endings: checked, filled, looked up.
+// What checking, filling and looking up answer.
 use rules::Move;
 
 // The move of an answer; none for mate and stalemate.

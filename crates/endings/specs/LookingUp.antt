@@ -24,16 +24,16 @@ use Rattle.rules.specs.Rules.{Board, legal, moves}
 use Rattle.rules.specs.Chess.{chess, played}
 use Rattle.position.specs.declared.Position.{Position}
 use Rattle.position.specs.Keyed.{boardOf, standing}
-use Rattle.table.specs.declared.Advice.{Advice}
-use Rattle.table.specs.declared.Answer.{Answer}
-use Rattle.table.specs.declared.Checked.{Checked}
-use Rattle.table.specs.Chess.{tableSize, byteOf}
-use Rattle.table.specs.Ending.{Ending, ending-closed}
-use Rattle.table.specs.Endings.{ending}
-use Rattle.table.specs.IndexLaws.{standing-legal}
-use Rattle.table.specs.Truth.{TrueAnswer}
-use Rattle.table.specs.Answers.{checkOf, adviceOf, answerOf, lookUpOf}
-use Rattle.table.specs.Checking.{byte-reads, keyed-ending, accepted-ending}
+use Rattle.answers.specs.declared.Advice.{Advice}
+use Rattle.answers.specs.declared.Answer.{Answer}
+use Rattle.answers.specs.declared.Checked.{Checked}
+use Rattle.endings.specs.Chess.{tableSize, byteOf}
+use Rattle.endings.specs.Ending.{Ending, ending-closed}
+use Rattle.endings.specs.Endings.{ending}
+use Rattle.endings.specs.IndexLaws.{standing-legal}
+use Rattle.endings.specs.Truth.{TrueAnswer}
+use Rattle.endings.specs.Answers.{checkOf, adviceOf, answerOf, lookUpOf}
+use Rattle.endings.specs.Checking.{byte-reads, keyed-ending, accepted-ending}
 
 -- ---- the answer of a true byte
 

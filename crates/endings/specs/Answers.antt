@@ -14,12 +14,12 @@ use Rattle.rules.specs.Rules.{Board}
 use Rattle.rules.specs.Chess.{chess}
 use Rattle.position.specs.declared.Position.{Position}
 use Rattle.position.specs.Keyed.{boardOf, standing}
-use Rattle.table.specs.declared.Advice.{Advice}
-use Rattle.table.specs.declared.Answer.{Answer}
-use Rattle.table.specs.declared.Checked.{Checked}
-use Rattle.table.specs.declared.Filled.{Filled}
-use Rattle.table.specs.Chess.{tableSize, byteOf}
-use Rattle.table.specs.Endings.{ending}
+use Rattle.answers.specs.declared.Advice.{Advice}
+use Rattle.answers.specs.declared.Answer.{Answer}
+use Rattle.answers.specs.declared.Checked.{Checked}
+use Rattle.answers.specs.declared.Filled.{Filled}
+use Rattle.endings.specs.Chess.{tableSize, byteOf}
+use Rattle.endings.specs.Endings.{ending}
 
 -- ---- checking: "It accepts, or names the lowest wrong number"; refusals 1 and 7
 
