@@ -3,36 +3,19 @@
 use mathlib.Core.Path.{_≡_, refl, sym, ap, _∙_, subst}
 use mathlib.Core.Logic.{⊎-elim}
 use mathlib.Core.Bool.{Bool, true, false, cond, not, _&&_, and-true}
-use mathlib.Core.List.{List, [], _∷_, List·Memᴰ·head, List·Memᴰ·tail, List·Memᴰ·cases-cons}
+use mathlib.Core.List.{_∷_, List·Memᴰ·head, List·Memᴰ·tail, List·Memᴰ·cases-cons}
 use Prim.Native.Nat.{ℕ, _-_, _<_}
 use lib.Dec.{T, eqb, eqb→eq, eqb-refl, not-T, T-not}
 use borrow.Author.Tests.{eq-eqb, ne-eqb}
 use Rattle.finite.specs.Truth.{and-left, and-right, and-both, by-test, fails, refuted, same-test}
-use Rattle.finite.specs.Members.{_∈_, any, any-in, any-out, any-same, map-in, map-out}
+use Rattle.finite.specs.Members.{_∈_, any-in, any-out, map-in, map-out}
 use Rattle.finite.specs.Filter.{filter-in, filter-out}
 use Rattle.board.specs.Reach.{reaches}
-use Rattle.board.specs.ReachLaws.{reaches-same}
+use Rattle.board.specs.ReachLaws.{reaches-squares}
 use Rattle.board.specs.Blocking.{reaches-fewer, reaches-own}
 use Rattle.rules.specs.declared.Piece.{Piece}
 use Rattle.rules.specs.Rules.{Board, pieceOf, pieces, occupied, attacks, attacked, king, inCheck, stands, goesTo, goes, carried, carriedPiece, left, moved, canMove}
-
--- the piece is of this colour and attacks t over the occupied squares
-abbrev pub strikes : (ℕ → Bool) → ℕ → ℕ → Piece → Bool
-strikes occ colour t m = eqb (m .colour) colour && attacks occ m t
-
--- a piece of this colour attacks t, over any occupied squares
-unfoldable pub attackedOver : (ℕ → Bool) → Board → ℕ → ℕ → Bool
-attackedOver occ b colour t = any (strikes occ colour t) (pieces b)
-
--- the occupied squares without one
-abbrev pub lifted : (ℕ → Bool) → ℕ → ℕ → Bool
-lifted occ from u = occ u && not (eqb u from)
-
--- only what stands on the board counts
-pub over-same : (occ occ′ : ℕ → Bool) → ((u : ℕ) → u < 64 → occ u ≡ occ′ u) → (b : Board) (colour t : ℕ) → attackedOver occ b colour t ≡ attackedOver occ′ b colour t
-unfolding attackedOver attacks
-over-same occ occ′ same b colour t =
-    any-same (strikes occ colour t) (strikes occ′ colour t) (pieces b) (λ m i. ap (λ (r : Bool). eqb (m .colour) colour && r) (reaches-same occ occ′ same (m .kind) (m .square) t))
+use Rattle.moves.specs.Over.{strikes, attackedOver, lifted}
 
 -- ---- the pieces before a move and after it
 
@@ -64,6 +47,7 @@ record Goer (b : Board) (from to : ℕ) : Type 0 where
   there : piece ∈ pieces b
   at : piece .square ≡ from
   away : from ≡ to → ⊥
+  on : from < 64
 
 goer : (b : Board) (from to : ℕ) → T (goes b from to) → Goer b from to
 unfolding goes goesTo
@@ -79,6 +63,7 @@ goer b from to g =
       there = w .1;
       at = e;
       away = λ q. refuted (reaches-own (occupied b) (m .kind) (m .square)) (subst (λ (z : ℕ). T (reaches (occupied b) (m .kind) (m .square) z)) (sym (e ∙ q)) (and-right (own && at) hit (w .2)));
+      on = subst (λ (z : ℕ). z < 64) e (reaches-squares (occupied b) (m .kind) (m .square) to (and-right (own && at) hit (w .2)) .0);
     }
 
 occupied-in : (b : Board) (u : ℕ) (m : Piece) → m ∈ pieces b → u ≡ m .square → T (occupied b u)
@@ -177,7 +162,7 @@ check-after : (b : Board) (from to side : ℕ) → inCheck (moved b from to) sid
 unfolding inCheck
 check-after b from to side = ap (attacked (moved b from to) (1 - side)) (king-carried b from to side)
 
-module _ (b : Board) (from : ℕ) (alone : stands b (1 - b .side) from ≡ false) where
+module _ (b : Board) (from : ℕ) (alone : from < 64 → stands b (1 - b .side) from ≡ false) where
   -- the king: where nobody attacks with him lifted off the board
   pub king-moves : king b (b .side) ≡ from → (t : ℕ)
       → canMove b from t ≡ (goes b from t && not (stands b (b .side) t) && not (attackedOver (lifted (occupied b) from) b (1 - b .side) t))
@@ -189,8 +174,8 @@ module _ (b : Board) (from : ℕ) (alone : stands b (1 - b .side) from ≡ false
           let g = goer b from t h in
           check-after b from t (b .side)
           ∙ rw (eq-eqb (king b (b .side)) from e)
-          (same-test (attacked (moved b from t) (1 - b .side) t) (attackedOver (lifted (occupied b) from) b (1 - b .side) t) (attack-before b from t g (1 - b .side) alone t)
-          (attack-after b from t g (1 - b .side) alone))
+          (same-test (attacked (moved b from t) (1 - b .side) t) (attackedOver (lifted (occupied b) from) b (1 - b .side) t) (attack-before b from t g (1 - b .side) (alone (g .on)) t)
+          (attack-after b from t g (1 - b .side) (alone (g .on))))
 
   -- another piece whose king nobody attacks with it lifted off the board: anywhere
   pub free-moves : (king b (b .side) ≡ from → ⊥) → attackedOver (lifted (occupied b) from) b (1 - b .side) (king b (b .side)) ≡ false → (t : ℕ)
@@ -203,4 +188,4 @@ module _ (b : Board) (from : ℕ) (alone : stands b (1 - b .side) from ≡ false
           let g = goer b from t h in
           check-after b from t (b .side)
           ∙ rw (ne-eqb (king b (b .side)) from n)
-          (fails (attacked (moved b from t) (1 - b .side) (king b (b .side))) (λ a. refuted e (attack-before b from t g (1 - b .side) alone (king b (b .side)) a)))
+          (fails (attacked (moved b from t) (1 - b .side) (king b (b .side))) (λ a. refuted e (attack-before b from t g (1 - b .side) (alone (g .on)) (king b (b .side)) a)))
