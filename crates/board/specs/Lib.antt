@@ -4,6 +4,7 @@ pub mod Sets
 pub mod SquareLaws
 pub mod LineLaws
 pub mod ReachLaws
+pub mod Blocking
 pub mod SetLaws
 pub mod LowestLaws
 pub mod SweepLaws

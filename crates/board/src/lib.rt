@@ -7,6 +7,7 @@ pub use lines::shift;
 pub use lines::targets;
 pub use sets::has;
 pub use sets::lowest;
+pub use sets::minus;
 pub use sets::one;
 pub use sets::size;
 pub use sets::with;

@@ -33,11 +33,18 @@ pub fn with(set: u64, s: u8) -> u64
     set | one(s)
 }
 
+// The squares of one set that another does not hold.
+pub fn minus(set: u64, other: u64) -> u64
+    ensures { λ r. ⌜ r ≡ setOf (λ (u : ℕ). holds set u && not (holds other u)) ⌝ }
+{
+    set & !other
+}
+
 // The set with the square taken out.
 pub fn without(set: u64, s: u8) -> u64
     ensures { λ r. ⌜ r ≡ setOf (λ (u : ℕ). holds set u && not (eqb u s)) ⌝ }
 {
-    set & !one(s)
+    minus(set, one(s))
 }
 
 // How many squares the set holds.

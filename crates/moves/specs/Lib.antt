@@ -1,0 +1,6 @@
+pub mod Setups
+pub mod Making
+pub mod Over
+pub mod Pieces
+pub mod Lifted
+pub mod Targets
