@@ -1,3 +1,6 @@
 pub mod Kings
 pub mod Normal
 pub mod Number
+pub mod KingMaps
+pub mod PairLaws
+pub mod MenLaws
