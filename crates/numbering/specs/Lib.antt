@@ -4,3 +4,6 @@ pub mod Number
 pub mod KingMaps
 pub mod PairLaws
 pub mod MenLaws
+pub mod Standing
+pub mod NormalLaws
+pub mod ClassLaws

@@ -1,0 +1,63 @@
+-- Boards that have a number: of one ending, all pieces on the board, the kings apart. Assumes nothing.
+use mathlib.Core.Path.{_≡_, refl, ap, _∙_}
+use mathlib.Core.Bool.{Bool, false, not, _&&_, xor}
+use mathlib.Core.List.{List, [], _∷_, map}
+use Prim.Native.Nat.{ℕ, _<_}
+use lib.Dec.{T, ltb, eqb, ltb→lt}
+use Rattle.finite.specs.Truth.{and-left, and-right}
+use Rattle.finite.specs.Members.{all}
+use Rattle.board.specs.Reach.{reaches}
+use Rattle.symmetry.specs.Symmetry.{Symmetry, mapped, inverse, composed}
+use Rattle.symmetry.specs.SymmetryLaws.{ltb-mapped}
+use Rattle.rules.specs.declared.Piece.{Piece}
+use Rattle.rules.specs.Rules.{Board}
+use Rattle.rules.specs.Changed.{swapped, changedPiece, changed, changed-composed}
+use Rattle.numbering.specs.Kings.{separate}
+use Rattle.numbering.specs.Number.{unplaced, endingOf}
+use Rattle.numbering.specs.KingMaps.{separate-mapped}
+use Rattle.numbering.specs.MenLaws.{onBoard}
+
+pub record Standing (ending : List Piece) (b : Board) : Type 0 where
+  pub men : endingOf b ≡ ending
+  pub side : b .side < 2
+  pub squares : T (all onBoard (b .men))
+  pub kings : T (separate (b .white) (b .black))
+
+pub separate-white : (white black : ℕ) → T (separate white black) → white < 64
+unfolding separate
+separate-white white black t =
+    let a = ltb white 64 && ltb black 64 in
+    let c = a && not (eqb white black) in
+    ltb→lt white 64 (and-left (ltb white 64) (ltb black 64) (and-left a (not (eqb white black)) (and-left c (not (reaches (λ s. false) 5 white black)) t)))
+
+pub separate-black : (white black : ℕ) → T (separate white black) → black < 64
+unfolding separate
+separate-black white black t =
+    let a = ltb white 64 && ltb black 64 in
+    let c = a && not (eqb white black) in
+    ltb→lt black 64 (and-right (ltb white 64) (ltb black 64) (and-left a (not (eqb white black)) (and-left c (not (reaches (λ s. false) 5 white black)) t)))
+
+-- ---- the maps keep them
+
+unplaced-mapped : (m : Symmetry) (l : List Piece) → map unplaced (map (changedPiece m false) l) ≡ map unplaced l
+unfolding swapped
+unplaced-mapped m [] = refl
+unplaced-mapped m (a ∷ l) = ap (λ (k : List Piece). unplaced a ∷ k) (unplaced-mapped m l)
+
+squares-mapped : (m : Symmetry) (l : List Piece) → all onBoard (map (changedPiece m false) l) ≡ all onBoard l
+unfolding all
+squares-mapped m [] = refl
+squares-mapped m (a ∷ l) = rw (ltb-mapped m (a .square), squares-mapped m l)
+
+pub standing-mapped : {ending : List Piece} (m : Symmetry) (b : Board) → Standing ending b → Standing ending (changed m false b)
+unfolding changed swapped endingOf
+standing-mapped m b s = record {
+  men = unplaced-mapped m (b .men) ∙ s .men;
+  side = s .side;
+  squares = rw (squares-mapped m (b .men)) (s .squares);
+  kings = rw (separate-mapped m (b .white) (b .black)) (s .kings);
+}
+
+pub maps-compose : (m n : Symmetry) (b : Board) → changed n false (changed m false b) ≡ changed (composed m n) false b
+unfolding xor
+maps-compose m n b = changed-composed m n false false b
