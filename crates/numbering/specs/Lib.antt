@@ -7,3 +7,4 @@ pub mod MenLaws
 pub mod Standing
 pub mod NormalLaws
 pub mod ClassLaws
+pub mod AtLaws

@@ -7,11 +7,12 @@ use lib.Dec.{T, ltb, eqb, ltb→lt}
 use Rattle.finite.specs.Truth.{and-left, and-right}
 use Rattle.finite.specs.Members.{all}
 use Rattle.board.specs.Reach.{reaches}
-use Rattle.symmetry.specs.Symmetry.{Symmetry, mapped, inverse, composed}
+use Rattle.symmetry.specs.Symmetry.{Symmetry, composed}
 use Rattle.symmetry.specs.SymmetryLaws.{ltb-mapped}
 use Rattle.rules.specs.declared.Piece.{Piece}
 use Rattle.rules.specs.Rules.{Board}
 use Rattle.rules.specs.Changed.{swapped, changedPiece, changed, changed-composed}
+use Rattle.rules.specs.ChangedRules.{all-map}
 use Rattle.numbering.specs.Kings.{separate}
 use Rattle.numbering.specs.Number.{unplaced, endingOf}
 use Rattle.numbering.specs.KingMaps.{separate-mapped}
@@ -44,17 +45,12 @@ unfolding swapped
 unplaced-mapped m [] = refl
 unplaced-mapped m (a ∷ l) = ap (λ (k : List Piece). unplaced a ∷ k) (unplaced-mapped m l)
 
-squares-mapped : (m : Symmetry) (l : List Piece) → all onBoard (map (changedPiece m false) l) ≡ all onBoard l
-unfolding all
-squares-mapped m [] = refl
-squares-mapped m (a ∷ l) = rw (ltb-mapped m (a .square), squares-mapped m l)
-
 pub standing-mapped : {ending : List Piece} (m : Symmetry) (b : Board) → Standing ending b → Standing ending (changed m false b)
 unfolding changed swapped endingOf
 standing-mapped m b s = record {
   men = unplaced-mapped m (b .men) ∙ s .men;
   side = s .side;
-  squares = rw (squares-mapped m (b .men)) (s .squares);
+  squares = rw (all-map m false onBoard onBoard (λ a. ltb-mapped m (a .square)) (b .men)) (s .squares);
   kings = rw (separate-mapped m (b .white) (b .black)) (s .kings);
 }
 
