@@ -6,17 +6,17 @@ use Prim.Native.Nat.{ℕ, _+_, _*_, _/_, _%_, _<_}
 use native.Mathlib.Nat.{mul-assoc}
 use native.Mathlib.Omega.{arith}
 use lib.Dec.{T, lt→ltb}
-use Rattle.finite.specs.Truth.{and-left, and-right, and-both}
+use Rattle.finite.specs.Truth.{and-right, and-both}
 use Rattle.finite.specs.Members.{all}
 use Rattle.rules.specs.declared.Piece.{Piece}
 use Rattle.rules.specs.Rules.{Board, pieceOf, pieces, apart}
 use Rattle.rules.specs.ChangedRules.{apart-changed}
-use Rattle.numbering.specs.Kings.{cornered, separate, kingRule, pairOf, kingsOf}
+use Rattle.numbering.specs.Kings.{kingRule, pairOf, kingsOf}
 use Rattle.numbering.specs.Normal.{normal, normalMap, normalised}
 use Rattle.numbering.specs.Number.{keyFrom, keyOf, numberOf, unplaced, endingOf, spread, leading, menAt, boardAt, used}
 use Rattle.numbering.specs.PairLaws.{KingsOf, kings-of}
 use Rattle.numbering.specs.MenLaws.{onBoard}
-use Rattle.numbering.specs.Standing.{Standing}
+use Rattle.numbering.specs.Standing.{Standing, ruled-separate}
 use Rattle.numbering.specs.NormalLaws.{normal-kings, normalised-standing, normalised-normal}
 use Rattle.numbering.specs.ClassLaws.{key-own, number-lt, normal-number}
 
@@ -65,12 +65,12 @@ ruled-at ending n = kings-at ending n .ruled
 
 -- a list of men is an ending where it is some board's
 pub standing-at : (ending : List Piece) (n : ℕ) → map unplaced ending ≡ ending → n < 924 * spread ending → Standing ending (boardAt ending n)
-unfolding boardAt endingOf kingRule
+unfolding boardAt endingOf
 standing-at ending n p h =
     let k = leading-lt ending n 924 h in
     let w = kingsOf (leading ending n % 462) / 64 in
     let b = kingsOf (leading ending n % 462) % 64 in
-    record { men = men-unplaced ending n ∙ p; side = omega arith; squares = men-on ending n; kings = and-right (cornered w b) (separate w b) (ruled-at ending n) }
+    record { men = men-unplaced ending n ∙ p; side = omega arith; squares = men-on ending n; kings = ruled-separate w b (ruled-at ending n) }
 
 -- a used number leads back to a board that bears it
 pub used-number : (ending : List Piece) (n : ℕ) → map unplaced ending ≡ ending → n < 924 * spread ending → T (used (boardAt ending n)) → numberOf (boardAt ending n) ≡ n

@@ -16,7 +16,7 @@ use Rattle.numbering.specs.Normal.{firstAbove, normal, turn, swaps, norm
 use Rattle.numbering.specs.Number.{keyOf}
 use Rattle.numbering.specs.KingMaps.{kingMap, king-map-corners, king-map-chooses, swapping, kings-still}
 use Rattle.numbering.specs.MenLaws.{onBoard, swap-raises, swap-lowers}
-use Rattle.numbering.specs.Standing.{Standing, separate-white, separate-black, standing-mapped, maps-compose}
+use Rattle.numbering.specs.Standing.{Standing, ruled-cornered, separate-white, separate-black, standing-mapped, maps-compose}
 
 -- ---- the parts of `normal`
 
@@ -110,10 +110,7 @@ key-kept e b t n d =
     (swap-raises e (b .men) (b .side * 462 + pairOf (b .white) (b .black)) t (λ x. normal-men b n (d x)))
 
 pub normal-least : {ending : List Piece} (m : Symmetry) (b : Board) → Standing ending b → T (normal b) → T (kingRule (mapped m (b .white)) (mapped m (b .black))) → keyOf b ≤ keyOf (changed m false b)
-unfolding kingRule
 normal-least m b s n t =
-    let w = mapped m (b .white) in
-    let k = mapped m (b .black) in
     let still = kings-still (b .white) (b .black) m (separate-white (b .white) (b .black) (s .kings)) (separate-black (b .white) (b .black) (s .kings))
-    (and-left (cornered (b .white) (b .black)) (separate (b .white) (b .black)) (normal-kings b n)) (and-left (cornered w k) (separate w k) t) in
+    (ruled-cornered (b .white) (b .black) (normal-kings b n)) (ruled-cornered (mapped m (b .white)) (mapped m (b .black)) t) in
     subst⁻¹ (λ (x : Symmetry). keyOf b ≤ keyOf (changed x false b)) (still .only) (key-kept (m .swap) b (s .squares) n (still .diagonals))

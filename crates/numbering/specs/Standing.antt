@@ -4,7 +4,7 @@ use mathlib.Core.Bool.{Bool, false, not, _&&_, xor}
 use mathlib.Core.List.{List, [], _∷_, map}
 use Prim.Native.Nat.{ℕ, _<_}
 use lib.Dec.{T, ltb, eqb, ltb→lt}
-use Rattle.finite.specs.Truth.{and-left, and-right}
+use Rattle.finite.specs.Truth.{and-left, and-right, implies}
 use Rattle.finite.specs.Members.{all}
 use Rattle.board.specs.Reach.{reaches}
 use Rattle.symmetry.specs.Symmetry.{Symmetry, composed}
@@ -13,7 +13,7 @@ use Rattle.rules.specs.declared.Piece.{Piece}
 use Rattle.rules.specs.Rules.{Board}
 use Rattle.rules.specs.Changed.{swapped, changedPiece, changed, changed-composed}
 use Rattle.rules.specs.ChangedRules.{all-map}
-use Rattle.numbering.specs.Kings.{separate}
+use Rattle.numbering.specs.Kings.{above, onDiagonal, inTriangle, cornered, separate, kingRule}
 use Rattle.numbering.specs.Number.{unplaced, endingOf}
 use Rattle.numbering.specs.KingMaps.{separate-mapped}
 use Rattle.numbering.specs.MenLaws.{onBoard}
@@ -37,6 +37,20 @@ separate-black white black t =
     let a = ltb white 64 && ltb black 64 in
     let c = a && not (eqb white black) in
     ltb→lt black 64 (and-right (ltb white 64) (ltb black 64) (and-left a (not (eqb white black)) (and-left c (not (reaches (λ s. false) 5 white black)) t)))
+
+-- ---- what the king rule says
+
+pub ruled-cornered : (white black : ℕ) → T (kingRule white black) → T (cornered white black)
+unfolding kingRule
+ruled-cornered white black t = and-left (cornered white black) (separate white black) t
+
+pub ruled-separate : (white black : ℕ) → T (kingRule white black) → T (separate white black)
+unfolding kingRule
+ruled-separate white black t = and-right (cornered white black) (separate white black) t
+
+pub ruled-triangle : (white black : ℕ) → T (kingRule white black) → T (inTriangle white)
+unfolding cornered
+ruled-triangle white black t = and-left (inTriangle white) (implies (onDiagonal white) (not (above black))) (ruled-cornered white black t)
 
 -- ---- the maps keep them
 
