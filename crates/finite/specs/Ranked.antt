@@ -89,6 +89,16 @@ selected ok (suc n) q h =
     (let s = selected ok n q (left (ok n) (rank ok n) q h f) in
     record { passes = s .passes; ranked = s .ranked; under = omega arith }))
 
+-- from that count on, none is selected
+pub select-none : (ok : ℕ → Bool) (n q : ℕ) → rank ok n ≤ q → select ok n q ≡ 0
+unfolding rank select
+select-none ok zero q h = refl
+select-none ok (suc n) q h =
+    let g = step (ok n) (rank ok n) in
+    cond-false (ok n && eqb (rank ok n) q) n (select ok n q)
+    (λ p. let e = eqb→eq (rank ok n) q (and-right (ok n) (eqb (rank ok n) q) p) in let t = taken (ok n) (rank ok n) (and-left (ok n) (eqb (rank ok n) q) p) in omega arith)
+    ∙ select-none ok n q (omega arith)
+
 -- one pass over the numbers below n, with the rank so far carried along: f passes at each number and its rank
 unfoldable pub pass : (ℕ → Bool) → (ℕ → ℕ → Bool) → ℕ → ℕ → ℕ → Bool
 pass ok f zero k c = true

@@ -1,3 +1,10 @@
 pub mod Kings
 pub mod Normal
 pub mod Number
+pub mod KingMaps
+pub mod PairLaws
+pub mod MenLaws
+pub mod Standing
+pub mod NormalLaws
+pub mod ClassLaws
+pub mod AtLaws

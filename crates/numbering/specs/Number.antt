@@ -23,6 +23,13 @@ keyOf b = keyFrom (b .side * 462 + pairOf (b .white) (b .black)) (b .men)
 unfoldable pub numberOf : Board → ℕ
 numberOf b = keyOf (normalised b)
 
+-- the men of a board, whatever their squares: its ending
+abbrev pub unplaced : Piece → Piece
+unplaced m = pieceOf (m .kind) (m .colour) 0
+
+unfoldable pub endingOf : Board → List Piece
+endingOf b = map unplaced (b .men)
+
 -- how many numbers the men give each number of kings and side
 unfoldable pub spread : List Piece → ℕ
 spread [] = 1
@@ -30,11 +37,7 @@ spread (m ∷ ms) = 64 * spread ms
 
 -- the least key that a map gives whose image has its kings by the rule; 924 x 64 .. where there is none
 unfoldable pub leastKey : Board → ℕ
-leastKey b = least (λ m. changed m false) (λ c. kingRule (c .white) (c .black)) keyOf (924 * spread (b .men)) symmetries b
-
--- the men of a board, whatever their squares: its ending
-unfoldable pub endingOf : Board → List Piece
-endingOf b = map (λ m. pieceOf (m .kind) (m .colour) 0) (b .men)
+leastKey b = least (λ m. changed m false) (λ c. kingRule (c .white) (c .black)) keyOf (924 * spread (endingOf b)) symmetries b
 
 -- a number without its last digits, one for each man
 unfoldable pub leading : List Piece → ℕ → ℕ

@@ -1,13 +1,13 @@
 -- The board under one of the eight maps, with the colours exchanged or not: sixteen changes, each taken back by one of them. Assumes nothing.
 use mathlib.Core.Path.{_≡_, refl, sym, ap, _∙_}
-use mathlib.Core.Bool.{Bool, true, false, cond}
+use mathlib.Core.Bool.{Bool, true, false, cond, xor}
 use mathlib.Core.List.{List, [], _∷_, map}
 use Prim.Native.Nat.{ℕ, zero, suc, _-_, _<_}
 use native.Mathlib.Omega.{arith}
 use lib.Dec.{T, eqb, ltb, eqb→eq, eqb-refl}
 use Rattle.finite.specs.Truth.{same-test}
-use Rattle.symmetry.specs.Symmetry.{Symmetry, mapped, inverse}
-use Rattle.symmetry.specs.SymmetryLaws.{mapped-inverse, inverse-inverse}
+use Rattle.symmetry.specs.Symmetry.{Symmetry, mapped, inverse, composed}
+use Rattle.symmetry.specs.SymmetryLaws.{mapped-inverse, inverse-inverse, mapped-composed}
 use Rattle.rules.specs.declared.Piece.{Piece}
 use Rattle.rules.specs.Rules.{Board, pieceOf}
 
@@ -94,3 +94,27 @@ changed-back m x b = board-eq (swapped-twice x (b .side)) (white x) (black x) (m
 
 pub changed-forth : (m : Symmetry) (x : Bool) (b : Board) → changed m x (changed (inverse m) x b) ≡ b
 changed-forth m x b = rw (inverse-inverse m) at (changed-back (inverse m) x b)
+
+-- ---- two changes in turn are one of the sixteen
+
+swapped-composed : (x y : Bool) (s : ℕ) → swapped y (swapped x s) ≡ swapped (xor x y) s
+unfolding swapped xor
+swapped-composed true true s = other-other s
+swapped-composed true false s = refl
+swapped-composed false true s = refl
+swapped-composed false false s = refl
+
+men-composed : (m n : Symmetry) (x y : Bool) (l : List Piece) → map (changedPiece n y) (map (changedPiece m x) l) ≡ map (changedPiece (composed m n) (xor x y)) l
+men-composed m n x y [] = refl
+men-composed m n x y (a ∷ l) = rw (swapped-composed x y (a .colour), mapped-composed m n (a .square), men-composed m n x y l)
+
+pub changed-composed : (m n : Symmetry) (x y : Bool) (b : Board) → changed n y (changed m x b) ≡ changed (composed m n) (xor x y) b
+unfolding changed xor
+changed-composed m n x y b =
+    board-eq (swapped-composed x y (b .side)) (king x y (b .white) (b .black)) (king x y (b .black) (b .white)) (men-composed m n x y (b .men))
+  where
+    king : (x y : Bool) (a c : ℕ) → mapped n (cond y (mapped m (cond x a c)) (mapped m (cond x c a))) ≡ mapped (composed m n) (cond (xor x y) c a)
+    king true true a c = mapped-composed m n a
+    king true false a c = mapped-composed m n c
+    king false true a c = mapped-composed m n c
+    king false false a c = mapped-composed m n a

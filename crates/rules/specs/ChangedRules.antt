@@ -24,7 +24,7 @@ module _ (m : Symmetry) (x : Bool) where
   any-map f g h [] = refl
   any-map f g h (a ∷ l) = rw (h a, any-map f g h l)
 
-  all-map : (f g : Piece → Bool) → ((a : Piece) → f (changedPiece m x a) ≡ g a) → (l : List Piece) → all f (map (changedPiece m x) l) ≡ all g l
+  pub all-map : (f g : Piece → Bool) → ((a : Piece) → f (changedPiece m x a) ≡ g a) → (l : List Piece) → all f (map (changedPiece m x) l) ≡ all g l
   unfolding all
   all-map f g h [] = refl
   all-map f g h (a ∷ l) = rw (h a, all-map f g h l)
@@ -115,7 +115,7 @@ unfolding apart any
 apart-front a c l =
     rw (eqb-sym (a .square) (c .square)) (apart-swap (eqb (c .square) (a .square)) (any (λ y. eqb (a .square) (y .square)) l) (any (λ y. eqb (c .square) (y .square)) l) (apart l))
 
-apart-changed : (m : Symmetry) (x : Bool) (b : Board) → apart (pieces (changed m x b)) ≡ apart (pieces b)
+pub apart-changed : (m : Symmetry) (x : Bool) (b : Board) → apart (pieces (changed m x b)) ≡ apart (pieces b)
 unfolding changed swapped other
 apart-changed m true b =
     apart-front (pieceOf 5 0 (mapped m (b .black))) (pieceOf 5 1 (mapped m (b .white))) (map (changedPiece m true) (b .men))

@@ -48,3 +48,13 @@ symmetries =
     ∷ record { files = true; ranks = true; swap = false }
     ∷ record { files = true; ranks = true; swap = true }
     ∷ []
+
+-- the three that make up all eight, each by itself
+abbrev pub filesReversed : Symmetry
+filesReversed = record { files = true; ranks = false; swap = false }
+
+abbrev pub ranksReversed : Symmetry
+ranksReversed = record { files = false; ranks = true; swap = false }
+
+abbrev pub exchange : Symmetry
+exchange = record { files = false; ranks = false; swap = true }

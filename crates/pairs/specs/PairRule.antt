@@ -1,0 +1,82 @@
+-- The rule of the 640-entry list, over the whole of it: each entry is the pair of its two squares or says that there is none; the pairs rise, are
+-- below 462, and each stands once. Assumes nothing.
+use mathlib.Core.Path.{_≡_, refl, ap, subst, sym, _∙_}
+use mathlib.Core.Bool.{Bool, not, _&&_}
+use Prim.Native.Nat.{ℕ, _+_, _*_, _<_}
+use native.Mathlib.Omega.{arith}
+use lib.Dec.{T, eqb, eqb→eq, ltb, ltb→lt}
+use lib.ListN.{getD}
+use borrow.Author.Tests.{ne-eqb}
+use Rattle.finite.specs.Truth.{and-left, and-right, implies, implied, of-true}
+use Rattle.finite.specs.Below.{allBelow, below}
+use Rattle.finite.specs.Ranked.{rank, select, pass, passed, rank-rises, rank-one, Selected, selected}
+use Rattle.numbering.specs.Kings.{pairOf}
+use Rattle.pairs.specs.Tables.{whites, slots, pairs}
+use Rattle.pairs.specs.TableLaws.{entry-pair}
+
+-- ---- equal to the definition
+
+slot-back : ℕ → Bool
+slot-back j = ltb (getD whites j 0) 28 && eqb (getD slots (getD whites j 0) 0) j
+
+all-back : T (allBelow slot-back 10)
+unfolding allBelow slot-back slots
+all-back = tt
+
+pub entry-is : (slot black : ℕ) → slot < 10 → black < 64 → getD pairs (slot * 64 + black) 0 ≡ pairOf (getD whites slot 0) black
+unfolding slot-back
+entry-is slot black h k =
+    let w = getD whites slot 0 in
+    let t = below slot-back 10 all-back slot h in
+    let e = eqb→eq (getD slots w 0) slot (and-right (ltb w 28) (eqb (getD slots w 0) slot) t) in
+    subst (λ (i : ℕ). getD pairs (i * 64 + black) 0 ≡ pairOf w black) e
+    (entry-pair w black (ltb→lt w 28 (and-left (ltb w 28) (eqb (getD slots w 0) slot) t)) k (omega arith))
+
+-- ---- rising, in range, each once
+
+-- the entry is a pair
+unfoldable pub present : ℕ → Bool
+present i = not (eqb (getD pairs i 0) 65535)
+
+counts : ℕ → ℕ → Bool
+counts i c = implies (present i) (eqb (getD pairs i 0) c)
+
+all-count : T (pass present counts 640 0 0)
+unfolding pass counts present pairs
+all-count = tt
+
+present-count : rank present 640 ≡ 462
+unfolding rank present pairs
+present-count = refl
+
+-- an entry is the count of those before it
+entry-rank : (i : ℕ) → i < 640 → T (present i) → getD pairs i 0 ≡ rank present i
+unfolding counts
+entry-rank i h t = eqb→eq (getD pairs i 0) (rank present i) (implied (present i) (eqb (getD pairs i 0) (rank present i)) (passed present counts 640 all-count i h) t)
+
+pub entries-rise : (i j : ℕ) → i < j → j < 640 → T (present i) → T (present j) → getD pairs i 0 < getD pairs j 0
+entries-rise i j h k s t = rw (entry-rank i (omega arith) s, entry-rank j k t) (rank-rises present i j s h)
+
+pub entry-range : (i : ℕ) → i < 640 → T (present i) → getD pairs i 0 < 462
+entry-range i h t = rw (entry-rank i h t, ← present-count) (rank-rises present i 640 t h)
+
+pub record Once (pair : ℕ) : Type 0 where
+  pub at : ℕ
+  pub under : at < 640
+  pub holds : getD pairs at 0 ≡ pair
+  pub only : (j : ℕ) → j < 640 → getD pairs j 0 ≡ pair → j ≡ at
+
+pub entry-once : (pair : ℕ) → pair < 462 → Once pair
+unfolding present
+entry-once pair h =
+    let s = selected present 640 pair (rw present-count h) in
+    let i = select present 640 pair in
+    let e = entry-rank i (s .under) (s .passes) ∙ s .ranked in
+    record {
+      at = i;
+      under = s .under;
+      holds = e;
+      only = λ j k f.
+          let t = of-true (ap not (ne-eqb (getD pairs j 0) 65535 (λ z. absurd (omega arith)))) in
+          rank-one present j i t (s .passes) (sym (entry-rank j k t) ∙ f ∙ sym (s .ranked));
+    }

@@ -1,0 +1,151 @@
+-- The rule of the constant lists, shown once over each whole list: one pass over all pairs of squares, which antt computes. Assumes nothing.
+use mathlib.Core.Path.{_≡_, subst, sym}
+use mathlib.Core.Bool.{Bool, true, false, not, cond, _&&_}
+use Prim.Native.Nat.{ℕ, zero, suc, _+_, _-_, _*_, _/_, _%_, _<_, _≤_}
+use native.Mathlib.Omega.{arith}
+use lib.Dec.{T, eqb, eqb→eq, ltb, ltb→lt, nltb→le, leb}
+use lib.ListN.{getD}
+use borrow.Author.Tests.{le-leb, lt-leb}
+use Rattle.finite.specs.Truth.{and-left, and-right, implies, implied, by-test, cond-true, cond-false}
+use Rattle.finite.specs.Members.{any}
+use Rattle.finite.specs.Numbers.{numbers}
+use Rattle.finite.specs.Below.{allBelow, below}
+use Rattle.finite.specs.Ranked.{rank, select, pass, passed, selected, select-none}
+use Rattle.board.specs.Square.{stays, shift}
+use Rattle.board.specs.Reach.{line, reaches}
+use Rattle.numbering.specs.Kings.{above, inTriangle, cornered, separate, kingRule, kingPair, pairOf, kingsOf}
+use Rattle.numbering.specs.PairLaws.{pair-count}
+use Rattle.numbering.specs.Standing.{separate-black, ruled-separate, ruled-triangle}
+use Rattle.pairs.specs.Tables.{whites, firsts, slots, rowFrom, rowOf, blacks, pairs}
+
+-- ---- the ten white squares
+
+slot-right : ℕ → Bool
+slot-right s = cond (inTriangle s) (ltb (getD slots s 0) 10 && eqb (getD whites (getD slots s 0) 0) s) (eqb (getD slots s 0) 10)
+
+all-slots : T (allBelow slot-right 28)
+unfolding allBelow slot-right slots
+all-slots = tt
+
+first-right : ℕ → Bool
+first-right j = eqb (rank kingPair (getD whites j 0 * 64)) (getD firsts j 0)
+
+all-firsts : T (allBelow first-right 10)
+unfolding allBelow first-right rank kingPair kingRule cornered separate reaches any numbers line shift stays
+all-firsts = tt
+
+-- the first pair of each row, as 01's table has it
+pub first-pair : (j : ℕ) → j < 10 → rank kingPair (getD whites j 0 * 64) ≡ getD firsts j 0
+unfolding first-right
+first-pair j h = eqb→eq (rank kingPair (getD whites j 0 * 64)) (getD firsts j 0) (below first-right 10 all-firsts j h)
+
+-- ---- both lists of pairs, in one pass over the squares of both kings, with the number of pairs so far carried along
+
+abbrev entry : ℕ → ℕ → ℕ
+entry white black = getD pairs (getD slots white 0 * 64 + black) 0
+
+abbrev kingsAt : ℕ → ℕ
+kingsAt pair = getD whites (rowOf pair) 0 * 64 + getD blacks pair 0
+
+right : ℕ → ℕ → Bool
+right k c = implies (inTriangle (k / 64)) (eqb (entry (k / 64) (k % 64)) (cond (kingPair k) c 65535)) && implies (kingPair k) (eqb (kingsAt c) k)
+
+all-right : T (pass kingPair right 4096 0 0)
+unfolding pass right pairs slots blacks rowFrom kingPair kingRule cornered separate reaches any numbers line shift stays
+all-right = tt
+
+right-at : (k : ℕ) → k < 4096 → T (right k (rank kingPair k))
+right-at k h = passed kingPair right 4096 all-right k h
+
+-- ---- from squares to pair
+
+pub no-pair : (white black : ℕ) → (T (kingRule white black) → ⊥) → 65535 ≡ pairOf white black
+unfolding pairOf
+no-pair white black f = sym (cond-false (kingRule white black) (rank kingPair (white * 64 + black)) 65535 f)
+
+-- a white square past d4, a black one off the board, and a white one outside the triangle have none
+pub past-d4 : (white black : ℕ) → 28 ≤ white → T (kingRule white black) → ⊥
+past-d4 white black h t =
+    let w = ruled-triangle white black t in
+    omega (arith, ltb→lt (white % 8) 4 (and-left (ltb (white % 8) 4) (not (above white)) w), nltb→le (white % 8) (white / 8) (and-right (ltb (white % 8) 4) (not (above white)) w))
+
+pub off-board : (white black : ℕ) → 64 ≤ black → T (kingRule white black) → ⊥
+off-board white black h t = omega (arith, separate-black white black (ruled-separate white black t))
+
+slot-cases : (white : ℕ) → white < 28 → T (slot-right white)
+slot-cases white h = below slot-right 28 all-slots white h
+
+pub outside : (white black : ℕ) → white < 28 → 10 ≤ getD slots white 0 → T (kingRule white black) → ⊥
+unfolding slot-right
+outside white black h k t =
+    let i = inTriangle white in
+    let l = ltb (getD slots white 0) 10 in
+    let s = subst T (cond-true i (l && eqb (getD whites (getD slots white 0) 0) white) (eqb (getD slots white 0) 10) (ruled-triangle white black t)) (slot-cases white h) in
+    omega (arith, ltb→lt (getD slots white 0) 10 (and-left l (eqb (getD whites (getD slots white 0) 0) white) s))
+
+inside : (white : ℕ) → white < 28 → getD slots white 0 < 10 → T (inTriangle white)
+unfolding slot-right
+inside white h k =
+    let i = inTriangle white in
+    by-test i (λ t. t)
+    (λ f. let e = eqb→eq (getD slots white 0) 10 (subst T (cond-false i (ltb (getD slots white 0) 10 && eqb (getD whites (getD slots white 0) 0) white) (eqb (getD slots white 0) 10) f) (slot-cases white h)) in absurd (omega arith))
+
+-- the entry of any other two squares is their pair, or says that there is none
+pub entry-pair : (white black : ℕ) → white < 28 → black < 64 → getD slots white 0 < 10 → entry white black ≡ pairOf white black
+unfolding right pairOf kingPair
+entry-pair white black h k l =
+    let n : ℕ = white * 64 + black in
+    let q : n / 64 ≡ white = omega arith in
+    let r : n % 64 ≡ black = omega arith in
+    let t = rw (q, r) at (right-at n (omega arith)) in
+    let e = eqb (entry white black) (cond (kingRule white black) (rank kingPair n) 65535) in
+    eqb→eq (entry white black) (cond (kingRule white black) (rank kingPair n) 65535)
+    (implied (inTriangle white) e (and-left (implies (inTriangle white) e) (implies (kingRule white black) (eqb (kingsAt (rank kingPair n)) n)) t) (inside white h l))
+
+-- ---- from pair to squares
+
+pub record Found (pair row : ℕ) : Type 0 where
+  pub kings : getD whites row 0 * 64 + getD blacks pair 0 ≡ kingsOf pair
+  pub small : getD whites row 0 * 64 + getD blacks pair 0 < 4096
+
+-- the white square of the pair's row and the pair's black square
+pub kings-found : (pair row : ℕ) → pair < 462 → row ≡ rowOf pair → Found pair row
+unfolding right kingsOf
+kings-found pair row h e =
+    let s = selected kingPair 4096 pair (rw pair-count h) in
+    let k = select kingPair 4096 pair in
+    let u = s .under in
+    let t = rw (s .ranked) at (right-at k (s .under)) in
+    let q : kingsAt pair ≡ k = eqb→eq (kingsAt pair) k
+    (implied (kingPair k) (eqb (kingsAt pair) k)
+    (and-right (implies (inTriangle (k / 64)) (eqb (entry (k / 64) (k % 64)) (cond (kingPair k) pair 65535))) (implies (kingPair k) (eqb (kingsAt pair) k)) t) (s .passes)) in
+    rw e (record { kings = q; small = omega arith })
+
+pub no-kings : (pair : ℕ) → 462 ≤ pair → 0 ≡ kingsOf pair
+unfolding kingsOf
+no-kings pair h = sym (select-none kingPair 4096 pair (rw pair-count h))
+
+-- the row as a loop finds it
+pub row-here : (i pair : ℕ) → i < 9 → pair < getD firsts (i + 1) 0 → rowFrom (9 - i) i pair ≡ i
+unfolding rowFrom
+row-here i pair h l = let e : 9 - i ≡ suc (8 - i) = omega arith in rw (e, lt-leb (getD firsts (i + 1) 0) pair l)
+
+pub row-next : (i pair : ℕ) → i < 9 → getD firsts (i + 1) 0 ≤ pair → rowFrom (9 - i) i pair ≡ rowFrom (9 - (i + 1)) (i + 1) pair
+unfolding rowFrom
+row-next i pair h l = let e : 9 - i ≡ suc (9 - (i + 1)) = omega arith in rw (e, le-leb (getD firsts (i + 1) 0) pair l)
+
+pub row-last : (i pair : ℕ) → 9 ≤ i → rowFrom (9 - i) i pair ≡ i
+unfolding rowFrom
+row-last i pair h = let e : 9 - i ≡ 0 = omega arith in rw e
+
+row-grows : (n i pair : ℕ) → rowFrom n i pair < i + n + 1
+unfolding rowFrom
+row-grows zero i pair = omega arith
+row-grows (suc n) i pair = pick (leb (getD firsts (i + 1) 0) pair) (rowFrom n (i + 1) pair) (row-grows n (i + 1) pair)
+  where
+    pick : (b : Bool) (r : ℕ) → r < i + 1 + n + 1 → cond b r i < i + suc n + 1
+    pick true r h = omega arith
+    pick false r h = omega arith
+
+pub row-lt : (pair : ℕ) → rowOf pair < 10
+row-lt pair = row-grows 9 0 pair

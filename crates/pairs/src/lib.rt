@@ -1,0 +1,6 @@
+// The 462 pairs of kings, in rising order of white king's square, then black king's.
+mod back;
+mod forth;
+
+pub use back::kings_of;
+pub use forth::pair_of;
