@@ -1,3 +1,4 @@
 pub mod Keyed
 pub mod Maps
 pub mod MapLaws
+pub mod PlacedLaws
