@@ -32,7 +32,7 @@ normal-men b t d =
 
 -- ---- normalising in two steps: the reversals, and then the exchange where it is called for
 
-turn-then : (white : ℕ) (e : Bool) → composed (turn white) (swapping e) ≡ record { files = turn white .files; ranks = turn white .ranks; swap = e }
+pub turn-then : (white : ℕ) (e : Bool) → composed (turn white) (swapping e) ≡ record { files = turn white .files; ranks = turn white .ranks; swap = e }
 unfolding composed turn xor
 turn-then white e = λ i. record { files = unchanged (ltb 3 (white % 8)) i; ranks = unchanged (ltb 3 (white / 8)) i; swap = from-none e i }
   where
@@ -53,7 +53,7 @@ normalised-by b = maps-compose (turn (b .white)) (swapping (swaps (turned b))) b
 
 -- ---- what the exchange leaves where it is
 
-stays-diagonal : (e : Bool) (s : ℕ) → (T e → T (onDiagonal s)) → mapped (swapping e) s ≡ s
+pub stays-diagonal : (e : Bool) (s : ℕ) → (T e → T (onDiagonal s)) → mapped (swapping e) s ≡ s
 unfolding mapped
 stays-diagonal true s d = let q = eqb→eq (s % 8) (s / 8) (d tt) in by-test (ltb s 64) (λ t. cond-true (ltb s 64) (s % 8 * 8 + s / 8) s t ∙ (let z : s % 8 * 8 + s / 8 ≡ s = omega arith in z)) (λ f. cond-false (ltb s 64) (s % 8 * 8 + s / 8) s f)
 stays-diagonal false s d = by-test (ltb s 64) (λ t. cond-true (ltb s 64) (s / 8 * 8 + s % 8) s t ∙ (let z : s / 8 * 8 + s % 8 ≡ s = omega arith in z)) (λ f. cond-false (ltb s 64) (s / 8 * 8 + s % 8) s f)

@@ -4,7 +4,7 @@ use mathlib.Core.Bool.{Bool, false, not, _&&_, xor}
 use mathlib.Core.List.{List, [], _∷_, map}
 use Prim.Native.Nat.{ℕ, _<_}
 use lib.Dec.{T, ltb, eqb, ltb→lt}
-use Rattle.finite.specs.Truth.{and-left, and-right, implies}
+use Rattle.finite.specs.Truth.{and-left, and-right, implies, false-of}
 use Rattle.finite.specs.Members.{all}
 use Rattle.board.specs.Reach.{reaches}
 use Rattle.symmetry.specs.Symmetry.{Symmetry, composed}
@@ -37,6 +37,19 @@ separate-black white black t =
     let a = ltb white 64 && ltb black 64 in
     let c = a && not (eqb white black) in
     ltb→lt black 64 (and-right (ltb white 64) (ltb black 64) (and-left a (not (eqb white black)) (and-left c (not (reaches (λ s. false) 5 white black)) t)))
+
+pub separate-apart : (white black : ℕ) → T (separate white black) → eqb white black ≡ false
+unfolding separate
+separate-apart white black t =
+    let a = ltb white 64 && ltb black 64 in
+    let c = a && not (eqb white black) in
+    false-of {b = eqb white black} (and-right a (not (eqb white black)) (and-left c (not (reaches (λ s. false) 5 white black)) t))
+
+pub separate-touching : (white black : ℕ) → T (separate white black) → reaches (λ s. false) 5 white black ≡ false
+unfolding separate
+separate-touching white black t =
+    let c = ltb white 64 && ltb black 64 && not (eqb white black) in
+    false-of {b = reaches (λ s. false) 5 white black} (and-right c (not (reaches (λ s. false) 5 white black)) t)
 
 -- ---- what the king rule says
 

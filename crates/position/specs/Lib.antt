@@ -1,2 +1,4 @@
 pub mod Keyed
 pub mod Maps
+pub mod MapLaws
+pub mod PlacedLaws

@@ -1,7 +1,9 @@
-// A position as it is keyed, and the refusals it may meet.
+// A position as it is keyed, the refusals it may meet, and the position under the board's maps.
 use board::reaches;
 ghost use mathlib.Core.Path.{_≡_};
 ghost use Rattle.position.specs.Keyed.{placing};
+
+mod maps;
 
 // As keyed: any bytes may come in.
 pub struct Position {

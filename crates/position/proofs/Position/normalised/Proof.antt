@@ -1,0 +1,26 @@
+-- `Position::normalised` meets its contract: the reversals, then the exchange where it is called for. Assumes nothing.
+use mathlib.Core.Path.{sym, _∙_}
+use mathlib.Core.Bool.{true, false}
+use borrow.Author.Needs.{needs}
+use Rattle.position.specs.MapLaws.{unmoved, normal-by}
+use Rattle.position.proofs.Position.normalised.Statement.{statement}
+use Rattle.position.proofs.Position.normalised.Tie as tie
+
+turned-requires : tie.Need-turned-requires
+turned-requires c κs = search needs
+
+swaps-requires : tie.Need-swaps-requires
+swaps-requires c κs = search needs
+
+exchanged-requires : tie.Need-exchanged-requires
+exchanged-requires c κs = search needs
+
+returns : tie.Need-returns
+returns c = c .exchanged .ensures ∙ normal-by _ _ true (c .before .before .before .turned .ensures) (sym (c .before .if1 .taken) ∙ c .before .before .swaps .ensures)
+
+returns-2 : tie.Need-returns-2
+returns-2 c = sym (unmoved _) ∙ normal-by _ _ false (c .before .before .turned .ensures) (sym (c .if1 .left) ∙ c .before .swaps .ensures)
+
+pub normalised-spec : {M : Type 1} → statement M
+normalised-spec =
+    tie.close (tie.spec turned-requires swaps-requires exchanged-requires returns returns-2)
