@@ -30,7 +30,7 @@ use Rattle.answers.specs.declared.Checked.{Checked}
 use Rattle.endings.specs.Chess.{tableSize, byteOf}
 use Rattle.endings.specs.Ending.{Ending, ending-closed}
 use Rattle.endings.specs.Endings.{ending}
-use Rattle.endings.specs.IndexLaws.{standing-legal}
+use Rattle.position.specs.Legality.{legal-standing}
 use Rattle.endings.specs.Truth.{TrueAnswer}
 use Rattle.endings.specs.Answers.{checkOf, adviceOf, answerOf, lookUpOf}
 use Rattle.endings.specs.Checking.{byte-reads, keyed-ending, accepted-ending}
@@ -88,7 +88,7 @@ module _ (man : ℕ) (t : List ℕ) (ok : checkOf man t ≡ Checked.Accepted) wh
   pub look-up-answers : (p : Position) → p .man ≡ man → T (legal (boardOf p)) → lookUpOf t p ≡ answerOf (byteOf t (boardOf p)) (adviceAt (boardOf p) t)
   unfolding lookUpOf
   look-up-answers p e l =
-      let s : eqb (standing p) 0 ≡ true = sym (standing-legal p) ∙ true-of {b = legal (boardOf p)} l in
+      let s : eqb (standing p) 0 ≡ true = sym (legal-standing p) ∙ true-of {b = legal (boardOf p)} l in
       rw (s, eq-eqb (length t) tableSize (accepted-ending man t ok .1), eq-eqb (byteOf t (boardOf p)) (requiredAt chess (byteOf t) (boardOf p)) (accepted-bytes (boardOf p) (keyed-ending man p e l)))
 
   -- Look-up never refuses a legal position of the ending, and answers its true value and depth.
