@@ -2,3 +2,4 @@ pub mod Keyed
 pub mod Maps
 pub mod MapLaws
 pub mod PlacedLaws
+pub mod Legality

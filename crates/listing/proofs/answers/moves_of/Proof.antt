@@ -1,0 +1,104 @@
+use mathlib.Core.Path.{_≡_, refl, sym, ap, _∙_}
+use mathlib.Core.List.{[], flatMap}
+use Prim.Native.Nat.{ℕ, _+_, _^_, _≤_, _<_}
+use native.Mathlib.Omega.{arith}
+use lib.ListN.{length}
+use Rattle.board.specs.Sets.{has, members, setOf}
+use Rattle.board.specs.SetLaws.{members-none}
+use Rattle.rules.specs.Rules.{canMove, movesFrom, allMoves}
+use Rattle.moves.specs.Setups.{setupBoard}
+use Rattle.listing.specs.Lists.{room, listOf}
+use Rattle.listing.specs.KeyedSetup.{setup-side, setup-moves, setup-35}
+use Rattle.listing.specs.ListLaws.{appended, appended-first, appended-none, by-movers, turn-length, turn-moves, turn-count}
+use mathlib.Core.Bool.{not, _&&_}
+use lib.Dec.{eqb}
+use Rattle.board.specs.LowestLaws.{Lowest, lowest-of}
+use Rattle.listing.proofs.answers.moves_of.Statement.{statement}
+use Rattle.listing.proofs.answers.moves_of.Tie as tie
+
+abbrev Inv-loop : tie.InvT-loop
+Inv-loop s list₀ rest₀ list rest =
+    (rest < 2 ^ 64)
+    × (list .count + length (flatMap (movesFrom (canMove (setupBoard s))) (members rest)) ≤ room)
+    × (appended list (flatMap (movesFrom (canMove (setupBoard s))) (members rest)) ≡ listOf (allMoves (canMove (setupBoard s))))
+
+abbrev μ-loop : tie.MeasureT-loop
+μ-loop s list₀ rest₀ list rest = length (members rest)
+
+setup-of-requires : tie.Need-setup-of-requires Inv-loop μ-loop
+setup-of-requires c κs = tt
+
+no-moves-requires : tie.Need-no-moves-requires Inv-loop μ-loop
+no-moves-requires c κs = tt
+
+own-requires : tie.Need-own-requires Inv-loop μ-loop
+own-requires c κs = tt
+
+loop-holds : tie.Need-loop-holds Inv-loop μ-loop
+unfolding listOf
+loop-holds c =
+    let p = c .before .before .before .args .p in
+    let s = c .before .before .setup-of .result in
+    let d = by-movers (setupBoard s) (c .own .result) (c .own .ensures ∙ rw (setup-side p s (c .before .before .setup-of .ensures))) in
+    let few = setup-35 p s (c .before .before .setup-of .ensures) in
+    rw (c .before .no-moves .ensures, ← d) (c .own .ok, omega arith, appended-first (allMoves (canMove (setupBoard s))) few)
+
+lowest-requires : tie.Need-lowest-requires Inv-loop μ-loop
+lowest-requires c κs = tt
+
+legal-targets-requires : tie.Need-legal-targets-requires Inv-loop μ-loop
+legal-targets-requires c κs = tt
+
+-- what taking the lowest square out of the rest means
+low : (c : tie.After-lowest Inv-loop μ-loop) (others : ℕ) → others ≡ setOf (λ (u : ℕ). has (c .before .before .loop .rest) u && not (eqb u (c .lowest .result)))
+    → Lowest (c .before .before .loop .rest) (c .lowest .result) others
+low c others e = let i = c .before in lowest-of (i .before .loop .rest) _ _ (i .before .loop .inv .0) (i .loop-test .taken) (c .lowest .ensures) e
+
+add-moves-requires : tie.Need-add-moves-requires Inv-loop μ-loop
+add-moves-requires c κs =
+    let can = canMove (setupBoard (c .before .before .before .before .before .before .setup-of .result)) in
+    let i = c .before .before .before .loop .inv in
+    omega (arith, i .1, turn-length can _ _ _ _ (low (c .before) _ refl) (c .legal-targets .ensures))
+
+without-requires : tie.Need-without-requires Inv-loop μ-loop
+without-requires c κs = tt
+
+loop-less : tie.Need-loop-less Inv-loop μ-loop
+loop-less c = low (c .before .before .before) _ (c .without .ensures) .fewer
+
+loop-again : tie.Need-loop-again Inv-loop μ-loop
+loop-again c =
+    let can = canMove (setupBoard (c .before .before .before .before .before .before .before .before .setup-of .result)) in
+    let l = c .before .before .before .before .before .loop in
+    let w = low (c .before .before .before) _ (c .without .ensures) in
+    let e = c .before .before .legal-targets .ensures in
+    rw (c .before .add-moves .ensures) (
+      c .without .ok,
+      omega (arith, l .inv .1, turn-length can _ _ _ _ w e, turn-count can _ _ _ _ w e (l .list)),
+      turn-moves can _ _ _ _ w e (l .list) ∙ l .inv .2,
+    )
+
+returns : tie.Need-returns Inv-loop μ-loop
+unfolding flatMap
+returns c =
+    let l = c .before .loop in
+    let none : members (l .rest) ≡ [] = rw (c .loop-test .left) members-none in
+    sym (appended-none (l .list)) ∙ rw none at (l .inv .2) ∙ ap listOf (setup-moves _ _ (c .before .before .before .before .setup-of .ensures))
+
+pub moves-of-spec : {M : Type 1} → statement M
+moves-of-spec =
+    tie.close
+    (tie.spec
+    Inv-loop
+    μ-loop
+    setup-of-requires
+    no-moves-requires
+    own-requires
+    loop-holds
+    lowest-requires
+    legal-targets-requires
+    add-moves-requires
+    without-requires
+    loop-less
+    loop-again
+    returns)

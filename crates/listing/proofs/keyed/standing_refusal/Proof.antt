@@ -1,0 +1,57 @@
+use mathlib.Core.Path.{_≡_, sym, _∙_}
+use Prim.Native.Nat.{_-_}
+use Rattle.position.specs.Keyed.{boardOf, placing, standing}
+use borrow.Author.Tests.{eq-eqb, ne-eqb}
+use Rattle.rules.specs.Rules.{inCheck}
+use Rattle.listing.specs.KeyedSetup.{setup-check}
+use borrow.Author.Needs.{needs}
+use Rattle.listing.proofs.keyed.standing_refusal.Statement.{statement}
+use Rattle.listing.proofs.keyed.standing_refusal.Tie as tie
+
+placing-refusal-requires : tie.Need-placing-refusal-requires
+placing-refusal-requires c κs = search needs
+
+returns : tie.Need-returns
+unfolding standing
+returns c =
+    let e = c .before .placing-refusal .ensures in
+    e ∙ sym (rw (ne-eqb (placing (c .before .before .args .p)) 0 (λ q. c .if1 .taken (e ∙ q))))
+
+setup-of-requires : tie.Need-setup-of-requires
+setup-of-requires c κs = search needs
+
+other-requires : tie.Need-other-requires
+other-requires c κs = search needs
+
+in-check-requires : tie.Need-in-check-requires
+in-check-requires c κs = search needs
+
+-- the check that the code finds is that of the position's board
+checked : (c : tie.After-in-check) → c .in-check .result ≡ inCheck (boardOf (c .before .before .before .before .before .args .p)) (1 - c .before .before .before .before .before .args .p .side)
+checked c =
+    let p = c .before .before .before .before .before .args .p in
+    c .in-check .ensures ∙ rw (c .before .other .ensures) (setup-check p _ (c .before .before .setup-of .ensures) (1 - p .side))
+
+returns-2 : tie.Need-returns-2
+unfolding standing
+returns-2 c =
+    let e = c .before .before .before .before .before .placing-refusal .ensures in
+    sym (rw (eq-eqb (placing (c .before .before .before .before .before .before .args .p)) 0 (sym e ∙ c .before .before .before .before .if1 .left), sym (checked (c .before)) ∙ c .if2 .taken))
+
+returns-3 : tie.Need-returns-3
+unfolding standing
+returns-3 c =
+    let e = c .before .before .before .before .before .placing-refusal .ensures in
+    sym (rw (eq-eqb (placing (c .before .before .before .before .before .before .args .p)) 0 (sym e ∙ c .before .before .before .before .if1 .left), sym (checked (c .before)) ∙ c .if2 .left))
+
+pub standing-refusal-spec : {M : Type 1} → statement M
+standing-refusal-spec =
+    tie.close
+    (tie.spec
+    placing-refusal-requires
+    returns
+    setup-of-requires
+    other-requires
+    in-check-requires
+    returns-2
+    returns-3)

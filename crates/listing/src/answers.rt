@@ -1,0 +1,78 @@
+// The move list and the count of moves.
+use super::Counted;
+use super::Listed;
+use super::MoveList;
+use super::keyed::setup_of;
+use super::keyed::standing_refusal;
+use super::lists::add_moves;
+use super::lists::no_moves;
+use board::lowest;
+use board::size;
+use board::without;
+use moves::legal_targets;
+use moves::own;
+use position::Position;
+ghost use mathlib.Core.Path.{_≡_};
+ghost use lib.ListN.{length};
+ghost use Rattle.rules.specs.Rules.{moves};
+ghost use Rattle.position.specs.Keyed.{boardOf};
+ghost use Rattle.listing.specs.Lists.{listOf};
+ghost use Rattle.listing.specs.Answers.{listed, Counts};
+
+// The moves, whatever else is wrong with the position.
+fn moves_of(p: Position) -> MoveList
+    ensures { λ r. ⌜ r ≡ listOf (moves (boardOf p)) ⌝ }
+{
+    let s = setup_of(p);
+    let mut list = no_moves();
+    let mut rest = own(s, p.side);
+    while rest != 0 {
+        let from = lowest(rest);
+        list = add_moves(list, from, legal_targets(s, from));
+        rest = without(rest, from);
+    }
+    list
+}
+
+// How many they are.
+fn count_of(p: Position) -> u8
+    ensures { λ r. ⌜ r ≡ length (moves (boardOf p)) ⌝ }
+{
+    let s = setup_of(p);
+    let mut count: u32 = 0;
+    let mut rest = own(s, p.side);
+    while rest != 0 {
+        let from = lowest(rest);
+        count += size(legal_targets(s, from));
+        rest = without(rest, from);
+    }
+    count as u8
+}
+
+// The legal moves, or a refusal from 1 to 6.
+pub fn legal_moves(p: Position) -> Listed
+    ensures { λ r. ⌜ r ≡ listed p ⌝ }
+{
+    let refusal = standing_refusal(p);
+    if refusal != 0 {
+        return Listed {
+            refusal,
+            list: no_moves(),
+        };
+    }
+    Listed {
+        refusal,
+        list: moves_of(p),
+    }
+}
+
+// Their count, or a refusal from 1 to 6.
+pub fn move_count(p: Position) -> Counted
+    ensures { λ r. ⌜ Counts p r ⌝ }
+{
+    let refusal = standing_refusal(p);
+    if refusal != 0 {
+        return Counted::Refused(refusal);
+    }
+    Counted::Count(count_of(p))
+}
