@@ -20,7 +20,7 @@ ghost use Rattle.listing.specs.Lists.{listOf};
 ghost use Rattle.listing.specs.Answers.{listed, Counts};
 
 // The moves, whatever else is wrong with the position.
-fn moves_of(p: Position) -> MoveList
+pub fn moves_of(p: Position) -> MoveList
     ensures { λ r. ⌜ r ≡ listOf (moves (boardOf p)) ⌝ }
 {
     let s = setup_of(p);

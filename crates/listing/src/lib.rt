@@ -7,6 +7,7 @@ mod lists;
 
 pub use answers::legal_moves;
 pub use answers::move_count;
+pub use answers::moves_of;
 pub use keyed::setup_of;
 pub use keyed::standing_refusal;
 

@@ -7,6 +7,7 @@ mod occupancy;
 mod targets;
 
 pub use attack::in_check;
+pub use making::carried;
 pub use making::make;
 pub use making::other;
 pub use occupancy::occupied;

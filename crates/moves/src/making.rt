@@ -8,7 +8,7 @@ ghost use Rattle.rules.specs.Rules.{carried as carriedTo};
 ghost use Rattle.moves.specs.Setups.{slotAfter, after};
 
 // Where a piece on s stands after a move.
-fn carried(from: u8, to: u8, s: u8) -> u8
+pub fn carried(from: u8, to: u8, s: u8) -> u8
     ensures { λ r. ⌜ r ≡ carriedTo from to s ⌝ }
 {
     if s == from { to } else { s }

@@ -1,9 +1,8 @@
 // The table's rule, a byte at a time. A byte: 0 and 1 a draw, 2 + n depth n, n odd a win and n even a loss for the side to move.
 ghost use mathlib.Core.Path.{_≡_};
-ghost use mathlib.Core.Bool.{_&&_, cond, not};
-ghost use Prim.Native.Nat.{_+_, _%_};
 ghost use Rattle.theory.specs.Required.{winning, back as backOf, better as betterOf};
 ghost use Rattle.theory.specs.Verdict.{spoils as spoilsOf};
+ghost use Rattle.theory.specs.Play.{suits as suitsOf};
 
 // Whether the byte is a win for the side to move.
 pub fn is_win(b: u16) -> bool
@@ -54,4 +53,14 @@ pub fn spoils(k: u8, c: u8) -> bool
         return !(is_win(byte) & (byte <= next));
     }
     (byte % 2 == 0) & ((2 <= byte) & (byte < next))
+}
+
+// Whether a move to byte c is the kind sought from byte b: from a draw to a draw, from depth n to depth n - 1.
+pub fn suits(b: u8, c: u8) -> bool
+    ensures { λ r. ⌜ r ≡ suitsOf b c ⌝ }
+{
+    if b <= 1 {
+        return c <= 1;
+    }
+    1 + c as u16 == b as u16
 }

@@ -1,0 +1,3 @@
+pub mod Successors
+pub mod Laws
+pub mod ScanLaws
