@@ -1,0 +1,7 @@
+// Checking a table: every byte must be the one that its successors' bytes require.
+mod checker;
+mod numbers;
+
+pub use checker::check;
+pub use numbers::is_legal_number;
+pub use numbers::wanted;
