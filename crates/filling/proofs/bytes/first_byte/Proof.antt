@@ -1,0 +1,20 @@
+-- `filling::first_byte` meets its contract. Assumes nothing.
+use mathlib.Core.Path.{sym, ap, _∙_}
+use mathlib.Core.Bool.{true, false}
+use borrow.Author.Needs.{needs}
+use Rattle.filling.specs.Laws.{start-byte}
+use Rattle.filling.proofs.bytes.first_byte.Statement.{statement}
+use Rattle.filling.proofs.bytes.first_byte.Tie as tie
+
+is-legal-number-requires : tie.Need-is-legal-number-requires
+is-legal-number-requires c κs = search needs
+
+returns : tie.Need-returns
+returns c = start-byte _ _ 0 true (sym (sym (c .before .is-legal-number .ensures) ∙ c .if1 .taken))
+
+returns-2 : tie.Need-returns-2
+returns-2 c = start-byte _ _ 0 false (sym (sym (c .before .is-legal-number .ensures) ∙ c .if1 .left))
+
+
+pub first-byte-spec : {M : Type 1} → statement M
+first-byte-spec = tie.close (tie.spec is-legal-number-requires returns returns-2)

@@ -1,0 +1,51 @@
+-- `filling::start` meets its contract. The loop's invariant: the bytes below n are started, the others as they were. Assumes nothing.
+use mathlib.Core.Path.{refl, _∙_}
+use Prim.Native.Nat.{ℕ, _≤_, _-_}
+use native.Mathlib.Omega.{arith}
+use borrow.Author.Needs.{needs}
+use lib.ListN.{length, length-set}
+use Rattle.finite.specs.Mapped.{Upto, upto-none, upto-more, upto-all}
+use Rattle.numbered.specs.Numbered.{startByte}
+use Rattle.rules.specs.Chess.{chess}
+use Rattle.endings.specs.Endings.{ending}
+use Rattle.filling.proofs.bytes.start.Statement.{statement}
+use Rattle.filling.proofs.bytes.start.Tie as tie
+
+abbrev Inv-loop : tie.InvT-loop
+Inv-loop man table₀ n₀ table n = (n ≤ length table) × Upto (startByte chess (ending man)) table₀ table n
+
+abbrev μ-loop : tie.MeasureT-loop
+μ-loop man table₀ n₀ table n = length table - n
+
+loop-holds : tie.Need-loop-holds Inv-loop μ-loop
+loop-holds c = (omega arith, upto-none _ _)
+
+cast-first-byte : tie.Need-cast-first-byte Inv-loop μ-loop
+cast-first-byte c = let u = c .before .loop .inv .1 in omega (arith, c .loop-test .taken, u .same-length, c .before .before .before .pre)
+
+first-byte-requires : tie.Need-first-byte-requires Inv-loop μ-loop
+first-byte-requires c κs = tt
+
+slice-write-table : tie.Need-slice-write-table Inv-loop μ-loop
+slice-write-table c = search needs
+
+add-n : tie.Need-add-n Inv-loop μ-loop
+add-n c = search needs
+
+loop-less : tie.Need-loop-less Inv-loop μ-loop
+loop-less c = simp length-set (omega arith)
+
+loop-again : tie.Need-loop-again Inv-loop μ-loop
+loop-again c = 
+    let u = c .before .before .loop .inv .1 in
+    (simp length-set (omega arith), upto-more _ _ _ _ _ u (omega (arith, u .same-length, c .before .loop-test .taken)) (c .first-byte .ensures))
+
+same-length : tie.Need-same-length Inv-loop μ-loop
+same-length c = c .before .loop .inv .1 .same-length
+
+returns : tie.Need-returns Inv-loop μ-loop
+returns c = let u = c .before .loop .inv .1 in upto-all _ _ _ _ u (omega (arith, u .same-length))
+
+
+pub start-spec : {M : Type 1} → statement M
+start-spec = tie.close (tie.spec Inv-loop μ-loop loop-holds cast-first-byte first-byte-requires slice-write-table add-n loop-less loop-again same-length returns)

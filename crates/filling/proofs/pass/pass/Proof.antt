@@ -1,0 +1,51 @@
+-- `filling::pass` meets its contract. The loop's invariant: the pass is done below n, in place, and whether it settled a number there is kept. Assumes nothing.
+use mathlib.Core.Path.{_≡_, refl, sym, ap, _∙_}
+use Prim.Native.Nat.{ℕ, _≤_, _-_}
+use native.Mathlib.Omega.{arith}
+use borrow.Author.Needs.{needs}
+use lib.ListN.{length}
+use Rattle.finite.specs.Mapped.{Upto, upto-none}
+use Rattle.numbered.specs.Numbered.{passByte}
+use Rattle.rules.specs.Chess.{chess}
+use Rattle.endings.specs.Endings.{ending}
+use Rattle.filling.specs.Laws.{someBelow, none-below, pass-turn, pass-done, size-is}
+use Rattle.filling.proofs.pass.pass.Statement.{statement}
+use Rattle.filling.proofs.pass.pass.Tie as tie
+
+abbrev Inv-loop : tie.InvT-loop
+Inv-loop man k table₀ any₀ n₀ table any n = (n ≤ 59136) × (length table₀ ≡ 59136) × Upto (passByte chess (ending man) k table₀) table₀ table n × (any ≡ someBelow chess (ending man) k table₀ n)
+
+abbrev μ-loop : tie.MeasureT-loop
+μ-loop man k table₀ any₀ n₀ table any n = 59136 - n
+
+loop-holds : tie.Need-loop-holds Inv-loop μ-loop
+loop-holds c = (omega arith, c .before .pre .1, upto-none _ _, none-below _ _ _ _)
+
+settle-requires : tie.Need-settle-requires Inv-loop μ-loop
+settle-requires c κs = let i = c .before .before .loop .inv in (c .before .loop-test .taken, i .2 .same-length ∙ i .1, c .before .before .before .before .pre .0)
+
+add-n : tie.Need-add-n Inv-loop μ-loop
+add-n c = omega (arith, c .before .before .before .before .loop-test .taken)
+
+loop-less : tie.Need-loop-less Inv-loop μ-loop
+loop-less c = omega (arith, c .before .before .before .before .loop-test .taken)
+
+loop-again : tie.Need-loop-again Inv-loop μ-loop
+loop-again c =
+    let i = c .before .before .before .before .before .loop .inv in
+    let h = c .before .before .before .before .loop-test .taken in
+    let t = pass-turn _ _ _ _ _ _ _ _ _ (i .2) (omega (arith, h, i .1)) (c .before .before .settle .ensures) (i .3) in
+    (omega (arith, h), i .1, t .0, t .1)
+
+same-length : tie.Need-same-length Inv-loop μ-loop
+same-length c = c .before .loop .inv .2 .same-length
+
+returns : tie.Need-returns Inv-loop μ-loop
+returns c =
+    let i = c .before .loop .inv in
+    let e : c .before .loop .n ≡ 59136 = omega (arith, i .0, c .loop-test .left) in
+    pass-done _ _ _ _ _ _ _ (e ∙ sym (size-is _)) (i .1 ∙ sym (size-is _)) (i .2) (i .3)
+
+
+pub pass-spec : {M : Type 1} → statement M
+pass-spec = tie.close (tie.spec Inv-loop μ-loop loop-holds settle-requires add-n loop-less loop-again same-length returns)

@@ -1,0 +1,34 @@
+-- `filling::settle` meets its contract. Assumes nothing.
+use mathlib.Core.Path.{_≡_, sym, ap, _∙_}
+use native.Mathlib.Omega.{arith}
+use lib.ListN.{length-set}
+use borrow.Author.Needs.{needs}
+use borrow.Author.Tests.{not-true, not-false}
+use Rattle.filling.specs.Laws.{settle-no, settle-yes}
+use Rattle.filling.proofs.pass.settle.Statement.{statement}
+use Rattle.filling.proofs.pass.settle.Tie as tie
+
+settles-requires : tie.Need-settles-requires
+settles-requires c κs = (c .before .before .pre .0, c .before .before .pre .1)
+
+same-length : tie.Need-same-length
+same-length c = search needs
+
+returns : tie.Need-returns
+returns c = settle-no _ _ _ _ _ _ (c .before .settles .ensures) (not-true _ (c .if1 .taken))
+
+add-table : tie.Need-add-table
+add-table c = omega (arith, c .before .before .before .before .pre .2)
+
+slice-write-table : tie.Need-slice-write-table
+slice-write-table c = omega (arith, c .before .before .before .before .pre .0, c .before .before .before .before .pre .1)
+
+same-length-2 : tie.Need-same-length-2
+same-length-2 c = search needs
+
+returns-2 : tie.Need-returns-2
+returns-2 c = settle-yes _ _ _ _ _ _ (c .before .settles .ensures) (not-false _ (c .if1 .left))
+
+
+pub settle-spec : {M : Type 1} → statement M
+settle-spec = tie.close (tie.spec settles-requires same-length returns add-table slice-write-table same-length-2 returns-2)
