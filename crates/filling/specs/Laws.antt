@@ -80,9 +80,10 @@ module _ (G : Game) (N : Numbering G) (k : ℕ) (t : List ℕ) where
   pub pass-turn : (u w : List ℕ) (n : ℕ) (did any : Bool) → Upto (passByte G N k t) t u n → n < length t → Settle G N k u n did w → any ≡ someBelow n → Upto (passByte G N k t) t w (n + 1) × ((did || any) ≡ someBelow (n + 1))
   unfolding someBelow allBelow
   pass-turn u w n did any up h s e =
-      let same = settles-in-place G N k t u n up in
-      (subst (λ (l : List ℕ). Upto (passByte G N k t) t l (n + 1)) (sym (s .bytes)) (upto-more (passByte G N k t) t u n (passByte G N k u n (getD u n 0)) up h (ap₂ (λ (b : Bool) (c : ℕ). cond b (2 + k) c) same (up .left n (omega arith)))),
-      rw (s .told ∙ same, e, add-one n) (or-not (settles G N k t n) (allBelow (λ m. not (settles G N k t m)) n)))
+      let same = settles-in-place G N k t u n up in (
+        subst (λ (l : List ℕ). Upto (passByte G N k t) t l (n + 1)) (sym (s .bytes)) (upto-more (passByte G N k t) t u n (passByte G N k u n (getD u n 0)) up h (ap₂ (λ (b : Bool) (c : ℕ). cond b (2 + k) c) same (up .left n (omega arith)))),
+        rw (s .told ∙ same, e, add-one n) (or-not (settles G N k t n) (allBelow (λ m. not (settles G N k t m)) n)),
+      )
     where
       or-not : (a b : Bool) → (a || not b) ≡ not (not a && b)
       or-not true b = refl

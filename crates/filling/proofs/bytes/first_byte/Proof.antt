@@ -15,6 +15,5 @@ returns c = start-byte _ _ 0 true (sym (sym (c .before .is-legal-number .ensures
 returns-2 : tie.Need-returns-2
 returns-2 c = start-byte _ _ 0 false (sym (sym (c .before .is-legal-number .ensures) ∙ c .if1 .left))
 
-
 pub first-byte-spec : {M : Type 1} → statement M
 first-byte-spec = tie.close (tie.spec is-legal-number-requires returns returns-2)

@@ -36,7 +36,7 @@ loop-less : tie.Need-loop-less Inv-loop μ-loop
 loop-less c = simp length-set (omega arith)
 
 loop-again : tie.Need-loop-again Inv-loop μ-loop
-loop-again c = 
+loop-again c =
     let u = c .before .before .loop .inv .1 in
     (simp length-set (omega arith), upto-more _ _ _ _ _ u (omega (arith, u .same-length, c .before .loop-test .taken)) (c .first-byte .ensures))
 
@@ -45,7 +45,6 @@ same-length c = c .before .loop .inv .1 .same-length
 
 returns : tie.Need-returns Inv-loop μ-loop
 returns c = let u = c .before .loop .inv .1 in upto-all _ _ _ _ u (omega (arith, u .same-length))
-
 
 pub start-spec : {M : Type 1} → statement M
 start-spec = tie.close (tie.spec Inv-loop μ-loop loop-holds cast-first-byte first-byte-requires slice-write-table add-n loop-less loop-again same-length returns)

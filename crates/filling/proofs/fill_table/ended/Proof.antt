@@ -13,6 +13,5 @@ sub-t3 c = let h = c .if1 .left in omega arith
 returns-2 : tie.Need-returns-2
 returns-2 c = ended-some _ (c .if1 .left)
 
-
 pub ended-spec : {M : Type 1} → statement M
 ended-spec = tie.close (tie.spec returns sub-t3 returns-2)

@@ -46,6 +46,5 @@ returns c =
     let e : c .before .loop .n ≡ 59136 = omega (arith, i .0, c .loop-test .left) in
     pass-done _ _ _ _ _ _ _ (e ∙ sym (size-is _)) (i .1 ∙ sym (size-is _)) (i .2) (i .3)
 
-
 pub pass-spec : {M : Type 1} → statement M
 pass-spec = tie.close (tie.spec Inv-loop μ-loop loop-holds settle-requires add-n loop-less loop-again same-length returns)

@@ -29,6 +29,5 @@ same-length-2 c = search needs
 returns-2 : tie.Need-returns-2
 returns-2 c = settle-yes _ _ _ _ _ _ (c .before .settles .ensures) (not-false _ (c .if1 .left))
 
-
 pub settle-spec : {M : Type 1} → statement M
 settle-spec = tie.close (tie.spec settles-requires same-length returns add-table slice-write-table same-length-2 returns-2)

@@ -48,6 +48,5 @@ returns-3 c =
 returns-4 : tie.Need-returns-4
 returns-4 c = verdict-illegal _ _ _ _ (nothing-legal _ _ _ (sym (c .enum-told .given .1) ∙ c .before .before .position-of .ensures))
 
-
 pub settles-spec : {M : Type 1} → statement M
 settles-spec = tie.close (tie.spec shared-slice-read-if1 returns cast-position-of position-of-requires enum-known-placed requires-depth-requires returns-2 standing-refusal-requires enum-told returns-3 returns-4)

@@ -43,6 +43,5 @@ returns-2 c =
     let e : c .before .loop .n ≡ 59136 = omega (arith, i .0, c .loop-test .left) in
     none-at-all _ _ _ _ _ (e ∙ sym (size-is _)) (i .1)
 
-
 pub some-settles-spec : {M : Type 1} → statement M
 some-settles-spec = tie.close (tie.spec Inv-loop μ-loop loop-holds settles-requires returns add-n loop-less loop-again returns-2)
