@@ -2,3 +2,5 @@ pub mod Answers
 pub mod AnswerLaws
 pub mod NumberLaws
 pub mod BackLaws
+pub mod Count
+pub mod Examples
