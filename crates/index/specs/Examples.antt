@@ -88,11 +88,23 @@ pub all-right : AllRight lines
 unfolding numbered numberOf keyOf keyFrom normalised normalMap turn swapsKings firstAbove changed swapped mapped boardOf placing touching positionAt unused pairOf rank kingPair kingRule cornered separate reaches any numbers line shift stays
 all-right = (
   refl,
-  (refl,
-  (refl,
-  ((λ man h. placed-unused man 2056 h (lit< tt) (rw corner refl)),
-  ((λ man h. (placed-used man 59127 h (lit< tt) (rw last refl), λ k a b. placed-unused man k h b (past-unused man k a b))),
-  ((λ man h. placed-unused man 59128 h (lit< tt) (rw last refl)),
-  ((λ man h. placed-above man 59136 h (omega arith)),
-  (refl, tt))))))),
+  (
+    refl,
+    (
+      refl,
+      (
+        (λ man h. placed-unused man 2056 h (lit< tt) (rw corner refl)),
+        (
+          (λ man h. (placed-used man 59127 h (lit< tt) (rw last refl), λ k a b. placed-unused man k h b (past-unused man k a b))),
+          (
+            (λ man h. placed-unused man 59128 h (lit< tt) (rw last refl)),
+            (
+              (λ man h. placed-above man 59136 h (omega arith)),
+              (refl, tt),
+            ),
+          ),
+        ),
+      ),
+    ),
+  ),
 )
