@@ -8,13 +8,11 @@ use native.Mathlib.Omega.{arith}
 use lib.Dec.{T, leb, eqb}
 use borrow.Author.Tests.{leb-false, eqb-false}
 use Rattle.finite.specs.Truth.{by-test, of-true, true-of, fails, refuted, true-not-false}
-use Rattle.board.specs.Reach.{reaches}
 use Rattle.rules.specs.Rules.{touching}
-use Rattle.rules.specs.Changed.{changed}
-use Rattle.numbering.specs.Kings.{above, onDiagonal, kingsOf}
+use Rattle.numbering.specs.Kings.{above, onDiagonal}
 use Rattle.numbering.specs.Normal.{normalMap, normalised}
 use Rattle.numbering.specs.Number.{numberOf, spread, boardAt, used}
-use Rattle.numbering.specs.Standing.{separate-touching, separate-apart, ruled-separate}
+use Rattle.numbering.specs.Numberable.{separate-touching, separate-apart, ruled-separate}
 use Rattle.numbering.specs.AtLaws.{used-number, at-number, number-used}
 use Rattle.position.specs.declared.Position.{Position}
 use Rattle.position.specs.Keyed.{boardOf, placing}
@@ -23,7 +21,7 @@ use Rattle.index.specs.declared.Numbered.{Numbered}
 use Rattle.index.specs.declared.Placed.{Placed}
 use Rattle.index.specs.Answers.{numbered, positionAt, unused, placedAt}
 use Rattle.index.specs.AnswerLaws.{numbered-is, board-at, kings-at, placed-used, unused-exactly}
-use Rattle.index.specs.NumberLaws.{SameClass, standing, number-below}
+use Rattle.index.specs.NumberLaws.{SameClass, board-numberable, number-below}
 
 neither : (a b c : Bool) → (a || (b || c)) ≡ false → (a ≡ false) × (b ≡ false)
 neither true b c e = absurd (refuted e tt)
@@ -99,7 +97,7 @@ module _ (p : Position) (z : placing p ≡ 0) where
   pub number-not-unused : unused (positionAt (p .man) own) ≡ false
   number-not-unused =
       flipped (unused (positionAt (p .man) own))
-      (sym (unused-exactly (p .man) own) ∙ ap used (board-at (p .man) own) ∙ true-of (number-used (boardOf p) (standing p z) (placed-apart p (placed-facts p z))))
+      (sym (unused-exactly (p .man) own) ∙ ap used (board-at (p .man) own) ∙ true-of (number-used (boardOf p) (board-numberable p z) (placed-apart p (placed-facts p z))))
     where
       flipped : (b : Bool) → not b ≡ true → b ≡ false
       flipped true e = sym e
@@ -107,7 +105,7 @@ module _ (p : Position) (z : placing p ≡ 0) where
 
   pub number-class : SameClass p (positionAt (p .man) own)
   unfolding normalised
-  number-class = (normalMap (boardOf p), board-at (p .man) own ∙ at-number (boardOf p) (standing p z))
+  number-class = (normalMap (boardOf p), board-at (p .man) own ∙ at-number (boardOf p) (board-numberable p z))
 
 -- demand 2: a placed position's number is below 59,136 and used, and the position at it is a map's image of it
 pub record Located (p : Position) (n : ℕ) : Type 0 where

@@ -10,7 +10,6 @@ use Rattle.board.specs.Square.{stays, shift}
 use Rattle.board.specs.Reach.{line, reaches}
 use Rattle.numbering.specs.Kings.{cornered, separate, kingRule, kingPair, kingsOf}
 use Rattle.numbering.specs.PairLaws.{pair-count}
-use Rattle.position.specs.declared.Position.{Position}
 use Rattle.index.specs.Answers.{positionAt, unused}
 
 -- kings on k / 64 and k % 64 with the man on a square: used or not, whatever the man and the side

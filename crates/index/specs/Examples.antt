@@ -1,10 +1,10 @@
 -- The positions of 01's bench that are marked to be shown of the definitions and speak of numbers: one list, one claim. Assumes nothing.
-use mathlib.Core.Path.{_≡_, refl, ap, _∙_}
-use mathlib.Core.Bool.{Bool, true, false, not, cond, _&&_, _||_}
-use mathlib.Core.List.{List, [], _∷_, map}
-use Prim.Native.Nat.{ℕ, _+_, _-_, _*_, _/_, _%_, _<_}
+use mathlib.Core.Path.{_≡_, refl}
+use mathlib.Core.Bool.{Bool, true}
+use mathlib.Core.List.{List, [], _∷_}
+use Prim.Native.Nat.{ℕ, _+_, _-_, _/_, _%_, _<_}
 use native.Mathlib.Omega.{arith}
-use lib.Dec.{T, lit<, leb, eqb}
+use lib.Dec.{T, lit<}
 use Rattle.finite.specs.Truth.{true-of}
 use Rattle.finite.specs.Members.{any}
 use Rattle.finite.specs.Numbers.{numbers}

@@ -3,7 +3,7 @@ use mathlib.Core.Bool.{Bool, false, _&&_}
 use mathlib.Core.List.{List, [], _∷_, map}
 use Prim.Native.Nat.{ℕ, _+_, _*_, _/_, _%_}
 use Rattle.finite.specs.Orbit.{least}
-use Rattle.symmetry.specs.Symmetry.{Symmetry, symmetries}
+use Rattle.symmetry.specs.Symmetry.{symmetries}
 use Rattle.rules.specs.declared.Piece.{Piece}
 use Rattle.rules.specs.Rules.{Board, pieceOf, pieces, apart}
 use Rattle.rules.specs.Changed.{changed}
