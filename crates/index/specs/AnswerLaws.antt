@@ -1,22 +1,21 @@
 -- What the answers are, by the tests that lead to them, and the board at a number. Assumes nothing.
-use mathlib.Core.Path.{_≡_, refl, ap, subst, sym, _∙_}
-use mathlib.Core.Bool.{Bool, true, false, not, cond, _&&_, _||_}
-use mathlib.Core.List.{List, [], _∷_}
+use mathlib.Core.Path.{_≡_, refl, ap, _∙_}
+use mathlib.Core.Bool.{Bool, true, false, not, _&&_, _||_}
 use Prim.Native.Nat.{ℕ, _+_, _*_, _/_, _%_, _<_, _≤_}
 use native.Mathlib.Omega.{arith}
-use lib.Dec.{T, leb, eqb}
+use lib.Dec.{T, eqb}
 use borrow.Author.Tests.{le-leb, lt-leb, eq-eqb, ne-eqb}
 use Rattle.finite.specs.Truth.{implies, true-of, eqb-sym}
 use Rattle.finite.specs.Members.{any}
-use Rattle.rules.specs.Rules.{Board, pieceOf, pieces, apart}
-use Rattle.numbering.specs.Kings.{above, onDiagonal, separate, kingRule, pairOf, kingsOf}
+use Rattle.rules.specs.Rules.{apart}
+use Rattle.numbering.specs.Kings.{above, onDiagonal, kingRule, pairOf, kingsOf}
 use Rattle.numbering.specs.Normal.{firstAbove, normal, normalMap, normalised}
 use Rattle.numbering.specs.Number.{keyFrom, keyOf, numberOf, leading, menAt, boardAt, used}
 use Rattle.numbering.specs.PairLaws.{KingsOf, kings-of}
-use Rattle.numbering.specs.Standing.{separate-apart, ruled-separate}
+use Rattle.numbering.specs.Numberable.{separate-apart, ruled-separate}
 use Rattle.position.specs.declared.Position.{Position}
 use Rattle.position.specs.Keyed.{boardOf, placing}
-use Rattle.position.specs.Maps.{mappedPosition, normalPosition}
+use Rattle.position.specs.Maps.{normalPosition}
 use Rattle.position.specs.MapLaws.{map-board}
 use Rattle.position.specs.PlacedLaws.{endingWith}
 use Rattle.index.specs.declared.Numbered.{Numbered}

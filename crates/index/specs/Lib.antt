@@ -1,2 +1,6 @@
 pub mod Answers
 pub mod AnswerLaws
+pub mod NumberLaws
+pub mod BackLaws
+pub mod Count
+pub mod Examples

@@ -1,6 +1,6 @@
 -- The board of a number: it bears it, and every board with a number has its normal image there. For any list of men. Assumes nothing.
-use mathlib.Core.Path.{_≡_, refl, ap, subst, subst⁻¹, sym, _∙_}
-use mathlib.Core.Bool.{Bool, false, _&&_}
+use mathlib.Core.Path.{_≡_, refl, ap, subst, subst⁻¹, _∙_}
+use mathlib.Core.Bool.{false}
 use mathlib.Core.List.{List, [], _∷_, map}
 use Prim.Native.Nat.{ℕ, _+_, _*_, _/_, _%_, _<_}
 use native.Mathlib.Nat.{mul-assoc}
@@ -16,8 +16,8 @@ use Rattle.numbering.specs.Normal.{normal, normalMap, normalised}
 use Rattle.numbering.specs.Number.{keyFrom, keyOf, numberOf, unplaced, endingOf, spread, leading, menAt, boardAt, used}
 use Rattle.numbering.specs.PairLaws.{KingsOf, kings-of}
 use Rattle.numbering.specs.MenLaws.{onBoard}
-use Rattle.numbering.specs.Standing.{Standing, ruled-separate}
-use Rattle.numbering.specs.NormalLaws.{normal-kings, normalised-standing, normalised-normal}
+use Rattle.numbering.specs.Numberable.{Numberable, ruled-separate}
+use Rattle.numbering.specs.NormalLaws.{normal-kings, normalised-numberable, normalised-normal}
 use Rattle.numbering.specs.ClassLaws.{key-own, number-lt, normal-number}
 
 -- ---- the digits of a number
@@ -64,9 +64,9 @@ unfolding boardAt
 ruled-at ending n = kings-at ending n .ruled
 
 -- a list of men is an ending where it is some board's
-pub standing-at : (ending : List Piece) (n : ℕ) → map unplaced ending ≡ ending → n < 924 * spread ending → Standing ending (boardAt ending n)
+pub numberable-at : (ending : List Piece) (n : ℕ) → map unplaced ending ≡ ending → n < 924 * spread ending → Numberable ending (boardAt ending n)
 unfolding boardAt endingOf
-standing-at ending n p h =
+numberable-at ending n p h =
     let k = leading-lt ending n 924 h in
     let w = kingsOf (leading ending n % 462) / 64 in
     let b = kingsOf (leading ending n % 462) % 64 in
@@ -77,15 +77,15 @@ pub used-number : (ending : List Piece) (n : ℕ) → map unplaced ending ≡ en
 unfolding used
 used-number ending n p h u =
     let b = boardAt ending n in
-    normal-number b (standing-at ending n p h) (and-right (apart (pieces b)) (normal b) u) ∙ key-at ending n
+    normal-number b (numberable-at ending n p h) (and-right (apart (pieces b)) (normal b) u) ∙ key-at ending n
 
-module _ {ending : List Piece} (b : Board) (s : Standing ending b) where
+module _ {ending : List Piece} (b : Board) (s : Numberable ending b) where
   -- a board's normal image stands at its number
   pub at-number : boardAt ending (numberOf b) ≡ normalised b
   unfolding numberOf endingOf
   at-number =
       let p : map unplaced ending ≡ ending = subst (λ (e : List Piece). map unplaced e ≡ e) (s .men) (unplaced-twice (b .men)) in
-      key-own (boardAt ending (numberOf b)) (standing-at ending (numberOf b) p (number-lt b s)) (normalised b) (normalised-standing b s) (ruled-at ending (numberOf b))
+      key-own (boardAt ending (numberOf b)) (numberable-at ending (numberOf b) p (number-lt b s)) (normalised b) (normalised-numberable b s) (ruled-at ending (numberOf b))
       (normal-kings (normalised b) (normalised-normal b s))
       (key-at ending (numberOf b))
 

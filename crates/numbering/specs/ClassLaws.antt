@@ -8,7 +8,6 @@ use Prim.Native.Nat.{ℕ, _+_, _*_, _<_, _≤_}
 use native.Mathlib.Nat.{le-antisymm}
 use native.Mathlib.Omega.{arith}
 use lib.Dec.{T}
-use Rattle.finite.specs.Members.{_∈_}
 use Rattle.finite.specs.Orbit.{least, least-le, least-at, class-kept, class-one}
 use Rattle.symmetry.specs.Symmetry.{Symmetry, inverse, composed, symmetries}
 use Rattle.symmetry.specs.SymmetryLaws.{every-symmetry}
@@ -20,8 +19,8 @@ use Rattle.numbering.specs.Normal.{normal, normalMap, normalised}
 use Rattle.numbering.specs.Number.{keyFrom, keyOf, numberOf, unplaced, endingOf, spread, leastKey}
 use Rattle.numbering.specs.PairLaws.{pair-lt, pair-one}
 use Rattle.numbering.specs.MenLaws.{key-from-lt, key-from-own}
-use Rattle.numbering.specs.Standing.{Standing, separate-white, separate-black, standing-mapped, maps-compose}
-use Rattle.numbering.specs.NormalLaws.{normal-kings, normalised-standing, normalised-normal, normal-least}
+use Rattle.numbering.specs.Numberable.{Numberable, separate-white, separate-black, numberable-mapped, maps-compose}
+use Rattle.numbering.specs.NormalLaws.{normal-kings, normalised-numberable, normalised-normal, normal-least}
 
 abbrev image : Symmetry → Board → Board
 image m b = changed m false b
@@ -36,7 +35,7 @@ unfolding spread
 spread-unplaced [] = refl
 spread-unplaced (a ∷ l) = rw (spread-unplaced l)
 
-module _ {ending : List Piece} (b : Board) (s : Standing ending b) where
+module _ {ending : List Piece} (b : Board) (s : Numberable ending b) where
   white-on : b .white < 64
   white-on = separate-white (b .white) (b .black) (s .kings)
 
@@ -53,7 +52,7 @@ module _ {ending : List Piece} (b : Board) (s : Standing ending b) where
       (key-from-lt (b .men) (b .side * 462 + pairOf (b .white) (b .black)) 924 (s .squares) (omega arith))
 
   -- two boards with one key are one board
-  pub key-own : (c : Board) → Standing ending c → T (ruled b) → T (ruled c) → keyOf b ≡ keyOf c → b ≡ c
+  pub key-own : (c : Board) → Numberable ending c → T (ruled b) → T (ruled c) → keyOf b ≡ keyOf c → b ≡ c
   unfolding keyOf endingOf
   key-own c r t u e =
       let cw = separate-white (c .white) (c .black) (r .kings) in
@@ -73,24 +72,24 @@ abbrev leastOf : List Piece → Board → ℕ
 leastOf ending b = least image ruled keyOf (924 * spread ending) symmetries b
 
 module _ {ending : List Piece} where
-  least-is : (b : Board) → Standing ending b → leastKey b ≡ leastOf ending b
+  least-is : (b : Board) → Numberable ending b → leastKey b ≡ leastOf ending b
   unfolding leastKey
   least-is b s = ap (λ (e : List Piece). leastOf e b) (s .men)
 
   -- of the maps' images with kings by the rule, the normal one has the least key
-  normalised-least : (b : Board) → Standing ending b → (m : Symmetry) → T (ruled (image m b)) → numberOf b ≤ keyOf (image m b)
+  normalised-least : (b : Board) → Numberable ending b → (m : Symmetry) → T (ruled (image m b)) → numberOf b ≤ keyOf (image m b)
   unfolding numberOf normalised changed
   normalised-least b s m t =
       let n = composed (inverse (normalMap b)) m in
       let e : image n (normalised b) ≡ image m b = sym (maps-compose (inverse (normalMap b)) m (normalised b)) ∙ ap (image m) (changed-back (normalMap b) false b) in
       subst (λ (c : Board). keyOf (normalised b) ≤ keyOf c) e
-      (normal-least n (normalised b) (normalised-standing b s) (normalised-normal b s) (subst⁻¹ (λ (c : Board). T (ruled c)) e t))
+      (normal-least n (normalised b) (normalised-numberable b s) (normalised-normal b s) (subst⁻¹ (λ (c : Board). T (ruled c)) e t))
 
-  pub number-lt : (b : Board) → Standing ending b → numberOf b < 924 * spread ending
+  pub number-lt : (b : Board) → Numberable ending b → numberOf b < 924 * spread ending
   unfolding numberOf
-  number-lt b s = key-lt (normalised b) (normalised-standing b s) (normal-kings (normalised b) (normalised-normal b s))
+  number-lt b s = key-lt (normalised b) (normalised-numberable b s) (normal-kings (normalised b) (normalised-normal b s))
 
-  number-least-of : (b : Board) → Standing ending b → numberOf b ≡ leastOf ending b
+  number-least-of : (b : Board) → Numberable ending b → numberOf b ≡ leastOf ending b
   unfolding numberOf normalised
   number-least-of b s =
       le-antisymm
@@ -99,11 +98,11 @@ module _ {ending : List Piece} where
       (least-le image ruled keyOf (924 * spread ending) b (every-symmetry (normalMap b)) (normal-kings (normalised b) (normalised-normal b s)))
 
   -- "normal" is the least number in the class
-  pub number-least : (b : Board) → Standing ending b → numberOf b ≡ leastKey b
+  pub number-least : (b : Board) → Numberable ending b → numberOf b ≡ leastKey b
   number-least b s = number-least-of b s ∙ sym (least-is b s)
 
   -- a normal board's number is its key
-  pub normal-number : (b : Board) → Standing ending b → T (normal b) → numberOf b ≡ keyOf b
+  pub normal-number : (b : Board) → Numberable ending b → T (normal b) → numberOf b ≡ keyOf b
   unfolding numberOf normalised changed
   normal-number b s n =
       let m = normalMap b in
@@ -114,15 +113,15 @@ module _ {ending : List Piece} where
 
   -- ---- one number for each class
 
-  pub number-mapped : (m : Symmetry) (b : Board) → Standing ending b → numberOf (image m b) ≡ numberOf b
+  pub number-mapped : (m : Symmetry) (b : Board) → Numberable ending b → numberOf (image m b) ≡ numberOf b
   number-mapped m b s =
-      number-least-of (image m b) (standing-mapped m b s)
-      ∙ class-kept image ruled keyOf (924 * spread ending) symmetries every-symmetry composed inverse (Standing ending) standing-mapped (λ m n b s. maps-compose m n b) (λ m b s. changed-back m false b) m b s
+      number-least-of (image m b) (numberable-mapped m b s)
+      ∙ class-kept image ruled keyOf (924 * spread ending) symmetries every-symmetry composed inverse (Numberable ending) numberable-mapped (λ m n b s. maps-compose m n b) (λ m b s. changed-back m false b) m b s
       ∙ sym (number-least-of b s)
 
-  pub number-class : (b c : Board) → Standing ending b → Standing ending c → numberOf b ≡ numberOf c → (m : Symmetry) × (image m b ≡ c)
+  pub number-class : (b c : Board) → Numberable ending b → Numberable ending c → numberOf b ≡ numberOf c → (m : Symmetry) × (image m b ≡ c)
   number-class b c s r e =
-      class-one image ruled keyOf (924 * spread ending) symmetries every-symmetry composed inverse (Standing ending) standing-mapped (λ m n b s. maps-compose m n b) (λ m b s. changed-back m false b)
+      class-one image ruled keyOf (924 * spread ending) symmetries every-symmetry composed inverse (Numberable ending) numberable-mapped (λ m n b s. maps-compose m n b) (λ m b s. changed-back m false b)
       (λ x y o p t u k. key-own x o y p t u k) b c s r
       (subst (λ (n : ℕ). n < 924 * spread ending) (number-least-of b s) (number-lt b s))
       (sym (number-least-of b s) ∙ e ∙ number-least-of c r)

@@ -3,15 +3,14 @@
 use mathlib.Core.Path.{_≡_, refl}
 use mathlib.Core.Bool.{Bool, true, false, not, _&&_, Bool·beq}
 use Prim.Native.Nat.{ℕ, _<_}
-use lib.Dec.{T, ltb, eqb}
+use lib.Dec.{T}
 use Rattle.finite.specs.Truth.{and-left, and-right, implies, implied, same-answer}
 use Rattle.finite.specs.Members.{all}
 use Rattle.finite.specs.Below.{allBelow, allBelow2, below2}
-use Rattle.board.specs.Reach.{reaches}
 use Rattle.symmetry.specs.Symmetry.{Symmetry, mapped}
 use Rattle.symmetry.specs.SymmetryLaws.{allSymmetries, symmetry-at, ltb-mapped, eqb-mapped}
 use Rattle.symmetry.specs.ReachMapped.{reaches-mapped}
-use Rattle.numbering.specs.Kings.{above, onDiagonal, cornered, separate, kingRule}
+use Rattle.numbering.specs.Kings.{onDiagonal, cornered, separate}
 use Rattle.numbering.specs.Normal.{turn, swapsKings}
 
 -- the map for two kings, where `men` says which way the men are to go with both on the diagonal

@@ -4,7 +4,7 @@ pub mod Number
 pub mod KingMaps
 pub mod PairLaws
 pub mod MenLaws
-pub mod Standing
+pub mod Numberable
 pub mod NormalLaws
 pub mod ClassLaws
 pub mod AtLaws

@@ -10,7 +10,7 @@ use lib.Dec.{T, ltb, eqb, eqb→eq, ltb→lt}
 use Rattle.finite.specs.Truth.{and-left, and-right, implies, implied, by-test, refuted, cond-true, cond-false}
 use Rattle.finite.specs.Members.{all}
 use Rattle.finite.specs.Below.{allBelow, below}
-use Rattle.symmetry.specs.Symmetry.{Symmetry, mapped, exchange}
+use Rattle.symmetry.specs.Symmetry.{mapped, exchange}
 use Rattle.rules.specs.declared.Piece.{Piece}
 use Rattle.rules.specs.Changed.{changedPiece}
 use Rattle.numbering.specs.Kings.{above, onDiagonal}

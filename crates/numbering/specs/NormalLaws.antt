@@ -11,12 +11,12 @@ use Rattle.symmetry.specs.Symmetry.{Symmetry, mapped, composed}
 use Rattle.rules.specs.declared.Piece.{Piece}
 use Rattle.rules.specs.Rules.{Board}
 use Rattle.rules.specs.Changed.{swapped, changedPiece, changed}
-use Rattle.numbering.specs.Kings.{above, onDiagonal, cornered, separate, kingRule, pairOf}
+use Rattle.numbering.specs.Kings.{onDiagonal, cornered, separate, kingRule, pairOf}
 use Rattle.numbering.specs.Normal.{firstAbove, normal, turn, swaps, normalMap, normalised}
 use Rattle.numbering.specs.Number.{keyOf}
 use Rattle.numbering.specs.KingMaps.{kingMap, king-map-corners, king-map-chooses, swapping, kings-still}
 use Rattle.numbering.specs.MenLaws.{onBoard, swap-raises, swap-lowers}
-use Rattle.numbering.specs.Standing.{Standing, ruled-cornered, separate-white, separate-black, standing-mapped, maps-compose}
+use Rattle.numbering.specs.Numberable.{Numberable, ruled-cornered, separate-white, separate-black, numberable-mapped, maps-compose}
 
 -- ---- the parts of `normal`
 
@@ -68,23 +68,23 @@ chosen-low : (e : Bool) (l : List Piece) → T (all onBoard l) → e ≡ firstAb
 chosen-low true l t q = swap-lowers l t (of-true (sym q))
 chosen-low false l t q = men-stay l ∙ sym q
 
-module _ {ending : List Piece} (b : Board) (s : Standing ending b) where
-  pub normalised-standing : Standing ending (normalised b)
+module _ {ending : List Piece} (b : Board) (s : Numberable ending b) where
+  pub normalised-numberable : Numberable ending (normalised b)
   unfolding normalised
-  normalised-standing = standing-mapped (normalMap b) b s
+  normalised-numberable = numberable-mapped (normalMap b) b s
 
   kings-ruled : T (kingRule (normalised b .white) (normalised b .black))
   unfolding kingRule normalised normalMap kingMap changed
   kings-ruled =
       and-both (cornered (normalised b .white) (normalised b .black)) (separate (normalised b .white) (normalised b .black))
       (king-map-corners (b .white) (b .black) (firstAbove (turned b .men)) (separate-white (b .white) (b .black) (s .kings)) (separate-black (b .white) (b .black) (s .kings)))
-      (normalised-standing .kings)
+      (normalised-numberable .kings)
 
   men-low : T (onDiagonal (normalised b .white) && onDiagonal (normalised b .black)) → firstAbove (normalised b .men) ≡ false
   unfolding normalised normalMap kingMap changed
   men-low d =
       ap (λ (c : Board). firstAbove (c .men)) (sym (normalised-by b))
-      ∙ chosen-low (swaps (turned b)) (turned b .men) (standing-mapped (turn (b .white)) b s .squares)
+      ∙ chosen-low (swaps (turned b)) (turned b .men) (numberable-mapped (turn (b .white)) b s .squares)
       (king-map-chooses (b .white) (b .black) (firstAbove (turned b .men)) (separate-white (b .white) (b .black) (s .kings)) (separate-black (b .white) (b .black) (s .kings)) d)
 
   -- the map leaves a normal board
@@ -109,7 +109,7 @@ key-kept e b t n d =
     )
     (swap-raises e (b .men) (b .side * 462 + pairOf (b .white) (b .black)) t (λ x. normal-men b n (d x)))
 
-pub normal-least : {ending : List Piece} (m : Symmetry) (b : Board) → Standing ending b → T (normal b) → T (kingRule (mapped m (b .white)) (mapped m (b .black))) → keyOf b ≤ keyOf (changed m false b)
+pub normal-least : {ending : List Piece} (m : Symmetry) (b : Board) → Numberable ending b → T (normal b) → T (kingRule (mapped m (b .white)) (mapped m (b .black))) → keyOf b ≤ keyOf (changed m false b)
 normal-least m b s n t =
     let still = kings-still (b .white) (b .black) m (separate-white (b .white) (b .black) (s .kings)) (separate-black (b .white) (b .black) (s .kings))
     (ruled-cornered (b .white) (b .black) (normal-kings b n)) (ruled-cornered (mapped m (b .white)) (mapped m (b .black)) t) in

@@ -3,7 +3,7 @@ use mathlib.Core.Bool.{Bool, false, _&&_}
 use mathlib.Core.List.{List, [], _∷_, map}
 use Prim.Native.Nat.{ℕ, _+_, _*_, _/_, _%_}
 use Rattle.finite.specs.Orbit.{least}
-use Rattle.symmetry.specs.Symmetry.{Symmetry, symmetries}
+use Rattle.symmetry.specs.Symmetry.{symmetries}
 use Rattle.rules.specs.declared.Piece.{Piece}
 use Rattle.rules.specs.Rules.{Board, pieceOf, pieces, apart}
 use Rattle.rules.specs.Changed.{changed}
@@ -23,19 +23,20 @@ keyOf b = keyFrom (b .side * 462 + pairOf (b .white) (b .black)) (b .men)
 unfoldable pub numberOf : Board → ℕ
 numberOf b = keyOf (normalised b)
 
--- the men of a board, whatever their squares: its ending
+-- a man, whatever his square
 abbrev pub unplaced : Piece → Piece
 unplaced m = pieceOf (m .kind) (m .colour) 0
 
+-- the ending of a board: its men, whatever their squares
 unfoldable pub endingOf : Board → List Piece
 endingOf b = map unplaced (b .men)
 
--- how many numbers the men give each number of kings and side
+-- how many numbers belong to one pair of kings and one side to move: 64 for each man
 unfoldable pub spread : List Piece → ℕ
 spread [] = 1
 spread (m ∷ ms) = 64 * spread ms
 
--- the least key that a map gives whose image has its kings by the rule; 924 x 64 .. where there is none
+-- the least key of the maps' images that have their kings by the rule; where there is none, the count of all numbers of the ending
 unfoldable pub leastKey : Board → ℕ
 leastKey b = least (λ m. changed m false) (λ c. kingRule (c .white) (c .black)) keyOf (924 * spread (endingOf b)) symmetries b
 

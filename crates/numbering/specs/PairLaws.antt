@@ -1,13 +1,12 @@
 -- The 462 pairs of kings: a pair has one number, and a number one pair. Assumes nothing.
-use mathlib.Core.Path.{_≡_, refl, ap, subst, subst⁻¹, sym, _∙_}
-use mathlib.Core.Bool.{Bool, cond, _&&_}
+use mathlib.Core.Path.{_≡_, refl, ap, sym, _∙_}
 use Prim.Native.Nat.{ℕ, _+_, _*_, _/_, _%_, _<_}
 use native.Mathlib.Omega.{arith}
-use lib.Dec.{T, ltb}
+use lib.Dec.{T}
 use Rattle.finite.specs.Truth.{cond-true}
 use Rattle.finite.specs.Members.{any}
 use Rattle.finite.specs.Numbers.{numbers}
-use Rattle.finite.specs.Ranked.{rank, select, rank-rises, rank-one, selected, select-rank}
+use Rattle.finite.specs.Ranked.{rank, select, rank-rises, selected, select-rank}
 use Rattle.board.specs.Square.{stays, shift}
 use Rattle.board.specs.Reach.{line, reaches}
 use Rattle.numbering.specs.Kings.{cornered, separate, kingRule, kingPair, pairOf, kingsOf}

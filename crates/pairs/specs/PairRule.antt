@@ -8,10 +8,14 @@ use lib.Dec.{T, eqb, eqb→eq, ltb, ltb→lt}
 use lib.ListN.{getD}
 use borrow.Author.Tests.{ne-eqb}
 use Rattle.finite.specs.Truth.{and-left, and-right, implies, implied, of-true}
+use Rattle.finite.specs.Members.{any}
+use Rattle.finite.specs.Numbers.{numbers}
 use Rattle.finite.specs.Below.{allBelow, below}
-use Rattle.finite.specs.Ranked.{rank, select, pass, passed, rank-rises, rank-one, Selected, selected}
-use Rattle.numbering.specs.Kings.{pairOf}
-use Rattle.pairs.specs.Tables.{whites, slots, pairs}
+use Rattle.finite.specs.Ranked.{rank, select, pass, passed, rank-rises, rank-one, selected}
+use Rattle.board.specs.Square.{stays, shift}
+use Rattle.board.specs.Reach.{line, reaches}
+use Rattle.numbering.specs.Kings.{cornered, separate, kingRule, kingPair, pairOf}
+use Rattle.pairs.specs.Tables.{whites, firsts, slots, pairs}
 use Rattle.pairs.specs.TableLaws.{entry-pair}
 
 -- ---- equal to the definition
@@ -31,6 +35,18 @@ entry-is slot black h k =
     let e = eqb→eq (getD slots w 0) slot (and-right (ltb w 28) (eqb (getD slots w 0) slot) t) in
     subst (λ (i : ℕ). getD pairs (i * 64 + black) 0 ≡ pairOf w black) e
     (entry-pair w black (ltb→lt w 28 (and-left (ltb w 28) (eqb (getD slots w 0) slot) t)) k (omega arith))
+
+-- the first pair of each of the ten squares
+first-right : ℕ → Bool
+first-right j = eqb (rank kingPair (getD whites j 0 * 64)) (getD firsts j 0)
+
+all-firsts : T (allBelow first-right 10)
+unfolding allBelow first-right rank kingPair kingRule cornered separate reaches any numbers line shift stays
+all-firsts = tt
+
+pub first-pair : (j : ℕ) → j < 10 → rank kingPair (getD whites j 0 * 64) ≡ getD firsts j 0
+unfolding first-right
+first-pair j h = eqb→eq (rank kingPair (getD whites j 0 * 64)) (getD firsts j 0) (below first-right 10 all-firsts j h)
 
 -- ---- rising, in range, each once
 

@@ -15,7 +15,7 @@ use Rattle.board.specs.Square.{stays, shift}
 use Rattle.board.specs.Reach.{line, reaches}
 use Rattle.numbering.specs.Kings.{above, inTriangle, cornered, separate, kingRule, kingPair, pairOf, kingsOf}
 use Rattle.numbering.specs.PairLaws.{pair-count}
-use Rattle.numbering.specs.Standing.{separate-black, ruled-separate, ruled-triangle}
+use Rattle.numbering.specs.Numberable.{separate-black, ruled-separate, ruled-triangle}
 use Rattle.pairs.specs.Tables.{whites, firsts, slots, rowFrom, rowOf, blacks, pairs}
 
 -- ---- the ten white squares
@@ -26,18 +26,6 @@ slot-right s = cond (inTriangle s) (ltb (getD slots s 0) 10 && eqb (getD whites 
 all-slots : T (allBelow slot-right 28)
 unfolding allBelow slot-right slots
 all-slots = tt
-
-first-right : ℕ → Bool
-first-right j = eqb (rank kingPair (getD whites j 0 * 64)) (getD firsts j 0)
-
-all-firsts : T (allBelow first-right 10)
-unfolding allBelow first-right rank kingPair kingRule cornered separate reaches any numbers line shift stays
-all-firsts = tt
-
--- the first pair of each row, as 01's table has it
-pub first-pair : (j : ℕ) → j < 10 → rank kingPair (getD whites j 0 * 64) ≡ getD firsts j 0
-unfolding first-right
-first-pair j h = eqb→eq (rank kingPair (getD whites j 0 * 64)) (getD firsts j 0) (below first-right 10 all-firsts j h)
 
 -- ---- both lists of pairs, in one pass over the squares of both kings, with the number of pairs so far carried along
 

@@ -1,19 +1,17 @@
 -- A position that meets none of the refusals 1 to 5, fact by fact; it stands for a board that has a number. Assumes nothing.
 use mathlib.Core.Path.{_≡_, refl, sym}
-use mathlib.Core.Bool.{Bool, true, false, not, cond, _&&_, _||_}
+use mathlib.Core.Bool.{Bool, true, false, cond, _||_}
 use mathlib.Core.List.{List, [], _∷_}
 use Prim.Native.Nat.{ℕ, _<_}
 use native.Mathlib.Omega.{arith}
-use lib.Dec.{T, leb, ltb, eqb}
+use lib.Dec.{T, leb, eqb}
 use borrow.Author.Tests.{lt-leb, leb-false, lt-ltb, ne-eqb, eqb-false}
-use Rattle.finite.specs.Truth.{true-of}
 use Rattle.finite.specs.Members.{any, all}
-use Rattle.board.specs.Reach.{reaches}
 use Rattle.rules.specs.declared.Piece.{Piece}
 use Rattle.rules.specs.Rules.{pieceOf, pieces, apart, touching}
 use Rattle.numbering.specs.Kings.{separate}
 use Rattle.numbering.specs.Number.{endingOf}
-use Rattle.numbering.specs.Standing.{Standing}
+use Rattle.numbering.specs.Numberable.{Numberable}
 use Rattle.position.specs.declared.Position.{Position}
 use Rattle.position.specs.Keyed.{boardOf, placing}
 
@@ -96,9 +94,9 @@ facts-placed p w =
 abbrev pub endingWith : ℕ → List Piece
 endingWith man = pieceOf man 0 0 ∷ []
 
-pub placed-standing : (p : Position) → WellPlaced p → Standing (endingWith (p .man)) (boardOf p)
+pub placed-numberable : (p : Position) → WellPlaced p → Numberable (endingWith (p .man)) (boardOf p)
 unfolding boardOf endingOf all separate touching
-placed-standing p w = record {
+placed-numberable p w = record {
   men = refl;
   side = w .side;
   squares = rw (lt-ltb (p .square) 64 (w .square)) tt;

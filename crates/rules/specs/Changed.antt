@@ -4,7 +4,7 @@ use mathlib.Core.Bool.{Bool, true, false, cond, xor}
 use mathlib.Core.List.{List, [], _∷_, map}
 use Prim.Native.Nat.{ℕ, zero, suc, _-_, _<_}
 use native.Mathlib.Omega.{arith}
-use lib.Dec.{T, eqb, ltb, eqb→eq, eqb-refl}
+use lib.Dec.{eqb, ltb, eqb→eq, eqb-refl}
 use Rattle.finite.specs.Truth.{same-test}
 use Rattle.symmetry.specs.Symmetry.{Symmetry, mapped, inverse, composed}
 use Rattle.symmetry.specs.SymmetryLaws.{mapped-inverse, inverse-inverse, mapped-composed}

@@ -1,5 +1,4 @@
 -- `pairs::kings_of` meets its contract, by the rule of the lists. Assumes nothing.
-use Prim.Native.Nat.{ℕ, _<_}
 use native.Mathlib.Omega.{arith}
 use borrow.Author.Needs.{needs}
 use Rattle.pairs.specs.Tables.{blacks}

@@ -1,5 +1,4 @@
 -- `pairs::pair_of` meets its contract, by the rule of the lists. Assumes nothing.
-use native.Mathlib.Omega.{arith}
 use borrow.Author.Needs.{needs}
 use Rattle.pairs.specs.Tables.{slots, pairs}
 use Rattle.pairs.specs.TableLaws.{no-pair, past-d4, off-board, outside, entry-pair}

@@ -1,6 +1,6 @@
 -- Boards that have a number: of one ending, all pieces on the board, the kings apart. Assumes nothing.
 use mathlib.Core.Path.{_≡_, refl, ap, _∙_}
-use mathlib.Core.Bool.{Bool, false, not, _&&_, xor}
+use mathlib.Core.Bool.{false, not, _&&_, xor}
 use mathlib.Core.List.{List, [], _∷_, map}
 use Prim.Native.Nat.{ℕ, _<_}
 use lib.Dec.{T, ltb, eqb, ltb→lt}
@@ -18,7 +18,7 @@ use Rattle.numbering.specs.Number.{unplaced, endingOf}
 use Rattle.numbering.specs.KingMaps.{separate-mapped}
 use Rattle.numbering.specs.MenLaws.{onBoard}
 
-pub record Standing (ending : List Piece) (b : Board) : Type 0 where
+pub record Numberable (ending : List Piece) (b : Board) : Type 0 where
   pub men : endingOf b ≡ ending
   pub side : b .side < 2
   pub squares : T (all onBoard (b .men))
@@ -72,9 +72,9 @@ unfolding swapped
 unplaced-mapped m [] = refl
 unplaced-mapped m (a ∷ l) = ap (λ (k : List Piece). unplaced a ∷ k) (unplaced-mapped m l)
 
-pub standing-mapped : {ending : List Piece} (m : Symmetry) (b : Board) → Standing ending b → Standing ending (changed m false b)
+pub numberable-mapped : {ending : List Piece} (m : Symmetry) (b : Board) → Numberable ending b → Numberable ending (changed m false b)
 unfolding changed swapped endingOf
-standing-mapped m b s = record {
+numberable-mapped m b s = record {
   men = unplaced-mapped m (b .men) ∙ s .men;
   side = s .side;
   squares = rw (all-map m false onBoard onBoard (λ a. ltb-mapped m (a .square)) (b .men)) (s .squares);
