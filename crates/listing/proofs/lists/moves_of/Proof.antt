@@ -1,3 +1,4 @@
+-- `listing::moves_of` meets its contract: the list, with the moves of the rest behind it, is the list of all moves. Assumes nothing.
 use mathlib.Core.Path.{_≡_, refl, sym, ap, _∙_}
 use mathlib.Core.List.{[], flatMap}
 use Prim.Native.Nat.{ℕ, _+_, _^_, _≤_, _<_}
