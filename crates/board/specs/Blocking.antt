@@ -17,7 +17,7 @@ use Rattle.board.specs.ReachLaws.{reaches-squares, reaches-none}
 
 -- every square that stands in the way in occ′, the target apart, does so in occ
 module _ (occ occ′ : ℕ → Bool) (t : ℕ) (fewer : (u : ℕ) → (u ≡ t → ⊥) → T (occ′ u) → T (occ u)) where
-  pub line-fewer : (n s dx dy : ℕ) → T (line occ n s dx dy t) → T (line occ′ n s dx dy t)
+  line-fewer : (n s dx dy : ℕ) → T (line occ n s dx dy t) → T (line occ′ n s dx dy t)
   unfolding line
   line-fewer zero s dx dy h = h
   line-fewer (suc n) s dx dy h =

@@ -1,10 +1,7 @@
 -- The setup of a position as keyed: it stands for the position's board, whose moves are those of one piece besides the kings. Assumes nothing.
-use mathlib.Core.Path.{_≡_, refl, sym, ap, _∙_}
-use mathlib.Core.Bool.{Bool}
-use mathlib.Core.List.{List, [], _∷_}
+use mathlib.Core.Path.{_≡_, refl, ap}
 use Prim.Native.Nat.{ℕ, _≤_}
 use lib.ListN.{length}
-use Rattle.rules.specs.declared.Move.{Move}
 use Rattle.rules.specs.Rules.{Board, pieceOf, inCheck, canMove, allMoves, moves}
 use Rattle.limit.specs.Limit.{moves-35}
 use Rattle.position.specs.declared.Position.{Position}

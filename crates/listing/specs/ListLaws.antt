@@ -1,13 +1,12 @@
 -- Laws of move lists: moves stored behind others, and one turn of the loop over the squares of a side's pieces. Assumes nothing.
-use mathlib.Core.Path.{_≡_, refl, sym, ap, ap₂, _∙_}
+use mathlib.Core.Path.{_≡_, refl, ap, ap₂, _∙_}
 use mathlib.Core.Bool.{Bool, true, false}
 use mathlib.Core.List.{List, [], _∷_, _++_, map, flatMap}
 use Prim.Native.Nat.{ℕ, zero, suc, _+_, _-_, _≤_}
-use native.Mathlib.Nat.{zero-add, add-zero, add-assoc, add-suc, suc-add, suc-sub-suc, sub-add-eq, sub-zero, le-of-suc-le-suc}
-use native.Mathlib.Numerals.{add-one}
+use native.Mathlib.Nat.{zero-add, add-zero, add-assoc, add-suc, suc-add, suc-sub-suc, sub-zero, le-of-suc-le-suc}
 use native.Mathlib.Omega.{arith}
 use lib.ListN.{length, drop, replicate, set, length-append, length-map, length-replicate}
-use lib.Seq.{sets, sets-eq, take-append-seam, drop-append-add}
+use lib.Seq.{sets, sets-eq}
 use Rattle.finite.specs.Filter.{filter, keep, filter-none}
 use Rattle.board.specs.Sets.{squares, members, setOf}
 use Rattle.board.specs.SetLaws.{members-setOf}
@@ -77,7 +76,7 @@ module _ (can : ℕ → ℕ → Bool) (rest from others targets : ℕ) (low : Lo
   unfolding movesFrom
   its-moves = rw (e, members-setOf (can from))
 
-  pub turn-split : flatMap (movesFrom can) (members rest) ≡ map (moveOf from) (members targets) ++ flatMap (movesFrom can) (members others)
+  turn-split : flatMap (movesFrom can) (members rest) ≡ map (moveOf from) (members targets) ++ flatMap (movesFrom can) (members others)
   unfolding flatMap
   turn-split = rw (low .first, its-moves)
 

@@ -1,10 +1,9 @@
 // The move list and the count of moves.
 use super::Counted;
 use super::Listed;
-use super::MoveList;
 use super::keyed::setup_of;
 use super::keyed::standing_refusal;
-use super::lists::add_moves;
+use super::lists::moves_of;
 use super::lists::no_moves;
 use board::lowest;
 use board::size;
@@ -16,9 +15,9 @@ ghost use mathlib.Core.Path.{_≡_};
 ghost use lib.ListN.{length};
 ghost use Rattle.rules.specs.Rules.{moves};
 ghost use Rattle.position.specs.Keyed.{boardOf};
-ghost use Rattle.listing.specs.Lists.{listOf};
 ghost use Rattle.listing.specs.Answers.{listed, Counts};
 
+<<<<<<< HEAD
 // The moves, whatever else is wrong with the position.
 pub fn moves_of(p: Position) -> MoveList
     ensures { λ r. ⌜ r ≡ listOf (moves (boardOf p)) ⌝ }
@@ -35,6 +34,9 @@ pub fn moves_of(p: Position) -> MoveList
 }
 
 // How many they are.
+=======
+// How many moves there are, whatever else is wrong with the position.
+>>>>>>> 687ac598bfca8e5dae58f70a107e56a70bd3cf24
 fn count_of(p: Position) -> u8
     ensures { λ r. ⌜ r ≡ length (moves (boardOf p)) ⌝ }
 {

@@ -1,6 +1,6 @@
 -- The pieces of a setup one by one, as code goes through them: a test over a board's pieces is a test of each of the four. Assumes nothing.
-use mathlib.Core.Path.{_≡_, refl, sym, ap, _∙_}
-use mathlib.Core.Bool.{Bool, true, false, _&&_, _||_, or-assoc, or-false, and-false}
+use mathlib.Core.Path.{_≡_, refl, sym, ap}
+use mathlib.Core.Bool.{Bool, false, _&&_, _||_, or-assoc, or-false, and-false}
 use mathlib.Core.Logic.{inl}
 use mathlib.Core.List.{List, [], _∷_, _++_}
 use Prim.Native.Nat.{ℕ, _^_, _<_}
@@ -13,7 +13,7 @@ use Rattle.board.specs.Sets.{has}
 use Rattle.board.specs.SetLaws.{has-or}
 use Rattle.board.specs.ReachLaws.{reaches-off}
 use Rattle.rules.specs.declared.Piece.{Piece}
-use Rattle.rules.specs.Rules.{Board, pieceOf, pieces, occupied, attacks, stands, goesTo}
+use Rattle.rules.specs.Rules.{pieceOf, pieces, occupied, attacks, stands, goesTo}
 use Rattle.moves.specs.declared.Slot.{Slot}
 use Rattle.moves.specs.declared.Slot.the-variants.{Absent, Present}
 use Rattle.moves.specs.declared.Setup.{Setup}

@@ -1,3 +1,4 @@
+-- `listing::count_of` meets its contract: the count and the moves of the rest make up all moves. Assumes nothing.
 use mathlib.Core.Path.{_≡_, refl, ap, _∙_}
 use Prim.Native.Nat.{ℕ, _+_, _^_, _<_}
 use Rattle.board.specs.Sets.{has, members, setOf}
@@ -10,7 +11,6 @@ use mathlib.Core.List.{[], flatMap}
 use native.Mathlib.Omega.{arith}
 use lib.ListN.{length}
 use Rattle.board.specs.SetLaws.{members-none}
-use Rattle.position.specs.Keyed.{boardOf}
 use Rattle.moves.specs.Setups.{setupBoard}
 use Rattle.listing.specs.ListLaws.{by-movers, turn-length}
 use Rattle.listing.proofs.answers.count_of.Statement.{statement}

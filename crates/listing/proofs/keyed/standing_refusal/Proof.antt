@@ -1,3 +1,4 @@
+-- `listing::standing_refusal` meets its contract: each return by the tests that led there. Assumes nothing.
 use mathlib.Core.Path.{_≡_, sym, _∙_}
 use Prim.Native.Nat.{_-_}
 use Rattle.position.specs.Keyed.{boardOf, placing, standing}

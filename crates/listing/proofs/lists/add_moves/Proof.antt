@@ -1,3 +1,4 @@
+-- `listing::add_moves` meets its contract: what is stored, with the rest stored behind it, is what is to be stored. Assumes nothing.
 use Rattle.board.specs.Sets.{has, members, setOf}
 use Prim.Native.Nat.{ℕ, _+_, _^_, _<_}
 use mathlib.Core.Bool.{not, _&&_}

@@ -1,4 +1,4 @@
-use mathlib.Core.Path.{sym, _∙_}
+use mathlib.Core.Path.{sym}
 use Rattle.board.specs.Sets.{has}
 use Rattle.moves.specs.Pieces.{attacked-four}
 use borrow.Author.Needs.{needs}

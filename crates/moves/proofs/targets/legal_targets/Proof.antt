@@ -1,3 +1,4 @@
+-- `moves::legal_targets` meets its contract: each return is one of the ways of `Targets`. Assumes nothing.
 use Rattle.moves.specs.Targets.{by-making, by-attacked, by-freedom}
 use mathlib.Core.Path.{sym, _∙_}
 use borrow.Author.Needs.{needs}

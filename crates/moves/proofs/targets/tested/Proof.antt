@@ -1,8 +1,8 @@
+-- `moves::tested` meets its contract: the targets kept so far, and those of the rest that pass, are all that pass. Assumes nothing.
 use mathlib.Core.Path.{_≡_, sym, _∙_}
 use mathlib.Core.Bool.{Bool, not, _&&_, _||_, or-false}
 use mathlib.Core.Logic.{⊎-elim}
 use Prim.Native.Nat.{ℕ, _^_, _<_}
-use native.Mathlib.Omega.{arith}
 use lib.ListN.{length}
 use Rattle.board.specs.Sets.{has, members}
 use Rattle.board.specs.SetLaws.{has-none, set-has}

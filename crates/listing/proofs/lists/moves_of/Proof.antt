@@ -1,3 +1,4 @@
+-- `listing::moves_of` meets its contract: the list, with the moves of the rest behind it, is the list of all moves. Assumes nothing.
 use mathlib.Core.Path.{_≡_, refl, sym, ap, _∙_}
 use mathlib.Core.List.{[], flatMap}
 use Prim.Native.Nat.{ℕ, _+_, _^_, _≤_, _<_}
@@ -13,8 +14,8 @@ use Rattle.listing.specs.ListLaws.{appended, appended-first, appended-no
 use mathlib.Core.Bool.{not, _&&_}
 use lib.Dec.{eqb}
 use Rattle.board.specs.LowestLaws.{Lowest, lowest-of}
-use Rattle.listing.proofs.answers.moves_of.Statement.{statement}
-use Rattle.listing.proofs.answers.moves_of.Tie as tie
+use Rattle.listing.proofs.lists.moves_of.Statement.{statement}
+use Rattle.listing.proofs.lists.moves_of.Tie as tie
 
 abbrev Inv-loop : tie.InvT-loop
 Inv-loop s list₀ rest₀ list rest =
