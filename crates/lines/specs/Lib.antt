@@ -1,0 +1,3 @@
+pub mod Grammar
+pub mod Shapes
+pub mod Run
