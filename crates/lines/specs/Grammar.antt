@@ -2,8 +2,10 @@
 use mathlib.Core.Bool.{Bool, true, false, cond, not, _&&_, _||_}
 use mathlib.Core.List.{List, [], _∷_}
 use Prim.Native.Nat.{ℕ, _+_, _-_, _*_}
+use Prim.Native.Char.{code}
 use lib.Dec.{leb, eqb}
 use lib.ListN.{getD}
+use Rattle.ascii.specs.Bytes.{bytes}
 use Rattle.position.specs.declared.Position.{Position}
 use Rattle.lines.specs.declared.Request.{Request}
 
@@ -16,8 +18,8 @@ between low high byte = leb low byte && leb byte high
 -- "a space out of place", another byte where a space belongs is "a space missing", and there is "a non-digit in a digit's place".
 unfoldable pub fitsPlace : ℕ → ℕ → Bool
 fitsPlace place byte =
-    cond (eqb place 46) (not (eqb byte 32))
-    (cond (eqb place 48) (between 48 57 byte)
+    cond (eqb place (code ".")) (not (eqb byte (code " ")))
+    (cond (eqb place (code "0")) (between (code "0") (code "9") byte)
     (eqb byte place))
 
 -- the line is as long as the shape, and each byte fits its place
@@ -27,31 +29,31 @@ hasShape [] (b ∷ bs) = false
 hasShape (p ∷ ps) [] = false
 hasShape (p ∷ ps) (b ∷ bs) = fitsPlace p b && hasShape ps bs
 
--- "A position line is 12 bytes: man, side, white king, man's square, black king. .. Single spaces stand between the parts": `. . .. .. ..`
+-- "A position line is 12 bytes: man, side, white king, man's square, black king. .. Single spaces stand between the parts"
 abbrev pub positionShape : List ℕ
-positionShape = 46 ∷ 32 ∷ 46 ∷ 32 ∷ 46 ∷ 46 ∷ 32 ∷ 46 ∷ 46 ∷ 32 ∷ 46 ∷ 46 ∷ []
+positionShape = bytes ". . .. .. .."
 
--- "A number line is 9: man, `#`, five digits": `. # 00000`
+-- "A number line is 9: man, `#`, five digits"
 abbrev pub numberShape : List ℕ
-numberShape = 46 ∷ 32 ∷ 35 ∷ 32 ∷ 48 ∷ 48 ∷ 48 ∷ 48 ∷ 48 ∷ []
+numberShape = bytes ". # 00000"
 
 -- ---- parts
 
 -- "Men are Q R B N", of the material codes 0 to 3; 4 for another byte
 unfoldable pub manOf : ℕ → ℕ
-manOf b = cond (eqb b 81) 0 (cond (eqb b 82) 1 (cond (eqb b 66) 2 (cond (eqb b 78) 3 4)))
+manOf b = cond (eqb b (code "Q")) 0 (cond (eqb b (code "R")) 1 (cond (eqb b (code "B")) 2 (cond (eqb b (code "N")) 3 4)))
 
 -- "sides w b", White 0 and Black 1; 2 for another byte
 unfoldable pub sideOf : ℕ → ℕ
-sideOf b = cond (eqb b 119) 0 (cond (eqb b 98) 1 2)
+sideOf b = cond (eqb b (code "w")) 0 (cond (eqb b (code "b")) 1 2)
 
 -- "files a to h, ranks 1 to 8", the square 8 x rank + file; 64 where either is another byte
 unfoldable pub squareOf : ℕ → ℕ → ℕ
-squareOf file rank = cond (between 97 104 file && between 49 56 rank) ((rank - 49) * 8 + (file - 97)) 64
+squareOf file rank = cond (between (code "a") (code "h") file && between (code "1") (code "8") rank) (8 * (rank - code "1") + (file - code "a")) 64
 
 -- the value of a digit; 0 for another byte
 unfoldable pub digitOf : ℕ → ℕ
-digitOf b = cond (between 48 57 b) (b - 48) 0
+digitOf b = cond (between (code "0") (code "9") b) (b - code "0") 0
 
 -- ---- requests
 

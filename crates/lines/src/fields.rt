@@ -43,7 +43,7 @@ pub fn square_named(file: u8, rank: u8) -> u8
     if b'8' < rank {
         return 64;
     }
-    (rank - b'1') * 8 + (file - b'a')
+    8 * (rank - b'1') + (file - b'a')
 }
 
 // The value of a digit; 0 for any other byte.
