@@ -80,6 +80,7 @@ unfoldable pub fiveDigits : List ℕ → ℕ
 fiveDigits line =
     digitOf (getD line 4 0) * 10000 + digitOf (getD line 5 0) * 1000 + digitOf (getD line 6 0) * 100 + digitOf (getD line 7 0) * 10 + digitOf (getD line 8 0)
 
+-- a number line's man and number; 1 where the man's byte is wrong
 unfoldable pub numberRequest : List ℕ → Request
 numberRequest line = cond (leb 4 (manOf (getD line 0 0))) (Request.Refused 1) (Request.Back (manOf (getD line 0 0)) (fiveDigits line))
 

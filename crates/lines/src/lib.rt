@@ -86,8 +86,8 @@ fn number_request(line: &[u8]) -> Request
     ensures { λ r. ⌜ r ≡ numberRequest (now (line .entry)) ⌝ }
 {
     let man = man_code(line[0]);
-    if 4 <= man {
-        return Request::Refused(1);
+    if man < 4 {
+        return Request::Back(man, five_digits(line));
     }
-    Request::Back(man, five_digits(line))
+    Request::Refused(1)
 }

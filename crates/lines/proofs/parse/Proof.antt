@@ -1,6 +1,6 @@
 -- `lines::parse` meets its contract: each return by the shapes that were tested. Assumes nothing.
 use mathlib.Core.Path.{sym, _∙_}
-use Rattle.lines.specs.Grammar.{positionShape, numberShape, requestOf}
+use Rattle.lines.specs.Grammar.{requestOf}
 use Rattle.lines.specs.Shapes.{shape-length}
 use borrow.Author.Needs.{needs}
 use Rattle.lines.proofs.parse.Statement.{statement}
@@ -13,7 +13,7 @@ shaped-requires : tie.Need-shaped-requires
 shaped-requires c κs = search needs
 
 keyed-requires : tie.Need-keyed-requires
-keyed-requires c κs = shape-length positionShape _ (sym (c .before .shaped .ensures) ∙ c .if1 .taken)
+keyed-requires c κs = shape-length _ _ (sym (c .before .shaped .ensures) ∙ c .if1 .taken)
 
 keyed-request-requires : tie.Need-keyed-request-requires
 keyed-request-requires c κs = search needs
@@ -29,7 +29,7 @@ shaped-requires-2 : tie.Need-shaped-requires-2
 shaped-requires-2 c κs = search needs
 
 number-request-requires : tie.Need-number-request-requires
-number-request-requires c κs = shape-length numberShape _ (sym (c .before .shaped2 .ensures) ∙ c .if2 .taken)
+number-request-requires c κs = shape-length _ _ (sym (c .before .shaped2 .ensures) ∙ c .if2 .taken)
 
 returns-2 : tie.Need-returns-2
 unfolding requestOf
