@@ -1,12 +1,11 @@
 -- Every slip is one line of 2 to 16 bytes that ends in a newline. Assumes nothing.
-use mathlib.Core.Path.{_≡_, refl, sym}
+use mathlib.Core.Path.{_≡_, refl}
 use mathlib.Core.Bool.{Bool, true, false, cond}
 use mathlib.Core.List.{List, [], _∷_, _++_}
 use Prim.Native.Nat.{ℕ, _+_, _≤_}
 use native.Mathlib.Omega.{arith}
 use lib.Dec.{ltb}
 use lib.ListN.{length, length-append}
-use Rattle.rules.specs.declared.Move.{Move}
 use Rattle.index.specs.declared.Placed.{Placed}
 use Rattle.answers.specs.declared.Advice.{Advice}
 use Rattle.answers.specs.declared.Advice.the-variants.{Play, NoMove}

@@ -6,15 +6,13 @@ use Prim.Native.Char.{code}
 use lib.Dec.{ltb, eqb}
 use lib.ListN.{length, replicate}
 use Rattle.ascii.specs.Bytes.{bytes}
-use Rattle.rules.specs.declared.Move.{Move}
-use Rattle.position.specs.declared.Position.{Position}
 use Rattle.index.specs.declared.Placed.{Placed}
 use Rattle.answers.specs.declared.Advice.{Advice}
 use Rattle.answers.specs.declared.Advice.the-variants.{Play, NoMove}
 use Rattle.answers.specs.declared.Answer.{Answer}
 use Rattle.slips.specs.declared.Slip.{Slip}
 
--- a digit's byte: of the last digit of n
+-- the byte of a number's last digit
 abbrev pub digitByte : ℕ → ℕ
 digitByte n = code "0" + n % 10
 
@@ -25,7 +23,7 @@ decimal n =
     (cond (ltb n 100) (digitByte (n / 10) ∷ digitByte n ∷ [])
     (digitByte (n / 100) ∷ digitByte (n / 10) ∷ digitByte n ∷ []))
 
--- "files a to h, ranks 1 to 8": a square's file and rank; off the board, those of its lowest six bits
+-- "files a to h, ranks 1 to 8": a square's file and rank; of a number above 63, those of its remainder by 64
 unfoldable pub squareName : ℕ → List ℕ
 squareName s = (code "a" + s % 8) ∷ (code "1" + s / 8 % 8) ∷ []
 
@@ -61,6 +59,7 @@ placedText (Placed.Refused n) = counted (bytes "refused ") n
 abbrev pub ended : List ℕ → List ℕ
 ended text = text ++ bytes "\n"
 
+-- the slip of look-up's answer, of numbering back's, and of a refusal
 unfoldable pub slipOf : Answer → List ℕ
 slipOf a = ended (answerText a)
 
