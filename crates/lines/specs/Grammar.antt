@@ -1,0 +1,90 @@
+-- The request of one input line, for any list of bytes (01, "The desk program", "When the desk says no"). Definitions only. Assumes nothing.
+use mathlib.Core.Bool.{Bool, true, false, cond, not, _&&_, _||_}
+use mathlib.Core.List.{List, [], _∷_}
+use Prim.Native.Nat.{ℕ, _+_, _-_, _*_}
+use Prim.Native.Char.{code}
+use lib.Dec.{leb, eqb}
+use lib.ListN.{getD}
+use Rattle.ascii.specs.Bytes.{bytes}
+use Rattle.position.specs.declared.Position.{Position}
+use Rattle.lines.specs.declared.Request.{Request}
+
+abbrev pub between : ℕ → ℕ → ℕ → Bool
+between low high byte = leb low byte && leb byte high
+
+-- ---- shape
+
+-- A place of a line takes: `.` any byte but a space, `0` any digit, another byte that byte itself. A space where a part's byte belongs is
+-- "a space out of place", another byte where a space belongs is "a space missing", and there is "a non-digit in a digit's place".
+unfoldable pub fitsPlace : ℕ → ℕ → Bool
+fitsPlace place byte =
+    cond (eqb place (code ".")) (not (eqb byte (code " ")))
+    (cond (eqb place (code "0")) (between (code "0") (code "9") byte)
+    (eqb byte place))
+
+-- the line is as long as the shape, and each byte fits its place
+unfoldable pub hasShape : List ℕ → List ℕ → Bool
+hasShape [] [] = true
+hasShape [] (b ∷ bs) = false
+hasShape (p ∷ ps) [] = false
+hasShape (p ∷ ps) (b ∷ bs) = fitsPlace p b && hasShape ps bs
+
+-- "A position line is 12 bytes: man, side, white king, man's square, black king. .. Single spaces stand between the parts"
+abbrev pub positionShape : List ℕ
+positionShape = bytes ". . .. .. .."
+
+-- "A number line is 9: man, `#`, five digits"
+abbrev pub numberShape : List ℕ
+numberShape = bytes ". # 00000"
+
+-- ---- parts
+
+-- "Men are Q R B N", of the material codes 0 to 3; 4 for another byte
+unfoldable pub manOf : ℕ → ℕ
+manOf b = cond (eqb b (code "Q")) 0 (cond (eqb b (code "R")) 1 (cond (eqb b (code "B")) 2 (cond (eqb b (code "N")) 3 4)))
+
+-- "sides w b", White 0 and Black 1; 2 for another byte
+unfoldable pub sideOf : ℕ → ℕ
+sideOf b = cond (eqb b (code "w")) 0 (cond (eqb b (code "b")) 1 2)
+
+-- "files a to h, ranks 1 to 8", the square 8 x rank + file; 64 where either is another byte
+unfoldable pub squareOf : ℕ → ℕ → ℕ
+squareOf file rank = cond (between (code "a") (code "h") file && between (code "1") (code "8") rank) (8 * (rank - code "1") + (file - code "a")) 64
+
+-- the value of a digit; 0 for another byte
+unfoldable pub digitOf : ℕ → ℕ
+digitOf b = cond (between (code "0") (code "9") b) (b - code "0") 0
+
+-- ---- requests
+
+-- the parts of a position line, each out of range where its byte is wrong
+unfoldable pub keyedOf : List ℕ → Position
+keyedOf line =
+    record {
+      man = manOf (getD line 0 0);
+      side = sideOf (getD line 2 0);
+      white = squareOf (getD line 4 0) (getD line 5 0);
+      square = squareOf (getD line 7 0) (getD line 8 0);
+      black = squareOf (getD line 10 0) (getD line 11 0);
+    }
+
+-- "any other wrong byte in a man's, side's or square's place is 1, 2 or 3"; "the lowest number counts"
+unfoldable pub keyedRequest : Position → Request
+keyedRequest p =
+    cond (leb 4 (p .man)) (Request.Refused 1)
+    (cond (leb 2 (p .side)) (Request.Refused 2)
+    (cond (leb 64 (p .white) || (leb 64 (p .square) || leb 64 (p .black))) (Request.Refused 3) (Request.LookUp p)))
+
+-- the number that five digits name
+unfoldable pub fiveDigits : List ℕ → ℕ
+fiveDigits line =
+    digitOf (getD line 4 0) * 10000 + digitOf (getD line 5 0) * 1000 + digitOf (getD line 6 0) * 100 + digitOf (getD line 7 0) * 10 + digitOf (getD line 8 0)
+
+-- a number line's man and number; 1 where the man's byte is wrong
+unfoldable pub numberRequest : List ℕ → Request
+numberRequest line = cond (leb 4 (manOf (getD line 0 0))) (Request.Refused 1) (Request.Back (manOf (getD line 0 0)) (fiveDigits line))
+
+-- "Another length, a nine-byte line without `#` as its third byte, a space out of place or missing, or a non-digit in a digit's place is
+-- refusal 12"; "a line's shape comes first"
+unfoldable pub requestOf : List ℕ → Request
+requestOf line = cond (hasShape positionShape line) (keyedRequest (keyedOf line)) (cond (hasShape numberShape line) (numberRequest line) (Request.Refused 12))

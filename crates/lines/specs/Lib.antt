@@ -1,0 +1,4 @@
+pub mod Grammar
+pub mod Shapes
+pub mod Run
+pub mod Requests

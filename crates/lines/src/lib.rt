@@ -1,0 +1,93 @@
+// The request of one input line.
+mod fields;
+mod shape;
+
+use fields::digit_value;
+use fields::man_code;
+use fields::side_code;
+use fields::square_named;
+use position::Position;
+use shape::shaped;
+ghost use mathlib.Core.Path.{_≡_};
+ghost use lib.ListN.{length};
+ghost use Rattle.lines.specs.Grammar.{requestOf, keyedOf, keyedRequest, numberRequest, fiveDigits};
+
+// What a line asks: to look a position up, or for the position of a man's number; or its refusal.
+pub enum Request {
+    LookUp(Position),
+    Back(u8, u32),
+    Refused(u8),
+}
+
+// The request of a line of any length; its newline is no part of it.
+pub fn parse(line: &[u8]) -> Request
+    ensures { λ r. ⌜ r ≡ requestOf (now (line .entry)) ⌝ }
+{
+    if shaped(b". . .. .. ..", line) {
+        return keyed_request(keyed(line));
+    }
+    if shaped(b". # 00000", line) {
+        return number_request(line);
+    }
+    Request::Refused(12)
+}
+
+// The parts of a line with the shape of a position line.
+fn keyed(line: &[u8]) -> Position
+    requires { ⌜ length (now line) ≡ 12 ⌝ }
+    ensures { λ r. ⌜ r ≡ keyedOf (now (line .entry)) ⌝ }
+{
+    Position {
+        man: man_code(line[0]),
+        side: side_code(line[2]),
+        white: square_named(line[4], line[5]),
+        square: square_named(line[7], line[8]),
+        black: square_named(line[10], line[11]),
+    }
+}
+
+// A look-up of the position, or the refusal of a part that is out of range.
+fn keyed_request(p: Position) -> Request
+    ensures { λ r. ⌜ r ≡ keyedRequest p ⌝ }
+{
+    let man = p.man;
+    let side = p.side;
+    let white = p.white;
+    let square = p.square;
+    let black = p.black;
+    if 4 <= man {
+        return Request::Refused(1);
+    }
+    if 2 <= side {
+        return Request::Refused(2);
+    }
+    if (64 <= white) | ((64 <= square) | (64 <= black)) {
+        return Request::Refused(3);
+    }
+    Request::LookUp(p)
+}
+
+// The number of a line with the shape of a number line.
+fn five_digits(line: &[u8]) -> u32
+    requires { ⌜ length (now line) ≡ 9 ⌝ }
+    ensures { λ r. ⌜ r ≡ fiveDigits (now (line .entry)) ⌝ }
+{
+    let a = digit_value(line[4]);
+    let b = digit_value(line[5]);
+    let c = digit_value(line[6]);
+    let d = digit_value(line[7]);
+    let e = digit_value(line[8]);
+    a * 10000 + b * 1000 + c * 100 + d * 10 + e
+}
+
+// The request of a line with the shape of a number line.
+fn number_request(line: &[u8]) -> Request
+    requires { ⌜ length (now line) ≡ 9 ⌝ }
+    ensures { λ r. ⌜ r ≡ numberRequest (now (line .entry)) ⌝ }
+{
+    let man = man_code(line[0]);
+    if man < 4 {
+        return Request::Back(man, five_digits(line));
+    }
+    Request::Refused(1)
+}

@@ -1,0 +1,5 @@
+pub mod Slip
+pub mod Appending
+pub mod Padding
+pub mod Lengths
+pub mod Run

@@ -1,0 +1,74 @@
+-- The bytes of an answer's slip (01, "The desk program"). Definitions only. Assumes nothing.
+use mathlib.Core.Bool.{cond}
+use mathlib.Core.List.{List, [], _∷_, _++_}
+use Prim.Native.Nat.{ℕ, _+_, _-_, _/_, _%_}
+use Prim.Native.Char.{code}
+use lib.Dec.{ltb, eqb}
+use lib.ListN.{length, replicate}
+use Rattle.ascii.specs.Bytes.{bytes}
+use Rattle.index.specs.declared.Placed.{Placed}
+use Rattle.answers.specs.declared.Advice.{Advice}
+use Rattle.answers.specs.declared.Advice.the-variants.{Play, NoMove}
+use Rattle.answers.specs.declared.Answer.{Answer}
+use Rattle.slips.specs.declared.Slip.{Slip}
+
+-- the byte of a number's last digit
+abbrev pub digitByte : ℕ → ℕ
+digitByte n = code "0" + n % 10
+
+-- a number below 1000, in decimal without leading zeros
+unfoldable pub decimal : ℕ → List ℕ
+decimal n =
+    cond (ltb n 10) (digitByte n ∷ [])
+    (cond (ltb n 100) (digitByte (n / 10) ∷ digitByte n ∷ [])
+    (digitByte (n / 100) ∷ digitByte (n / 10) ∷ digitByte n ∷ []))
+
+-- "files a to h, ranks 1 to 8": a square's file and rank; of a number above 63, those of its remainder by 64
+unfoldable pub squareName : ℕ → List ℕ
+squareName s = (code "a" + s % 8) ∷ (code "1" + s / 8 % 8) ∷ []
+
+-- "sides w b": White is 0, and any other side Black
+unfoldable pub sideLetter : ℕ → ℕ
+sideLetter side = cond (eqb side 0) (code "w") (code "b")
+
+-- a word and a number; a space and a square
+unfoldable pub counted : List ℕ → ℕ → List ℕ
+counted word n = word ++ decimal n
+
+unfoldable pub gapped : ℕ → List ℕ
+gapped s = bytes " " ++ squareName s
+
+-- an answer's move, from-square and to-square, after a space; nothing where there is none
+unfoldable pub adviceText : Advice → List ℕ
+adviceText (Play m) = gapped (m .from) ++ squareName (m .to)
+adviceText NoMove = []
+
+-- `win 1 h2g1`, `loss 0`, `draw`, `draw a1b2`, `refused 6`
+unfoldable pub answerText : Answer → List ℕ
+answerText (Answer.Win n a) = counted (bytes "win ") n ++ adviceText a
+answerText (Answer.Loss n a) = counted (bytes "loss ") n ++ adviceText a
+answerText (Answer.Draw a) = bytes "draw" ++ adviceText a
+answerText (Answer.Refused n) = counted (bytes "refused ") n
+
+-- `w a1 b1 h8`: side, white king, man's square, black king
+unfoldable pub placedText : Placed → List ℕ
+placedText (Placed.At p) = sideLetter (p .side) ∷ gapped (p .white) ++ gapped (p .square) ++ gapped (p .black)
+placedText (Placed.Refused n) = counted (bytes "refused ") n
+
+-- "a newline ends the line"
+abbrev pub ended : List ℕ → List ℕ
+ended text = text ++ bytes "\n"
+
+-- the slip of look-up's answer, of numbering back's, and of a refusal
+unfoldable pub slipOf : Answer → List ℕ
+slipOf a = ended (answerText a)
+
+unfoldable pub placedSlip : Placed → List ℕ
+placedSlip p = ended (placedText p)
+
+unfoldable pub refusedSlip : ℕ → List ℕ
+refusedSlip n = ended (counted (bytes "refused ") n)
+
+-- a list of at most 16 bytes as a slip: zeros fill the unused places
+unfoldable pub padded : List ℕ → Slip
+padded bs = record { bytes = bs ++ replicate (16 - length bs) 0; len = length bs }
