@@ -20,7 +20,7 @@ use Rattle.numbering.specs.Normal.{normalMap, normalised}
 use Rattle.numbering.specs.Number as numbering
 use Rattle.numbering.specs.Number.{numberOf, spread, endingOf, used}
 use Rattle.board.specs.Reach.{reaches}
-use Rattle.numbering.specs.Standing.{Standing}
+use Rattle.numbering.specs.Numberable.{Numberable}
 use Rattle.numbering.specs.ClassLaws.{number-lt, number-mapped}
 use Rattle.numbering.specs.AtLaws.{used-number, at-number, number-used}
 use Rattle.position.specs.PlacedLaws.{endingWith}
@@ -36,10 +36,10 @@ first-apart : (e f g : Bool) → T (not (e || f) && g) → e ≡ false
 first-apart true f g t = absurd t
 first-apart false f g t = refl
 
--- a legal board stands, with its own men
-pub legal-stands : (b : Board) → T (legal b) → Standing (endingOf b) b
+-- a legal board has a number, with its own men
+pub legal-numberable : (b : Board) → T (legal b) → Numberable (endingOf b) b
 unfolding separate all apart any touching
-legal-stands b t =
+legal-numberable b t =
     let l = legal-facts b t in
     let men = all (λ m. ltb (m .square) 64) (b .men) in
     let black = and-right (ltb (b .white) 64) (ltb (b .black) 64 && men) (l .squares) in
@@ -55,9 +55,9 @@ lone-ending : (man : ℕ) (b : Board) → Lone man b → endingOf b ≡ endingWi
 unfolding endingOf
 lone-ending man b l = rw (l .1)
 
--- the board of a position of the ending stands in that ending
-lone-standing : (man : ℕ) (b : Board) → T (legal b) → Lone man b → Standing (endingWith man) b
-lone-standing man b t l = subst (λ (e : List Piece). Standing e b) (lone-ending man b l) (legal-stands b t)
+-- the board of a position of the ending has a number in that ending
+lone-numberable : (man : ℕ) (b : Board) → T (legal b) → Lone man b → Numberable (endingWith man) b
+lone-numberable man b t l = subst (λ (e : List Piece). Numberable e b) (lone-ending man b l) (legal-numberable b t)
 
 board-is : (man n : ℕ) → boardAt man n ≡ numbering.boardAt (endingWith man) n
 unfolding boardAt
@@ -65,12 +65,12 @@ board-is man n = board-at man n
 
 -- numbers go with the eight maps
 pub number-image : (m : Symmetry) (b : Board) → T (legal b) → numberOf (changed m false b) ≡ numberOf b
-number-image m b t = number-mapped m b (legal-stands b t)
+number-image m b t = number-mapped m b (legal-numberable b t)
 
 -- the board at a board's number is one of its images
 pub image-at : (man : ℕ) (b : Board) → T (legal b) → Lone man b → (m : Symmetry) × (boardAt man (numberOf b) ≡ changed m false b)
 unfolding normalised
-image-at man b t l = (normalMap b, board-is man (numberOf b) ∙ at-number b (lone-standing man b t l))
+image-at man b t l = (normalMap b, board-is man (numberOf b) ∙ at-number b (lone-numberable man b t l))
 
 used-is : (man n : ℕ) → used (boardAt man n) ≡ not (unused (positionAt man n))
 unfolding boardAt
@@ -80,7 +80,7 @@ used-is man n = unused-exactly man n
 pub number-of-ending : (man : ℕ) (b : Board) → T (legal b) → Lone man b → (numberOf b < 59136) × T (legalNumber man (numberOf b))
 unfolding legalNumber spread
 number-of-ending man b t l =
-    let s = lone-standing man b t l in
+    let s = lone-numberable man b t l in
     let i = image-at man b t l in
     let u : T (used (boardAt man (numberOf b))) = subst (λ (c : Board). T (used c)) (sym (board-is man (numberOf b))) (number-used b s (legal-facts b t .apart)) in
     (number-lt b s, and-both (not (unused (positionAt man (numberOf b)))) (legal (boardAt man (numberOf b))) (subst T (used-is man (numberOf b)) u) (rw (i .1, legal-changed (i .0) false b) t))

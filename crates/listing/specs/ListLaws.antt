@@ -76,7 +76,7 @@ module _ (can : ℕ → ℕ → Bool) (rest from others targets : ℕ) (low : Lo
   unfolding movesFrom
   its-moves = rw (e, members-setOf (can from))
 
-  turn-split : flatMap (movesFrom can) (members rest) ≡ map (moveOf from) (members targets) ++ flatMap (movesFrom can) (members others)
+  pub turn-split : flatMap (movesFrom can) (members rest) ≡ map (moveOf from) (members targets) ++ flatMap (movesFrom can) (members others)
   unfolding flatMap
   turn-split = rw (low .first, its-moves)
 

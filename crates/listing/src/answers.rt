@@ -17,26 +17,7 @@ ghost use Rattle.rules.specs.Rules.{moves};
 ghost use Rattle.position.specs.Keyed.{boardOf};
 ghost use Rattle.listing.specs.Answers.{listed, Counts};
 
-<<<<<<< HEAD
-// The moves, whatever else is wrong with the position.
-pub fn moves_of(p: Position) -> MoveList
-    ensures { λ r. ⌜ r ≡ listOf (moves (boardOf p)) ⌝ }
-{
-    let s = setup_of(p);
-    let mut list = no_moves();
-    let mut rest = own(s, p.side);
-    while rest != 0 {
-        let from = lowest(rest);
-        list = add_moves(list, from, legal_targets(s, from));
-        rest = without(rest, from);
-    }
-    list
-}
-
-// How many they are.
-=======
 // How many moves there are, whatever else is wrong with the position.
->>>>>>> 687ac598bfca8e5dae58f70a107e56a70bd3cf24
 fn count_of(p: Position) -> u8
     ensures { λ r. ⌜ r ≡ length (moves (boardOf p)) ⌝ }
 {

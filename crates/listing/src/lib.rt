@@ -7,9 +7,9 @@ mod lists;
 
 pub use answers::legal_moves;
 pub use answers::move_count;
-pub use answers::moves_of;
 pub use keyed::setup_of;
 pub use keyed::standing_refusal;
+pub use lists::moves_of;
 
 // The moves, in order; the places from `count` on hold zero.
 pub struct MoveList {

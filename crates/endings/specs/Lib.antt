@@ -1,0 +1,11 @@
+pub mod Ending
+pub mod Chess
+pub mod IndexLaws
+pub mod Endings
+pub mod Answers
+pub mod Truth
+pub mod Checking
+pub mod LookingUp
+pub mod Desk
+pub mod Games
+pub mod FilledTrue

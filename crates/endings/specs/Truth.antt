@@ -1,0 +1,31 @@
+-- A true table and a true answer, by the rules of chess (demand 2). Definitions only. Assumes nothing.
+use mathlib.Core.Path.{_≡_}
+use mathlib.Core.Bool.{false}
+use mathlib.Core.List.{List, []}
+use Prim.Native.Nat.{ℕ, _<_}
+use lib.Dec.{T}
+use lib.ListN.{getD}
+use Rattle.finite.specs.Members.{_∈_}
+use Rattle.theory.specs.Value.{WonIn, LostIn, Drawn, TrueByte}
+use Rattle.rules.specs.declared.Move.{Move}
+use Rattle.rules.specs.Rules.{Board, legal, moves}
+use Rattle.rules.specs.Chess.{chess}
+use Rattle.position.specs.declared.Position.{Position}
+use Rattle.position.specs.Keyed.{boardOf}
+use Rattle.numbering.specs.Number.{numberOf}
+use Rattle.answers.specs.declared.Advice.{Advice}
+use Rattle.answers.specs.declared.Answer.{Answer}
+use Rattle.endings.specs.Chess.{tableSize, legalNumber}
+
+-- Every legal position's byte is its true value and depth, and every byte of an unused number or illegal position is 0.
+pub record TrueTable (man : ℕ) (t : List ℕ) : Type 0 where
+  pub legal-true : (p : Position) → p .man ≡ man → T (legal (boardOf p)) → TrueByte chess (boardOf p) (getD t (numberOf (boardOf p)) 0)
+  pub others-zero : (n : ℕ) → n < tableSize → legalNumber man n ≡ false → getD t n 0 ≡ 0
+
+-- The answer is the board's true value and depth, with a legal move where there is one.
+pub data TrueAnswer (b : Board) (a : Answer) : Type 0 where
+  won : (n : ℕ) (m : Move) → WonIn chess n b → m ∈ moves b → a ≡ Answer.Win n (Advice.Play m) → TrueAnswer b a
+  lost : (n : ℕ) (m : Move) → LostIn chess n b → m ∈ moves b → a ≡ Answer.Loss n (Advice.Play m) → TrueAnswer b a
+  mate : LostIn chess 0 b → moves b ≡ [] → a ≡ Answer.Loss 0 Advice.NoMove → TrueAnswer b a
+  drawn : (m : Move) → Drawn chess b → m ∈ moves b → a ≡ Answer.Draw (Advice.Play m) → TrueAnswer b a
+  stalemate : Drawn chess b → moves b ≡ [] → a ≡ Answer.Draw Advice.NoMove → TrueAnswer b a
