@@ -1,15 +1,15 @@
 -- A true table and a true answer, by the rules of chess (demand 2). Definitions only. Assumes nothing.
 use mathlib.Core.Path.{_≡_}
 use mathlib.Core.Bool.{false}
-use mathlib.Core.List.{List, []}
-use Prim.Native.Nat.{ℕ, _<_}
+use mathlib.Core.List.{List, [], _∷_, _++_}
+use Prim.Native.Nat.{ℕ, _-_, _<_}
 use lib.Dec.{T}
 use lib.ListN.{getD}
 use Rattle.finite.specs.Members.{_∈_}
 use Rattle.theory.specs.Value.{WonIn, LostIn, Drawn, TrueByte}
 use Rattle.rules.specs.declared.Move.{Move}
 use Rattle.rules.specs.Rules.{Board, legal, moves}
-use Rattle.rules.specs.Chess.{chess}
+use Rattle.rules.specs.Chess.{chess, played}
 use Rattle.position.specs.declared.Position.{Position}
 use Rattle.position.specs.Keyed.{boardOf}
 use Rattle.numbering.specs.Number.{numberOf}
@@ -22,10 +22,19 @@ pub record TrueTable (man : ℕ) (t : List ℕ) : Type 0 where
   pub legal-true : (p : Position) → p .man ≡ man → T (legal (boardOf p)) → TrueByte chess (boardOf p) (getD t (numberOf (boardOf p)) 0)
   pub others-zero : (n : ℕ) → n < tableSize → legalNumber man n ≡ false → getD t n 0 ≡ 0
 
--- The answer is the board's true value and depth, with a legal move where there is one.
+-- "The move is the first in list order": m is in the list and is what is sought, and nothing before it is
+pub record First (Sought : Move → Type 0) (ms : List Move) (m : Move) : Type 0 where
+  pub before : List Move
+  pub rest : List Move
+  pub split : ms ≡ before ++ (m ∷ rest)
+  pub sought : Sought m
+  pub none-earlier : (v : Move) → v ∈ before → Sought v → ⊥
+
+-- The answer is the board's true value and depth, with the first move "that leads to a loss in n - 1 (from a win), a win in n - 1 (from a
+-- loss), or a draw", or none for mate and stalemate. No table is spoken of.
 pub data TrueAnswer (b : Board) (a : Answer) : Type 0 where
-  won : (n : ℕ) (m : Move) → WonIn chess n b → m ∈ moves b → a ≡ Answer.Win n (Advice.Play m) → TrueAnswer b a
-  lost : (n : ℕ) (m : Move) → LostIn chess n b → m ∈ moves b → a ≡ Answer.Loss n (Advice.Play m) → TrueAnswer b a
+  won : (n : ℕ) (m : Move) → WonIn chess n b → First (λ v. LostIn chess (n - 1) (played b v)) (moves b) m → a ≡ Answer.Win n (Advice.Play m) → TrueAnswer b a
+  lost : (n : ℕ) (m : Move) → LostIn chess n b → First (λ v. WonIn chess (n - 1) (played b v)) (moves b) m → a ≡ Answer.Loss n (Advice.Play m) → TrueAnswer b a
   mate : LostIn chess 0 b → moves b ≡ [] → a ≡ Answer.Loss 0 Advice.NoMove → TrueAnswer b a
-  drawn : (m : Move) → Drawn chess b → m ∈ moves b → a ≡ Answer.Draw (Advice.Play m) → TrueAnswer b a
+  drawn : (m : Move) → Drawn chess b → First (λ v. Drawn chess (played b v)) (moves b) m → a ≡ Answer.Draw (Advice.Play m) → TrueAnswer b a
   stalemate : Drawn chess b → moves b ≡ [] → a ≡ Answer.Draw Advice.NoMove → TrueAnswer b a

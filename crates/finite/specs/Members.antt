@@ -1,9 +1,9 @@
 -- Tests over the members of a list: some, all, the first that passes; and what each says of the members.
 -- `x ∈ l` is a place of x in l, mathlib's `List·Memᴰ x l`. Assumes nothing.
-use mathlib.Core.Path.{_≡_, refl, sym, ap, subst}
+use mathlib.Core.Path.{_≡_, refl, sym, ap, subst, _∙_}
 use mathlib.Core.Logic.{_⊎_, inl, inr}
 use mathlib.Core.Bool.{Bool, true, false, not, _&&_, _||_, cond}
-use mathlib.Core.List.{List, [], _∷_, map, List·Memᴰ, List·Memᴰ·head, List·Memᴰ·tail}
+use mathlib.Core.List.{List, [], _∷_, _++_, map, List·Memᴰ, List·Memᴰ·head, List·Memᴰ·tail}
 use mathlib.Core.Option.{Option, none, some}
 use lib.Dec.{T}
 use Rattle.finite.specs.Truth.{and-left, and-right, and-both, or-left, or-right, or-cases, true-of, of-true, true-not-false}
@@ -97,6 +97,20 @@ module _ {A : Type 0} where
       go : (b : Bool) → f y ≡ b → (first f l ≡ some x → (x ∈ l) × T (f x)) → cond b (some y) (first f l) ≡ some x → (x ∈ y ∷ l) × T (f x)
       go true d rest e′ = let s : x ≡ y = cc in (List·Memᴰ·head s, subst (λ (z : A). T (f z)) (sym s) (of-true d))
       go false d rest e′ = let r = rest e′ in (List·Memᴰ·tail (r .0), r .1)
+
+  -- and none before it passes
+  pub first-split : (f : A → Bool) (l : List A) (x : A) → first f l ≡ some x → (before : List A) × (rest : List A) × (l ≡ before ++ (x ∷ rest)) × T (f x) × ((y : A) → y ∈ before → f y ≡ false)
+  unfolding first
+  first-split f [] x e = let z : true ≡ false = cc in absurd (true-not-false {b = true} refl z)
+  first-split f (y ∷ l) x e = go (f y) refl (λ (d : first f l ≡ some x). first-split f l x d) e
+    where
+      go : (b : Bool) → f y ≡ b → (first f l ≡ some x → (before : List A) × (rest : List A) × (l ≡ before ++ (x ∷ rest)) × T (f x) × ((z : A) → z ∈ before → f z ≡ false)) → cond b (some y) (first f l) ≡ some x → (before : List A) × (rest : List A) × (y ∷ l ≡ before ++ (x ∷ rest)) × T (f x) × ((z : A) → z ∈ before → f z ≡ false)
+      go true d more q = let s : y ≡ x = cc in ([], l, ap (λ (z : A). z ∷ l) s, subst (λ (z : A). T (f z)) s (of-true d), λ z i. elim i [ ])
+      go false d more q = let r = more q in (y ∷ r .0, r .1, ap (λ (m : List A). y ∷ m) (r .2), r .3, each d (r .4))
+        where
+          each : {before : List A} → f y ≡ false → ((z : A) → z ∈ before → f z ≡ false) → (z : A) → z ∈ y ∷ before → f z ≡ false
+          each n h z (List·Memᴰ·head i) = ap f i ∙ n
+          each n h z (List·Memᴰ·tail i) = h z i
 
   pub first-in : (f : A → Bool) {x : A} {l : List A} → x ∈ l → T (f x) → (y : A) × (first f l ≡ some y)
   unfolding first
