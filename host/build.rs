@@ -10,7 +10,7 @@ const VARIABLE: &str = "SLEDGEWREN_LIB_DIR";
 /// The folder; a relative one counts from the repository's root.
 fn folder() -> PathBuf {
     let crate_folder = env::var_os("CARGO_MANIFEST_DIR").unwrap_or_default();
-    let root = Path::new(&crate_folder).join("..");
+    let root = Path::new(&crate_folder).parent().unwrap_or(Path::new("."));
     match env::var_os(VARIABLE) {
         Some(named) if !named.is_empty() => root.join(named),
         _ => root.join("target/staticlib"),

@@ -81,10 +81,8 @@ pub fn moves(keyed: impl Into<Keyed>) -> Result<Moves, Refusal> {
         unsafe { ffi::sledgewren_moves(man, side, white_king, man_square, black_king, start, len) }
             as u64;
     unless_refused("moves", answer)?;
-    let square = |code| Square::from_code(code).unwrap_or_else(|| broken("moves", answer));
-    let at =
-        |place: usize| Move { from: square(pairs[2 * place]), to: square(pairs[2 * place + 1]) };
-    Ok(Moves::new(bits(answer, 8) as usize, at))
+    let moves = Moves::from_pairs(&pairs, bits(answer, 8) as usize);
+    Ok(moves.unwrap_or_else(|| broken("moves", answer)))
 }
 
 /// Writes the true table of an ending and gives its greatest depth, or none if no position is

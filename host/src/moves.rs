@@ -32,9 +32,14 @@ pub struct Moves {
 }
 
 impl Moves {
-    /// A list of this many places, each filled by `at`; at most 35.
-    pub(crate) fn new(count: usize, at: impl Fn(usize) -> Move) -> Moves {
-        Moves { list: std::array::from_fn(at), count: count.min(MOST_MOVES) }
+    /// The first so many pairs (from, to) as moves, or none if a byte is no square.
+    pub(crate) fn from_pairs(pairs: &[u8; 2 * MOST_MOVES], count: usize) -> Option<Moves> {
+        let corner = Square::from_code(0)?;
+        let mut list = [Move { from: corner, to: corner }; MOST_MOVES];
+        for (place, pair) in list.iter_mut().zip(pairs.chunks_exact(2)).take(count) {
+            *place = Move { from: Square::from_code(pair[0])?, to: Square::from_code(pair[1])? };
+        }
+        (count <= MOST_MOVES).then_some(Moves { list, count })
     }
 }
 
