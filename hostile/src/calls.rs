@@ -6,7 +6,8 @@ use second::rule::Value as SecondValue;
 use second::rules::{legal_position, moves as second_moves, Move as SecondMove};
 use second::table::{check as second_check, look_up as second_look_up, Checked as SecondChecked};
 use second::{desk as second_desk, fill_back};
-use sledgewren::{entry, Answer, Checked, Desk, Keyed, Move, Refusal, TABLE_BYTES};
+use sledgewren::{entry, ffi, Answer, Checked, Desk, Keyed, Move, Refusal};
+use sledgewren::{MOST_MOVES, TABLE_BYTES};
 
 use crate::lines::{Input, SHORT};
 use crate::sequence::Sequence;
@@ -73,14 +74,37 @@ fn their_look_up(table: &[u8], keyed: [u8; 5]) -> Result<Found, u8> {
     })
 }
 
-fn their_moves(keyed: [u8; 5]) -> Result<Vec<(u8, u8)>, u8> {
-    let position = refused(legal_position(&second(keyed)))?;
-    Ok(second_moves(&position).as_slice().iter().map(|chosen| (chosen.from, chosen.to)).collect())
+/// A list as the C function writes it: 35 pairs and the answer.
+type List = ([u8; 2 * MOST_MOVES], u32);
+
+fn their_moves(keyed: [u8; 5]) -> List {
+    let mut list = [0; 2 * MOST_MOVES];
+    match legal_position(&second(keyed)) {
+        Err(Refused(code)) => (list, code as u32),
+        Ok(position) => {
+            let moves = second_moves(&position);
+            for (pair, chosen) in list.chunks_exact_mut(2).zip(moves.as_slice()) {
+                pair.copy_from_slice(&[chosen.from, chosen.to]);
+            }
+            (list, (moves.as_slice().len() as u32) << 8)
+        }
+    }
 }
 
-fn our_moves(keyed: [u8; 5]) -> Result<Vec<(u8, u8)>, u8> {
-    let moves = ours(entry::moves(keyed))?;
-    Ok(moves.iter().map(|chosen| (chosen.from.code(), chosen.to.code())).collect())
+/// Every byte counts, so the list is lent with 165 in each.
+fn our_moves(keyed: [u8; 5]) -> List {
+    let [man, side, white, square, black] = keyed;
+    let mut list = [165; 2 * MOST_MOVES];
+    let (start, len) = (list.as_mut_ptr(), list.len());
+    // SAFETY: `start` leads to `len` bytes that nothing else refers to.
+    let answer = unsafe { ffi::sledgewren_moves(man, side, white, square, black, start, len) };
+    (list, answer)
+}
+
+fn our_count(keyed: [u8; 5]) -> u32 {
+    let [man, side, white, square, black] = keyed;
+    // SAFETY: no pointers.
+    unsafe { ffi::sledgewren_count(man, side, white, square, black) }
 }
 
 /// Number, count, moves and look-up of five bytes as keyed.
@@ -88,8 +112,7 @@ fn compare_keyed(keyed: [u8; 5], table: &[u8], tally: &mut Tally) {
     let number = refused(second_number(&second(keyed))).map(|number| number as u32);
     tally.add("number", &keyed, ours(entry::number(keyed)), number);
     let moves = their_moves(keyed);
-    let count = moves.as_ref().map(|moves| moves.len() as u8).map_err(|&code| code);
-    tally.add("count", &keyed, ours(entry::count(keyed)), count);
+    tally.add("count", &keyed, our_count(keyed), moves.1);
     tally.add("moves", &keyed, our_moves(keyed), moves);
     let answer = ours(entry::look_up(table, keyed)).map(our_answer);
     tally.add("look-up", &keyed, answer, their_look_up(table, keyed));

@@ -105,7 +105,7 @@ fn compare(tables: &str, output: &str) -> Result<Sum, String> {
     let (endings, mut sum) = (endings?, Sum::default());
     println!("Every placement of two kings and one man, against Gaviota\n");
     compare_positions(&gaviota, &endings, &mut sum);
-    println!("\nTables written from Gaviota's depths, judged by sledgewren_check\n");
+    println!("\nTables written from Gaviota's depths to {output}, judged by sledgewren_check\n");
     println!("| Ending | Verdict | Bytes unlike the library's | Unlike the oracle's |");
     println!("|---|---|---|---|");
     for ending in &endings {
