@@ -1,0 +1,92 @@
+//! Measures the library beside the oracle and Gaviota, in one run.
+//!
+//! usage: bench ORACLE DESK GAVIOTA-FOLDER OUTPUT-FOLDER, with - for what is not there
+
+mod desk;
+mod look_ups;
+mod moves;
+mod positions;
+mod tables;
+mod timing;
+
+use std::path::Path;
+use std::process::ExitCode;
+
+use sledgewren::{Man, Side};
+
+use look_ups::Ground;
+use timing::{print, Row};
+
+/// Quick works are repeated more often than slow ones.
+const MANY: usize = 15;
+const FEW: usize = 5;
+
+const DECIDED: [Man; 2] = [Man::Queen, Man::Rook];
+
+fn says() {
+    println!("Release builds, one process, the library and the other in turn. Times are processor");
+    println!(
+        "time, medians of {MANY} runs (look-ups and desk: {FEW}) after one that is not counted."
+    );
+    println!("Tables are lent to a fill with {} in every byte: clearing is within", tables::DIRT);
+    println!("both times. A time is for one fill, check, position or run.\n");
+}
+
+#[cfg(feature = "gaviota")]
+fn look_ups(folder: &str, rows: &mut Vec<Row>) -> Result<(), String> {
+    let gaviota = gaviota::Gaviota::open(folder)?;
+    let ground = Ground::in_order()?;
+    rows.push(ground.beside_probe(&gaviota, FEW));
+    let ground = ground.shuffled();
+    rows.push(ground.beside_probe(&gaviota, FEW));
+    rows.push(ground.beside_oracle(FEW));
+    rows.push(ground.beside_probes(&gaviota, FEW));
+    Ok(())
+}
+
+#[cfg(not(feature = "gaviota"))]
+fn look_ups(_: &str, rows: &mut Vec<Row>) -> Result<(), String> {
+    println!("Not measured: Gaviota's probe, whose packages are missing.\n");
+    rows.push(Ground::in_order()?.shuffled().beside_oracle(FEW));
+    Ok(())
+}
+
+fn measure(oracle: &str, program: &str, gaviota: &str, folder: &Path) -> Result<Vec<Row>, String> {
+    let mut rows = Vec::new();
+    for man in DECIDED {
+        rows.push(tables::fill(man, MANY)?);
+    }
+    look_ups(gaviota, &mut rows)?;
+    for man in DECIDED {
+        rows.push(tables::check(man, MANY)?);
+    }
+    match program {
+        "-" => println!("Not measured: the desk program, which SLEDGEWREN_DESK names.\n"),
+        _ => rows.push(desk::row(program, oracle, folder, FEW)?),
+    }
+    for man in DECIDED {
+        for side in Side::ALL {
+            rows.extend(moves::rows(man, side, MANY)?);
+        }
+    }
+    Ok(rows)
+}
+
+fn main() -> ExitCode {
+    let words: Vec<String> = std::env::args().skip(1).collect();
+    let [oracle, desk, gaviota, folder] = &words[..] else {
+        eprintln!("usage: bench ORACLE DESK GAVIOTA-FOLDER OUTPUT-FOLDER");
+        return ExitCode::from(2);
+    };
+    says();
+    match measure(oracle, desk, gaviota, Path::new(folder)) {
+        Ok(rows) => {
+            print(&rows);
+            ExitCode::SUCCESS
+        }
+        Err(message) => {
+            eprintln!("bench: {message}");
+            ExitCode::from(1)
+        }
+    }
+}

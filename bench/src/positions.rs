@@ -1,0 +1,43 @@
+//! The positions that are measured.
+
+use second::position::Keyed as SecondKeyed;
+use second::rules::legal_position;
+use sledgewren::{Keyed, Man, Side};
+
+/// The same position for the oracle.
+pub fn second(keyed: Keyed) -> SecondKeyed {
+    let Keyed { man, side, white_king, man_square, black_king } = keyed;
+    SecondKeyed { man, side, white_king, man_square, black_king }
+}
+
+/// All legal positions of an ending on the whole board, one side to move.
+pub fn legal(man: Man, side: Side) -> Vec<Keyed> {
+    let mut found = Vec::new();
+    for white_king in 0..64 {
+        for man_square in 0..64 {
+            for black_king in 0..64 {
+                let (man, side) = (man.code(), side.code());
+                let keyed = Keyed { man, side, white_king, man_square, black_king };
+                if legal_position(&second(keyed)).is_ok() {
+                    found.push(keyed);
+                }
+            }
+        }
+    }
+    found
+}
+
+/// All legal positions of an ending, both sides.
+pub fn of_ending(man: Man) -> Vec<Keyed> {
+    Side::ALL.into_iter().flat_map(|side| legal(man, side)).collect()
+}
+
+/// The same positions in an order without pattern, the same in every run.
+pub fn shuffled(mut positions: Vec<Keyed>) -> Vec<Keyed> {
+    let mut state = 2049u64;
+    for last in (1..positions.len()).rev() {
+        state = state.wrapping_mul(6364136223846793005).wrapping_add(1442695040888963407);
+        positions.swap(last, (state >> 33) as usize % (last + 1));
+    }
+    positions
+}

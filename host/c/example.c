@@ -1,0 +1,56 @@
+/*
+ * Fills the queen's table, has it checked, and looks three positions up. From the repository's
+ * root:
+ *
+ *   cc -std=c99 -Iinclude host/c/example.c target/staticlib/libhost.a -o target/c-example
+ */
+
+#include <stdio.h>
+
+#include "sledgewren.h"
+
+static uint8_t table[SLEDGEWREN_TABLE_BYTES];
+
+static void print_square(unsigned square)
+{
+    printf("%c%c", (int)('a' + square % 8), (int)('1' + square / 8));
+}
+
+/* White king on b3, black king on a1. */
+static void look_up(uint8_t side, uint8_t queen)
+{
+    static const char *const values[] = {"?", "win", "loss", "draw"};
+    uint64_t answer =
+        sledgewren_look_up(table, sizeof table, SLEDGEWREN_QUEEN, side, 17, queen, 0);
+
+    printf("%s to move, Kb3 Q", side == SLEDGEWREN_WHITE ? "White" : "Black");
+    print_square(queen);
+    printf(" against Ka1: ");
+    if (SLEDGEWREN_BITS(answer, 0) != SLEDGEWREN_NOT_REFUSED) {
+        printf("refused %d\n", SLEDGEWREN_BITS(answer, 0));
+        return;
+    }
+    printf("%s in %d", values[SLEDGEWREN_BITS(answer, 8) & 3], SLEDGEWREN_BITS(answer, 16));
+    if (SLEDGEWREN_BITS(answer, 24) & 1) {
+        printf(" by ");
+        print_square(SLEDGEWREN_BITS(answer, 32));
+        print_square(SLEDGEWREN_BITS(answer, 40));
+    }
+    printf("\n");
+}
+
+int main(void)
+{
+    uint32_t filled = sledgewren_fill(SLEDGEWREN_QUEEN, table, sizeof table);
+    uint64_t checked = sledgewren_check(SLEDGEWREN_QUEEN, table, sizeof table);
+
+    if (SLEDGEWREN_BITS(filled, 0) != SLEDGEWREN_NOT_REFUSED || checked != 0) {
+        fprintf(stderr, "the queen's table was refused or is wrong\n");
+        return 1;
+    }
+    printf("queen: greatest depth %d, accepted\n", SLEDGEWREN_BITS(filled, 16));
+    look_up(SLEDGEWREN_WHITE, 15);
+    look_up(SLEDGEWREN_BLACK, 9);
+    look_up(SLEDGEWREN_WHITE, 9);
+    return 0;
+}

@@ -1,0 +1,81 @@
+//! Adjudicates a position and plays it out with the table's moves on both sides.
+//!
+//!     cargo run --example adjudicate -- R w e3 h1 e5
+
+use std::env;
+use std::error::Error;
+use std::process::ExitCode;
+
+use sledgewren::{Accepted, Man, Move, Position, Side, Table};
+
+const DEFAULT: [&str; 5] = ["Q", "w", "b3", "g6", "d1"];
+
+/// A man, a side and three squares, as on the command line.
+fn read(words: &[String]) -> Result<Position, Box<dyn Error>> {
+    let [man, side, white_king, man_square, black_king] = words else {
+        return Err("give a position, as: R w e3 h1 e5".into());
+    };
+    let men = Man::ALL.into_iter().find(|found| found.letter().to_string() == *man);
+    let sides = Side::ALL.into_iter().find(|found| found.letter().to_string() == *side);
+    Ok(Position {
+        man: men.ok_or("the man is Q, R, B or N")?,
+        side: sides.ok_or("the side to move is w or b")?,
+        white_king: white_king.parse()?,
+        man_square: man_square.parse()?,
+        black_king: black_king.parse()?,
+    })
+}
+
+/// The position after a move, or none if the man is taken.
+fn played(position: Position, chosen: Move) -> Option<Position> {
+    let mut next = Position { side: position.side.other(), ..position };
+    match position.side {
+        Side::White if chosen.from == position.white_king => next.white_king = chosen.to,
+        Side::White => next.man_square = chosen.to,
+        Side::Black if chosen.to == position.man_square => return None,
+        Side::Black => next.black_king = chosen.to,
+    }
+    Some(next)
+}
+
+/// The moves that the table gives, up to mate, stalemate, bare kings or so many plies.
+fn line(table: &Accepted, mut position: Position, plies: usize) -> Result<String, Box<dyn Error>> {
+    let mut text = String::new();
+    for _ in 0..plies {
+        let Position { side, white_king, man_square, black_king, .. } = position;
+        let answer = table.look_up(side, white_king, man_square, black_king)?;
+        let Some(best) = answer.best() else { return Ok(text + &format!("{answer}")) };
+        text += &format!("{best} ");
+        match played(position, best) {
+            Some(next) => position = next,
+            None => return Ok(text + "bare kings"),
+        }
+    }
+    Ok(text + "...")
+}
+
+fn adjudicate() -> Result<(), Box<dyn Error>> {
+    let words: Vec<String> = env::args().skip(1).collect();
+    let words = if words.is_empty() { DEFAULT.map(String::from).to_vec() } else { words };
+    let position = read(&words)?;
+    println!("{position} is number {}, {} moves", position.number()?, position.count()?);
+    let mut table = Table::zeroed();
+    match table.fill(position.man)? {
+        Some(depth) => println!("{}: greatest depth {depth}", position.man),
+        None => println!("{}: no position is decided", position.man),
+    }
+    let table = table.accept(position.man).map_err(|(_, number)| format!("wrong at {number}"))?;
+    println!("{position}: {}", table.table().look_up(position)?);
+    println!("play: {}", line(&table, position, 40)?);
+    Ok(())
+}
+
+fn main() -> ExitCode {
+    match adjudicate() {
+        Ok(()) => ExitCode::SUCCESS,
+        Err(error) => {
+            eprintln!("adjudicate: {error}");
+            ExitCode::from(1)
+        }
+    }
+}

@@ -1,0 +1,152 @@
+//! The library's eight entry points, one function each, on any bytes and any lengths.
+//!
+//! A position is given as [`Keyed`], five bytes of any values, or as a
+//! [`Position`]; a man as his code, any byte, or as a [`Man`]. The methods of the crate's types
+//! rest on these functions.
+
+use crate::ffi;
+use crate::{Answer, Checked, Keyed, Man, Move, Moves, Position, Refusal, Side, Slip, Square};
+use crate::{MOST_MOVES, SLIP_BYTES};
+
+/// The linked library is not the one this crate is written for.
+#[cold]
+fn broken(entry: &str, answer: u64) -> ! {
+    panic!("sledgewren_{entry} answered {answer:#x}, which its contract rules out")
+}
+
+fn bits(answer: u64, first: u32) -> u8 {
+    (answer >> first) as u8
+}
+
+/// The answer if its lowest bits hold no refusal.
+fn unless_refused(entry: &str, answer: u64) -> Result<u64, Refusal> {
+    match bits(answer, 0) {
+        0 => Ok(answer),
+        code => Err(Refusal::from_code(code).unwrap_or_else(|| broken(entry, answer))),
+    }
+}
+
+fn square(entry: &str, answer: u64, first: u32) -> Square {
+    Square::from_code(bits(answer, first)).unwrap_or_else(|| broken(entry, answer))
+}
+
+/// The number of a position, 0 to 59,135. Refusals 1 to 5.
+pub fn number(keyed: impl Into<Keyed>) -> Result<u32, Refusal> {
+    const REFUSED: u32 = 0x8000_0000;
+    let Keyed { man, side, white_king, man_square, black_king } = keyed.into();
+    // SAFETY: no pointers.
+    let answer = unsafe { ffi::sledgewren_number(man, side, white_king, man_square, black_king) };
+    if answer < REFUSED {
+        return Ok(answer);
+    }
+    let refusal = u8::try_from(answer - REFUSED).ok().and_then(Refusal::from_code);
+    Err(refusal.unwrap_or_else(|| broken("number", answer as u64)))
+}
+
+/// The position that a number stands for. Refusals 1, 8, 9.
+pub fn position(man: impl Into<u8>, number: u32) -> Result<Position, Refusal> {
+    let code = man.into();
+    // SAFETY: no pointers.
+    let answer = unsafe { ffi::sledgewren_position(code, number) };
+    unless_refused("position", answer)?;
+    let square = |first| square("position", answer, first);
+    let side = Side::from_code(bits(answer, 8));
+    match Man::from_code(code).zip(side) {
+        Some((man, side)) => Ok(Position {
+            man,
+            side,
+            white_king: square(16),
+            man_square: square(24),
+            black_king: square(32),
+        }),
+        None => broken("position", answer),
+    }
+}
+
+/// How many legal moves a position has, at most 35. Refusals 1 to 6.
+pub fn count(keyed: impl Into<Keyed>) -> Result<u8, Refusal> {
+    let Keyed { man, side, white_king, man_square, black_king } = keyed.into();
+    // SAFETY: no pointers.
+    let answer = unsafe { ffi::sledgewren_count(man, side, white_king, man_square, black_king) };
+    Ok(bits(unless_refused("count", answer as u64)?, 8))
+}
+
+/// The legal moves by from-square, then to-square. Refusals 1 to 6.
+pub fn moves(keyed: impl Into<Keyed>) -> Result<Moves, Refusal> {
+    let Keyed { man, side, white_king, man_square, black_king } = keyed.into();
+    let mut pairs = [0; 2 * MOST_MOVES];
+    let (start, len) = (pairs.as_mut_ptr(), pairs.len());
+    // SAFETY: `start` leads to `len` bytes that nothing else refers to.
+    let answer =
+        unsafe { ffi::sledgewren_moves(man, side, white_king, man_square, black_king, start, len) }
+            as u64;
+    unless_refused("moves", answer)?;
+    let moves = Moves::from_pairs(&pairs, bits(answer, 8) as usize);
+    Ok(moves.unwrap_or_else(|| broken("moves", answer)))
+}
+
+/// Writes the true table of an ending and gives its greatest depth, or none if no position is
+/// decided. Refusals 1 and 7 leave the bytes untouched, 10 leaves them all zero.
+pub fn fill(man: impl Into<u8>, table: &mut [u8]) -> Result<Option<u8>, Refusal> {
+    // SAFETY: the slice's pointer leads to as many bytes as its length says, and is lent to us
+    // alone.
+    let answer = unsafe { ffi::sledgewren_fill(man.into(), table.as_mut_ptr(), table.len()) };
+    let answer = unless_refused("fill", answer as u64)?;
+    Ok((bits(answer, 8) & 1 == 1).then_some(bits(answer, 16)))
+}
+
+/// Holds every byte of a table to the one that its successors' bytes require. Refusals 1, 7.
+pub fn check(man: impl Into<u8>, table: &[u8]) -> Result<Checked, Refusal> {
+    // SAFETY: the slice's pointer leads to as many bytes as its length says.
+    let answer = unsafe { ffi::sledgewren_check(man.into(), table.as_ptr(), table.len()) };
+    let answer = unless_refused("check", answer)?;
+    match bits(answer, 8) & 1 {
+        0 => Ok(Checked::Accepted),
+        _ => Ok(Checked::Wrong((answer >> 32) as u32)),
+    }
+}
+
+/// A position's value, depth and move from a table. Refusals 1 to 7 and 11.
+pub fn look_up(table: &[u8], keyed: impl Into<Keyed>) -> Result<Answer, Refusal> {
+    let Keyed { man, side, white_king, man_square, black_king } = keyed.into();
+    let (start, len) = (table.as_ptr(), table.len());
+    // SAFETY: the slice's pointer leads to as many bytes as its length says.
+    let answer = unsafe {
+        ffi::sledgewren_look_up(start, len, man, side, white_king, man_square, black_king)
+    };
+    unless_refused("look_up", answer)?;
+    let square = |first| square("look_up", answer, first);
+    let given = bits(answer, 24) & 1 == 1;
+    let best = given.then(|| Move { from: square(32), to: square(40) });
+    let depth = bits(answer, 16);
+    match bits(answer, 8) {
+        1 => Ok(Answer::Win { depth, best }),
+        2 => Ok(Answer::Loss { depth, best }),
+        3 => Ok(Answer::Draw { best }),
+        _ => broken("look_up", answer),
+    }
+}
+
+/// Answers one line of the desk, given without its newline. The table holds the table of the man
+/// held, and is filled where the line needs another one. Gives the slip and the man held then.
+/// [`Desk`](crate::Desk) keeps both.
+pub fn answer_line(line: &[u8], held: Option<Man>, table: &mut [u8]) -> (Slip, Option<Man>) {
+    const NO_MAN: u8 = 4;
+    let mut slip = [0; SLIP_BYTES];
+    // SAFETY: each pointer leads to as many bytes as its length says; the two that are written
+    // through are lent to us alone.
+    let answer = unsafe {
+        ffi::sledgewren_answer_line(
+            line.as_ptr(),
+            line.len(),
+            held.map_or(NO_MAN, Man::code),
+            table.as_mut_ptr(),
+            table.len(),
+            slip.as_mut_ptr(),
+            slip.len(),
+        )
+    } as u64;
+    let slip = Slip::new(slip, bits(answer, 0) as usize);
+    let slip = slip.unwrap_or_else(|| broken("answer_line", answer));
+    (slip, Man::from_code(bits(answer, 8)))
+}

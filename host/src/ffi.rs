@@ -1,0 +1,58 @@
+//! The static library's functions as C has them (`include/sledgewren.h`).
+//!
+//! Each is total on values and lengths. A pointer must not be null and must lead to as many bytes
+//! as its length says, and buffers lent to one call must not overlap. The crate's other functions
+//! see to that; nothing else need call these.
+
+extern "C" {
+    /// The number, or 0x80000000 + refusal.
+    pub fn sledgewren_number(man: u8, side: u8, white: u8, square: u8, black: u8) -> u32;
+
+    /// Bits 0-7 refusal, 8-15 side, 16-23 white king, 24-31 man's square, 32-39 black king.
+    pub fn sledgewren_position(man: u8, number: u32) -> u64;
+
+    /// Bits 0-7 refusal, 8-15 count of legal moves.
+    pub fn sledgewren_count(man: u8, side: u8, white: u8, square: u8, black: u8) -> u32;
+
+    /// As the count. Where `len` is 70 it writes 35 pairs (from, to); with any other `len` it
+    /// writes nothing and answers 255.
+    pub fn sledgewren_moves(
+        man: u8,
+        side: u8,
+        white: u8,
+        square: u8,
+        black: u8,
+        moves: *mut u8,
+        len: usize,
+    ) -> u32;
+
+    /// Bits 0-7 refusal, bit 8 some position is decided, 16-23 greatest depth.
+    pub fn sledgewren_fill(man: u8, table: *mut u8, len: usize) -> u32;
+
+    /// Bits 0-7 refusal, bit 8 wrong, 32-63 the lowest wrong number.
+    pub fn sledgewren_check(man: u8, table: *const u8, len: usize) -> u64;
+
+    /// Bits 0-7 refusal, 8-15 value (1 win, 2 loss, 3 draw), 16-23 depth, bit 24 a move is given,
+    /// 32-39 from, 40-47 to.
+    pub fn sledgewren_look_up(
+        table: *const u8,
+        len: usize,
+        man: u8,
+        side: u8,
+        white: u8,
+        square: u8,
+        black: u8,
+    ) -> u64;
+
+    /// Bits 0-7 length of the slip, 8-15 the man held afterwards. Where `slip_len` is 16 it writes
+    /// the slip; with any other `slip_len` it writes nothing and answers 0xFFFF.
+    pub fn sledgewren_answer_line(
+        line: *const u8,
+        line_len: usize,
+        held: u8,
+        table: *mut u8,
+        table_len: usize,
+        slip: *mut u8,
+        slip_len: usize,
+    ) -> u32;
+}

@@ -1,0 +1,58 @@
+//! Two kings and one white man: positions are numbered, their tables filled and checked,
+//! positions looked up, and a desk's lines answered.
+//!
+//! Every answer comes from the proved static library that this crate links; the crate gives it
+//! Rust's types and adds no chess of its own. Depths count plies. A refusal is an `Err` with its
+//! reason, and no input whatever leads to a panic.
+//!
+//! ```
+//! use sledgewren::{Answer, Checked, Man, Position, Side, Table};
+//!
+//! let table = Table::filled(Man::Queen)?;
+//! assert_eq!(table.check(Man::Queen), Checked::Accepted);
+//!
+//! let position = Position {
+//!     man: Man::Queen,
+//!     side: Side::White,
+//!     white_king: "b3".parse()?,
+//!     man_square: "h2".parse()?,
+//!     black_king: "a1".parse()?,
+//! };
+//! let answer = table.look_up(position)?;
+//! assert_eq!(answer.depth(), Some(1));
+//! assert_eq!(answer.to_string(), "win 1 h2g1");
+//! # Ok::<(), Box<dyn std::error::Error>>(())
+//! ```
+//!
+//! | Entry point | On any bytes | On the crate's types |
+//! |---|---|---|
+//! | `sledgewren_number` | [`entry::number`] | [`Position::number`] |
+//! | `sledgewren_position` | [`entry::position`] | [`Position::from_number`] |
+//! | `sledgewren_count` | [`entry::count`] | [`Position::count`] |
+//! | `sledgewren_moves` | [`entry::moves`] | [`Position::moves`] |
+//! | `sledgewren_fill` | [`entry::fill`] | [`Table::fill`], [`Table::filled`] |
+//! | `sledgewren_check` | [`entry::check`] | [`Table::check`], [`Table::accept`] |
+//! | `sledgewren_look_up` | [`entry::look_up`] | [`Table::look_up`], [`Accepted::look_up`] |
+//! | `sledgewren_answer_line` | [`entry::answer_line`] | [`Desk::answer`], [`Desk::run`] |
+
+#![deny(missing_docs)]
+
+mod answer;
+mod desk;
+pub mod entry;
+pub mod ffi;
+mod man;
+mod moves;
+mod position;
+mod refusal;
+mod square;
+mod table;
+
+pub use answer::{Answer, Checked, Value};
+pub use desk::{Desk, Slip, SLIP_BYTES};
+pub use man::{Man, Side};
+pub use moves::{Move, Moves, MOST_MOVES};
+pub use position::{Keyed, Position};
+pub use refusal::Refusal;
+pub use square::{NoSquare, Square};
+pub use table::{Accepted, Table, TABLE_BYTES};

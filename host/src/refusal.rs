@@ -1,0 +1,106 @@
+//! Refusals.
+
+use std::fmt;
+
+/// Why an entry point gives no answer. Where several apply the lowest counts, except that a
+/// line's shape comes first.
+#[derive(Clone, Copy, PartialEq, Eq, Hash, Debug)]
+pub enum Refusal {
+    /// 1: material code above 3.
+    BadMan = 1,
+    /// 2: side not 0 or 1.
+    BadSide = 2,
+    /// 3: a square above 63.
+    BadSquare = 3,
+    /// 4: two men on one square.
+    SharedSquare = 4,
+    /// 5: kings touch.
+    KingsTouch = 5,
+    /// 6: the side not to move is in check. Numbering does not ask.
+    OtherInCheck = 6,
+    /// 7: table not 59,136 bytes.
+    TableLength = 7,
+    /// 8: number above 59,135.
+    NumberTooHigh = 8,
+    /// 9: number unused.
+    NumberUnused = 9,
+    /// 10: a legal position's true depth exceeds 253.
+    TooDeep = 10,
+    /// 11: at look-up, the position's byte is not what its successors' bytes require.
+    Inconsistent = 11,
+    /// 12: line of the wrong shape.
+    BadLine = 12,
+}
+
+impl Refusal {
+    /// All twelve, in order.
+    pub const ALL: [Refusal; 12] = [
+        Refusal::BadMan,
+        Refusal::BadSide,
+        Refusal::BadSquare,
+        Refusal::SharedSquare,
+        Refusal::KingsTouch,
+        Refusal::OtherInCheck,
+        Refusal::TableLength,
+        Refusal::NumberTooHigh,
+        Refusal::NumberUnused,
+        Refusal::TooDeep,
+        Refusal::Inconsistent,
+        Refusal::BadLine,
+    ];
+
+    /// The refusal with this number, or none but for 1 to 12.
+    pub fn from_code(code: u8) -> Option<Refusal> {
+        Refusal::ALL.into_iter().find(|refusal| refusal.code() == code)
+    }
+
+    /// Its number, 1 to 12.
+    pub fn code(self) -> u8 {
+        self as u8
+    }
+
+    /// What it says of what was keyed or lent.
+    pub fn reason(self) -> &'static str {
+        match self {
+            Refusal::BadMan => "material code above 3",
+            Refusal::BadSide => "side not 0 or 1",
+            Refusal::BadSquare => "a square above 63",
+            Refusal::SharedSquare => "two men on one square",
+            Refusal::KingsTouch => "kings touch",
+            Refusal::OtherInCheck => "side not to move is in check",
+            Refusal::TableLength => "table not 59,136 bytes",
+            Refusal::NumberTooHigh => "number above 59,135",
+            Refusal::NumberUnused => "number unused",
+            Refusal::TooDeep => "a legal position's true depth exceeds 253",
+            Refusal::Inconsistent => "the byte is not what the successors' bytes require",
+            Refusal::BadLine => "line of the wrong shape",
+        }
+    }
+}
+
+/// `refused 4: two men on one square`.
+impl fmt::Display for Refusal {
+    fn fmt(&self, out: &mut fmt::Formatter) -> fmt::Result {
+        write!(out, "refused {}: {}", self.code(), self.reason())
+    }
+}
+
+impl std::error::Error for Refusal {}
+
+#[cfg(test)]
+mod tests {
+    use super::*;
+
+    #[test]
+    fn numbers_come_back() {
+        for code in 0..=255 {
+            let expected = (1..=12).contains(&code).then_some(code);
+            assert_eq!(Refusal::from_code(code).map(Refusal::code), expected);
+        }
+    }
+
+    #[test]
+    fn words() {
+        assert_eq!(Refusal::SharedSquare.to_string(), "refused 4: two men on one square");
+    }
+}

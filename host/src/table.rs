@@ -1,0 +1,101 @@
+//! Tables.
+
+use crate::{entry, Answer, Checked, Keyed, Man, Position, Refusal, Side, Square};
+
+/// Bytes of a table, one a number.
+pub const TABLE_BYTES: usize = 59_136;
+
+/// The bytes of one table, whatever they say. Byte 0: unused or illegal; 1: draw; 2 + n: depth n.
+#[derive(Clone, PartialEq, Eq)]
+pub struct Table(Box<[u8; TABLE_BYTES]>);
+
+impl Table {
+    /// A table of zeros, to be filled or written.
+    pub fn zeroed() -> Table {
+        Table(Box::new([0; TABLE_BYTES]))
+    }
+
+    /// The true table of an ending. Refusal 10, which none of the four endings is given.
+    pub fn filled(man: Man) -> Result<Table, Refusal> {
+        let mut table = Table::zeroed();
+        table.fill(man)?;
+        Ok(table)
+    }
+
+    /// A table from elsewhere, as a file's bytes. Refusal 7.
+    pub fn from_bytes(bytes: &[u8]) -> Result<Table, Refusal> {
+        let bytes: Box<[u8]> = bytes.into();
+        bytes.try_into().map(Table).map_err(|_| Refusal::TableLength)
+    }
+
+    /// Writes the true table over these bytes and gives its greatest depth, or none if no
+    /// position is decided. Refusal 10.
+    pub fn fill(&mut self, man: Man) -> Result<Option<u8>, Refusal> {
+        entry::fill(man, &mut self.0[..])
+    }
+
+    /// Is this the true table of an ending?
+    pub fn check(&self, man: Man) -> Checked {
+        match entry::check(man, &self.0[..]) {
+            Ok(checked) => checked,
+            // A man has a code below 4 and a table its length, and no more is asked.
+            Err(refusal) => unreachable!("checking a table of the right length: {refusal}"),
+        }
+    }
+
+    /// The table as one that checking accepts for an ending, or itself and the lowest wrong
+    /// number.
+    pub fn accept(self, man: Man) -> Result<Accepted, (Table, u32)> {
+        match self.check(man) {
+            Checked::Accepted => Ok(Accepted { man, table: self }),
+            Checked::Wrong(number) => Err((self, number)),
+        }
+    }
+
+    /// A position's value, depth and move. Refusals 1 to 6 and 11.
+    pub fn look_up(&self, keyed: impl Into<Keyed>) -> Result<Answer, Refusal> {
+        entry::look_up(&self.0[..], keyed)
+    }
+
+    /// The bytes.
+    pub fn bytes(&self) -> &[u8; TABLE_BYTES] {
+        &self.0
+    }
+
+    /// The bytes, for writing.
+    pub fn bytes_mut(&mut self) -> &mut [u8; TABLE_BYTES] {
+        &mut self.0
+    }
+}
+
+/// A table that checking accepted for an ending and that nobody writes to from then on: what the
+/// theorem about games asks of the table. Every legal position of the ending has an answer.
+#[derive(Clone, PartialEq, Eq)]
+pub struct Accepted {
+    man: Man,
+    table: Table,
+}
+
+impl Accepted {
+    /// The ending's man.
+    pub fn man(&self) -> Man {
+        self.man
+    }
+
+    /// The table, for reading.
+    pub fn table(&self) -> &Table {
+        &self.table
+    }
+
+    /// The true value and depth of a position of the ending, and a move. Refusals 4, 5, 6.
+    pub fn look_up(
+        &self,
+        side: Side,
+        white_king: Square,
+        man_square: Square,
+        black_king: Square,
+    ) -> Result<Answer, Refusal> {
+        let man = self.man;
+        self.table.look_up(Position { man, side, white_king, man_square, black_king })
+    }
+}

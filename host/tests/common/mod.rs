@@ -1,0 +1,19 @@
+//! Positions written as the desk reads them.
+
+use sledgewren::{Man, Position, Side};
+
+/// `Q w b3 h2 a1` as a position.
+pub fn position(text: &str) -> Position {
+    let words: Vec<&str> = text.split(' ').collect();
+    let letter = |word: &str| word.chars().next();
+    let man = Man::ALL.into_iter().find(|man| letter(words[0]) == Some(man.letter()));
+    let side = Side::ALL.into_iter().find(|side| letter(words[1]) == Some(side.letter()));
+    let square = |place: usize| words[place].parse().expect("a square");
+    Position {
+        man: man.expect("a man"),
+        side: side.expect("a side"),
+        white_king: square(2),
+        man_square: square(3),
+        black_king: square(4),
+    }
+}

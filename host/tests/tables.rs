@@ -1,0 +1,129 @@
+//! All four tables: filled, checked, and every position looked up.
+
+use sledgewren::{
+    entry, Accepted, Answer, Checked, Man, Move, Position, Refusal, Side, Table, Value,
+};
+
+/// Greatest depth in plies, or none where nothing is decided.
+fn published(man: Man) -> Option<u8> {
+    match man {
+        Man::Queen => Some(20),
+        Man::Rook => Some(32),
+        Man::Bishop | Man::Knight => None,
+    }
+}
+
+fn accepted(man: Man) -> Accepted {
+    let mut table = Table::zeroed();
+    table.bytes_mut().fill(165);
+    assert_eq!(table.fill(man), Ok(published(man)), "{man}");
+    table.accept(man).unwrap_or_else(|(_, number)| panic!("{man}: wrong at {number}"))
+}
+
+/// The position after a move, or none if the man is taken.
+fn played(position: Position, chosen: Move) -> Option<Position> {
+    let mut next = Position { side: position.side.other(), ..position };
+    match position.side {
+        Side::White if chosen.from == position.white_king => next.white_king = chosen.to,
+        Side::White => next.man_square = chosen.to,
+        Side::Black if chosen.to == position.man_square => return None,
+        Side::Black => next.black_king = chosen.to,
+    }
+    Some(next)
+}
+
+fn value_of(byte: u8) -> Value {
+    match byte {
+        0 | 1 => Value::Draw,
+        _ if byte % 2 == 1 => Value::Win(byte - 2),
+        _ => Value::Loss(byte - 2),
+    }
+}
+
+fn value_after(table: &Table, position: Position, chosen: Move) -> Value {
+    played(position, chosen).map_or(Value::Draw, |next| table.look_up(next).unwrap().value())
+}
+
+fn judge(table: &Table, position: Position, answer: Answer) {
+    let moves = position.moves().unwrap();
+    assert_eq!(position.count(), Ok(moves.len() as u8), "{position}");
+    let wanted = match answer.value() {
+        Value::Win(depth) => Some(Value::Loss(depth - 1)),
+        Value::Loss(depth) => depth.checked_sub(1).map(Value::Win),
+        Value::Draw => Some(Value::Draw),
+    };
+    let first = moves.iter().find(|&&chosen| Some(value_after(table, position, chosen)) == wanted);
+    assert_eq!(answer.best(), first.copied(), "{position}");
+    assert_eq!(answer.best().is_none(), moves.is_empty(), "{position}");
+}
+
+fn judge_all(man: Man) -> usize {
+    let accepted = accepted(man);
+    let table = accepted.table();
+    let mut legal = 0;
+    for (number, &byte) in table.bytes().iter().enumerate() {
+        let position = match Position::from_number(man, number as u32) {
+            Ok(position) => position,
+            Err(refusal) => {
+                assert_eq!((refusal, byte), (Refusal::NumberUnused, 0), "{number}");
+                continue;
+            }
+        };
+        assert_eq!(position.number(), Ok(number as u32));
+        let Position { side, white_king, man_square, black_king, .. } = position;
+        match accepted.look_up(side, white_king, man_square, black_king) {
+            Ok(answer) => {
+                assert_eq!(answer.value(), value_of(byte), "{position}");
+                judge(table, position, answer);
+                legal += 1;
+            }
+            Err(refusal) => assert_eq!((refusal, byte), (Refusal::OtherInCheck, 0), "{position}"),
+        }
+    }
+    legal
+}
+
+#[test]
+fn queen() {
+    assert_eq!(judge_all(Man::Queen), 18_081 + 28_056);
+}
+
+#[test]
+fn rook() {
+    assert_eq!(judge_all(Man::Rook), 21_959 + 28_056);
+}
+
+#[test]
+fn bishop() {
+    judge_all(Man::Bishop);
+}
+
+#[test]
+fn knight() {
+    judge_all(Man::Knight);
+}
+
+#[test]
+fn no_table_is_accepted_for_another_man() {
+    for man in Man::ALL {
+        let table = Table::filled(man).unwrap();
+        assert_eq!(entry::check(man, table.bytes()), Ok(Checked::Accepted));
+        for other in Man::ALL.into_iter().filter(|&other| other != man) {
+            assert!(matches!(table.check(other), Checked::Wrong(_)), "{man} as {other}");
+        }
+    }
+}
+
+#[test]
+fn the_lowest_wrong_number_is_named() {
+    let mut table = Table::filled(Man::Queen).unwrap();
+    // Unused numbers have no predecessors: the damage itself is the only fault.
+    table.bytes_mut()[59_128] = 1;
+    assert_eq!(table.check(Man::Queen), Checked::Wrong(59_128));
+    table.bytes_mut()[2056] = 255;
+    assert_eq!(table.check(Man::Queen), Checked::Wrong(2056));
+    let (table, number) = table.accept(Man::Queen).err().unwrap();
+    assert_eq!((number, table.bytes()[2056]), (2056, 255));
+    let copy = Table::from_bytes(table.bytes()).unwrap();
+    assert!(copy == table);
+}

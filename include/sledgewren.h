@@ -1,0 +1,161 @@
+/*
+ * Sledgewren: two kings and one white man. Positions are numbered, their tables filled and
+ * checked, positions looked up, and a desk's lines answered.
+ *
+ * Link with target/staticlib/libhost.a (x86-64). C99; C++ may include it.
+ *
+ * Codes
+ *   man      queen 0, rook 1, bishop 2, knight 3; the man is White's
+ *   side     to move: White 0, Black 1
+ *   square   8 x rank + file: a1 is 0, h1 is 7, h8 is 63
+ *   white    the white king's square; square: the man's; black: the black king's
+ *   number   of a position, 0 to 59,135; positions that the board's eight maps turn into each
+ *            other have one number
+ *
+ * A table has 59,136 bytes, one a number. Byte 0: the number is unused or its position illegal;
+ * 1: a draw; 2 + n: depth n in plies, a win for the side to move where n is odd and a loss where
+ * it is even. Checkmate is a loss in 0.
+ *
+ * Every function is total: it answers any values and any lengths, never fails, allocates nothing,
+ * keeps nothing between calls and calls nothing back. It may be called from several threads as
+ * long as none writes to a buffer that another one uses.
+ *
+ * A pointer must not be null, even where its length is 0, and must lead to at least as many bytes
+ * as its length says. Buffers that one call is lent must not overlap.
+ *
+ * An answer is one integer. A refusal gives its number and nothing else: every other field is 0.
+ */
+
+#ifndef SLEDGEWREN_H
+#define SLEDGEWREN_H
+
+#include <stddef.h>
+#include <stdint.h>
+
+#ifdef __cplusplus
+extern "C" {
+#endif
+
+/* Lengths of the buffers that the functions are lent. */
+#define SLEDGEWREN_TABLE_BYTES 59136
+#define SLEDGEWREN_MOVES_BYTES 70
+#define SLEDGEWREN_SLIP_BYTES 16
+
+/* No position has more legal moves. */
+#define SLEDGEWREN_MOST_MOVES 35
+
+/* Set in sledgewren_number's answer where it is a refusal. */
+#define SLEDGEWREN_NUMBER_REFUSED 0x80000000u
+
+/* sledgewren_moves was lent a list, or sledgewren_answer_line a slip, of another length. */
+#define SLEDGEWREN_MOVES_LENGTH 255u
+#define SLEDGEWREN_SLIP_LENGTH 0xFFFFu
+
+/* The eight bits of an answer from the given one on: SLEDGEWREN_BITS(answer, 16) is 16 to 23. */
+#define SLEDGEWREN_BITS(answer, first) ((uint8_t)((uint64_t)(answer) >> (first)))
+
+enum sledgewren_man {
+    SLEDGEWREN_QUEEN = 0,
+    SLEDGEWREN_ROOK = 1,
+    SLEDGEWREN_BISHOP = 2,
+    SLEDGEWREN_KNIGHT = 3,
+    /* sledgewren_answer_line: the table holds no man's table. Any greater value means the same. */
+    SLEDGEWREN_NO_MAN = 4
+};
+
+enum sledgewren_side {
+    SLEDGEWREN_WHITE = 0,
+    SLEDGEWREN_BLACK = 1
+};
+
+enum sledgewren_value {
+    SLEDGEWREN_WIN = 1,
+    SLEDGEWREN_LOSS = 2,
+    SLEDGEWREN_DRAW = 3
+};
+
+/* Where several apply the lowest counts, except that a line's shape comes first. */
+enum sledgewren_refusal {
+    SLEDGEWREN_NOT_REFUSED = 0,
+    SLEDGEWREN_BAD_MAN = 1,          /* material code above 3 */
+    SLEDGEWREN_BAD_SIDE = 2,         /* side not 0 or 1 */
+    SLEDGEWREN_BAD_SQUARE = 3,       /* a square above 63 */
+    SLEDGEWREN_SHARED_SQUARE = 4,    /* two men on one square */
+    SLEDGEWREN_KINGS_TOUCH = 5,      /* kings touch */
+    SLEDGEWREN_OTHER_IN_CHECK = 6,   /* side not to move is in check */
+    SLEDGEWREN_TABLE_LENGTH = 7,     /* table not 59,136 bytes */
+    SLEDGEWREN_NUMBER_TOO_HIGH = 8,  /* number above 59,135 */
+    SLEDGEWREN_NUMBER_UNUSED = 9,    /* number unused */
+    SLEDGEWREN_TOO_DEEP = 10,        /* a legal position's true depth exceeds 253 */
+    SLEDGEWREN_INCONSISTENT = 11,    /* the byte is not what the successors' bytes require */
+    SLEDGEWREN_BAD_LINE = 12         /* line of the wrong shape */
+};
+
+/*
+ * The number of a position, or SLEDGEWREN_NUMBER_REFUSED + refusal (1 to 5). It need not be
+ * legal: the side not to move may be in check.
+ */
+uint32_t sledgewren_number(uint8_t man, uint8_t side, uint8_t white, uint8_t square,
+                           uint8_t black);
+
+/*
+ * The position that a number stands for. Refusals 1, 8, 9.
+ *   bits 0-7 refusal, 8-15 side, 16-23 white king, 24-31 man's square, 32-39 black king
+ */
+uint64_t sledgewren_position(uint8_t man, uint32_t number);
+
+/*
+ * How many legal moves a position has. Refusals 1 to 6.
+ *   bits 0-7 refusal, 8-15 count
+ */
+uint32_t sledgewren_count(uint8_t man, uint8_t side, uint8_t white, uint8_t square,
+                          uint8_t black);
+
+/*
+ * The legal moves, in order of their from-square, then their to-square. The answer is
+ * sledgewren_count's. Where len is 70, moves gets 35 pairs (from, to); the places after the last
+ * move hold 0, and all of them on a refusal. With any other len nothing is written and the answer
+ * is SLEDGEWREN_MOVES_LENGTH.
+ */
+uint32_t sledgewren_moves(uint8_t man, uint8_t side, uint8_t white, uint8_t square,
+                          uint8_t black, uint8_t *moves, size_t len);
+
+/*
+ * Writes the true table of an ending, whatever the bytes held before. Refusals 1 and 7 leave them
+ * untouched, 10 leaves them all 0.
+ *   bits 0-7 refusal, bit 8 some position is decided, 16-23 greatest depth
+ */
+uint32_t sledgewren_fill(uint8_t man, uint8_t *table, size_t len);
+
+/*
+ * Holds every byte of a table to the one that its successors' bytes require. An answer of 0 says
+ * that the table is accepted: it is then the true one. Refusals 1, 7.
+ *   bits 0-7 refusal, bit 8 wrong, 32-63 the lowest wrong number
+ */
+uint64_t sledgewren_check(uint8_t man, const uint8_t *table, size_t len);
+
+/*
+ * A position's value, its depth in plies and a move, from the table of its ending. There is no
+ * move at checkmate and stalemate, and the depth of a draw is 0. Refusals 1 to 7 and 11.
+ *   bits 0-7 refusal, 8-15 value, 16-23 depth, bit 24 a move is given, 32-39 from, 40-47 to
+ */
+uint64_t sledgewren_look_up(const uint8_t *table, size_t len, uint8_t man, uint8_t side,
+                            uint8_t white, uint8_t square, uint8_t black);
+
+/*
+ * Answers one line of the desk, given without its newline, with a slip. The lent table holds the
+ * table of the man held (SLEDGEWREN_NO_MAN or more: of none), and is filled where a line needs
+ * another one; keep it and the man held for the next line. Where slip_len is 16, slip gets the
+ * slip's bytes, its newline included, and 0 after them. With any other slip_len nothing is
+ * written and the answer is SLEDGEWREN_SLIP_LENGTH.
+ *   bits 0-7 length of the slip, 8-15 the man held afterwards
+ */
+uint32_t sledgewren_answer_line(const uint8_t *line, size_t line_len, uint8_t held,
+                                uint8_t *table, size_t table_len, uint8_t *slip,
+                                size_t slip_len);
+
+#ifdef __cplusplus
+}
+#endif
+
+#endif
