@@ -9,3 +9,5 @@ pub mod LookingUp
 pub mod Desk
 pub mod Games
 pub mod FilledTrue
+pub mod LastNumbers
+pub mod Bench

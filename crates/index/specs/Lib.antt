@@ -3,4 +3,3 @@ pub mod AnswerLaws
 pub mod NumberLaws
 pub mod BackLaws
 pub mod Count
-pub mod Examples
