@@ -1,7 +1,11 @@
 -- The word of each answer (include/sledgewren.h): which bits hold its refusal and its values, and the bytes of a move list. Definitions only.
 -- Assumes nothing.
-use mathlib.Core.List.{List, [], _∷_}
+use mathlib.Core.Bool.{cond}
+use mathlib.Core.List.{List, [], _∷_, flatMap}
 use Prim.Native.Nat.{ℕ, _+_, _*_, _^_}
+use lib.Dec.{eqb}
+use lib.ListN.{length}
+use Rattle.rules.specs.declared.Move.{Move}
 use Rattle.answers.specs.declared.Advice.{Advice}
 use Rattle.answers.specs.declared.Advice.the-variants.{Play, NoMove}
 use Rattle.answers.specs.declared.Answer.{Answer}
@@ -11,6 +15,10 @@ use Rattle.position.specs.declared.Position.{Position}
 use Rattle.index.specs.declared.Numbered.{Numbered}
 use Rattle.index.specs.declared.Placed.{Placed}
 use Rattle.listing.specs.declared.Counted.{Counted}
+use Rattle.listing.specs.declared.MoveList.{MoveList}
+use Rattle.listing.specs.Answers.{listed, counted}
+use Rattle.slips.specs.Slip.{padded}
+use Rattle.adjudication.specs.Reply.{Outcome, replyOf}
 
 -- a position from its five bytes
 abbrev pub keyed : ℕ → ℕ → ℕ → ℕ → ℕ → Position
@@ -54,3 +62,39 @@ answerWord (Answer.Win n a) = 1 * 2 ^ 8 + n * 2 ^ 16 + adviceWord a
 answerWord (Answer.Loss n a) = 2 * 2 ^ 8 + n * 2 ^ 16 + adviceWord a
 answerWord (Answer.Draw a) = 3 * 2 ^ 8 + adviceWord a
 answerWord (Answer.Refused k) = k
+
+-- ---- the move list, over a lent list of bytes
+
+-- each move's from-square and to-square
+abbrev pub pairBytes : Move → List ℕ
+pairBytes m = m .from ∷ m .to ∷ []
+
+-- 35 pairs
+unfoldable pub moveBytes : MoveList → List ℕ
+moveBytes l = flatMap pairBytes (l .moves)
+
+pub record Listing : Type 0 where
+  pub word : ℕ
+  pub bytes : List ℕ
+
+-- with any other length nothing is written
+unfoldable pub listingOf : Position → List ℕ → Listing
+listingOf p bytes =
+    cond (eqb (length bytes) 70)
+    (record { word = countWord (counted p); bytes = moveBytes (listed p .list) })
+    (record { word = 255; bytes = bytes })
+
+-- ---- one line of the desk, over a lent table and a lent slip
+
+pub record Lines : Type 0 where
+  pub word : ℕ
+  pub table : List ℕ
+  pub slip : List ℕ
+
+-- bits 0-7 length of the slip, 8-15 the man held afterwards
+unfoldable pub replied : Outcome → Lines
+replied o = record { word = length (o .slip) + o .held * 2 ^ 8; table = o .table; slip = padded (o .slip) .bytes }
+
+-- with a slip of any other length nothing is written
+unfoldable pub lineOf : List ℕ → ℕ → List ℕ → List ℕ → Lines
+lineOf line held table slip = cond (eqb (length slip) 16) (replied (replyOf line held table)) (record { word = 65535; table = table; slip = slip })
