@@ -1,13 +1,13 @@
 -- Laws for the code: bytes written one after the other, and the answers by the test of a lent length. Assumes nothing.
-use mathlib.Core.Path.{_≡_, refl, sym, ap, ap₂, _∙_}
+use mathlib.Core.Path.{_≡_, refl, ap, _∙_}
 use mathlib.Core.Bool.{Bool, true, false, cond}
 use mathlib.Core.List.{List, [], _∷_, flatMap, append-nil}
-use Prim.Native.Nat.{ℕ, zero, suc, _+_, _*_, _<_, _≤_}
+use Prim.Native.Nat.{ℕ, suc, _+_, _*_, _<_}
 use native.Mathlib.Nat.{zero-add, add-zero}
 use native.Mathlib.Numerals.{add-one}
 use native.Mathlib.Omega.{arith}
 use lib.Dec.{eqb}
-use lib.ListN.{length, getD, set, drop, take}
+use lib.ListN.{length, getD, set, drop}
 use lib.Seq.{sets, sets-eq, drop-cons, drop-length}
 use borrow.Author.Tests.{eq-eqb, ne-eqb, eqb-true}
 use Rattle.rules.specs.declared.Move.{Move}
@@ -22,7 +22,7 @@ use Rattle.slips.specs.Slip.{padded}
 use Rattle.adjudication.specs.declared.Reply.{Reply}
 use Rattle.adjudication.specs.Reply.{Outcome, Gives, replyOf}
 use Rattle.adjudication.specs.TrueSlip.{Answered}
-use Rattle.host.specs.Words.{countWord, pairBytes, moveBytes, Listing, listingOf, Lines, replied, lineOf}
+use Rattle.host.specs.Words.{countWord, pairBytes, moveBytes, WroteList, listingOf, WroteSlip, replied, lineOf}
 
 -- ---- bytes written one after the other
 
@@ -73,13 +73,13 @@ listed-word p l e = ap (λ (x : Listed). x .refusal + x .list .count * 256) e �
 
 module _ (p : Position) (bytes : List ℕ) where
   -- another length
-  pub not-listed : (length bytes ≡ 70 → ⊥) → (255 ≡ listingOf p bytes .word) × (bytes ≡ listingOf p bytes .bytes)
+  pub not-listed : (length bytes ≡ 70 → ⊥) → WroteList (listingOf p bytes) 255 bytes
   unfolding listingOf
-  not-listed h = rw (ne-eqb (length bytes) 70 h) (refl, refl)
+  not-listed h = rw (ne-eqb (length bytes) 70 h) (record { word = refl; bytes = refl })
 
-  pub listed-bytes : (l : Listed) (out : List ℕ) → length bytes ≡ 70 → l ≡ listed p → out ≡ moveBytes (l .list) → (l .refusal + l .list .count * 256 ≡ listingOf p bytes .word) × (out ≡ listingOf p bytes .bytes)
+  pub listed-bytes : (l : Listed) (out : List ℕ) → length bytes ≡ 70 → l ≡ listed p → out ≡ moveBytes (l .list) → WroteList (listingOf p bytes) (l .refusal + l .list .count * 256) out
   unfolding listingOf
-  listed-bytes l out h e w = rw (eq-eqb (length bytes) 70 h) (listed-word p l e, w ∙ ap (λ (x : Listed). moveBytes (x .list)) e)
+  listed-bytes l out h e w = rw (eq-eqb (length bytes) 70 h) (record { word = listed-word p l e; bytes = w ∙ ap (λ (x : Listed). moveBytes (x .list)) e })
 
 -- ---- a line's answer
 
@@ -94,10 +94,12 @@ module _ (r : Reply) (o : Outcome) (g : Gives r o) where
 
 module _ (line : List ℕ) (held : ℕ) (t s : List ℕ) where
   -- another length
-  pub not-replied : (length s ≡ 16 → ⊥) → (65535 ≡ lineOf line held t s .word) × (t ≡ lineOf line held t s .table) × (s ≡ lineOf line held t s .slip)
+  pub not-replied : (length s ≡ 16 → ⊥) → WroteSlip (lineOf line held t s) 65535 t s
   unfolding lineOf
-  not-replied h = rw (ne-eqb (length s) 16 h) (refl, refl, refl)
+  not-replied h = rw (ne-eqb (length s) 16 h) (record { word = refl; table = refl; slip = refl })
 
-  pub line-replied : (r : Reply) (u v : List ℕ) → length s ≡ 16 → Answered line held t r u → v ≡ r .slip .bytes → (r .slip .len + r .held * 256 ≡ lineOf line held t s .word) × (u ≡ lineOf line held t s .table) × (v ≡ lineOf line held t s .slip)
+  pub line-replied : (r : Reply) (u v : List ℕ) → length s ≡ 16 → Answered line held t r u → v ≡ r .slip .bytes → WroteSlip (lineOf line held t s) (r .slip .len + r .held * 256) u v
   unfolding lineOf replied
-  line-replied r u v h a w = rw (eq-eqb (length s) 16 h) (reply-word r (replyOf line held t) (a .reply), a .table, w ∙ reply-bytes r (replyOf line held t) (a .reply))
+  line-replied r u v h a w =
+      let o = replyOf line held t in
+      rw (eq-eqb (length s) 16 h) (record { word = reply-word r o (a .reply); table = a .table; slip = w ∙ reply-bytes r o (a .reply) })

@@ -1,5 +1,6 @@
 -- The word of each answer (include/sledgewren.h): which bits hold its refusal and its values, and the bytes of a move list. Definitions only.
 -- Assumes nothing.
+use mathlib.Core.Path.{_≡_}
 use mathlib.Core.Bool.{cond}
 use mathlib.Core.List.{List, [], _∷_, flatMap}
 use Prim.Native.Nat.{ℕ, _+_, _*_, _^_}
@@ -77,6 +78,11 @@ pub record Listing : Type 0 where
   pub word : ℕ
   pub bytes : List ℕ
 
+-- what is promised of the answer r and of the bytes that it leaves
+pub record WroteList (o : Listing) (r : ℕ) (out : List ℕ) : Type 0 where
+  pub word : r ≡ o .word
+  pub bytes : out ≡ o .bytes
+
 -- with any other length nothing is written
 unfoldable pub listingOf : Position → List ℕ → Listing
 listingOf p bytes =
@@ -86,15 +92,21 @@ listingOf p bytes =
 
 -- ---- one line of the desk, over a lent table and a lent slip
 
-pub record Lines : Type 0 where
+pub record Desk : Type 0 where
   pub word : ℕ
   pub table : List ℕ
   pub slip : List ℕ
 
+-- what is promised of the answer r and of the table and the slip that it leaves
+pub record WroteSlip (o : Desk) (r : ℕ) (t s : List ℕ) : Type 0 where
+  pub word : r ≡ o .word
+  pub table : t ≡ o .table
+  pub slip : s ≡ o .slip
+
 -- bits 0-7 length of the slip, 8-15 the man held afterwards
-unfoldable pub replied : Outcome → Lines
+unfoldable pub replied : Outcome → Desk
 replied o = record { word = length (o .slip) + o .held * 2 ^ 8; table = o .table; slip = padded (o .slip) .bytes }
 
 -- with a slip of any other length nothing is written
-unfoldable pub lineOf : List ℕ → ℕ → List ℕ → List ℕ → Lines
+unfoldable pub lineOf : List ℕ → ℕ → List ℕ → List ℕ → Desk
 lineOf line held table slip = cond (eqb (length slip) 16) (replied (replyOf line held table)) (record { word = 65535; table = table; slip = slip })

@@ -2,7 +2,7 @@
 use adjudication::answer_line;
 ghost use mathlib.Core.Path.{_≡_};
 ghost use lib.ListN.{length};
-ghost use Rattle.host.specs.Words.{lineOf};
+ghost use Rattle.host.specs.Words.{WroteSlip, lineOf};
 
 const SLIP_BYTES: usize = 16;
 
@@ -28,7 +28,7 @@ pub extern "C" fn sledgewren_answer_line(
     table: &mut [u8],
     slip: &mut [u8],
 ) -> u32
-    ensures { λ r. ⌜ (r ≡ lineOf (now (line .entry)) held (now (table .entry)) (now (slip .entry)) .word) × (now (table .exit) ≡ lineOf (now (line .entry)) held (now (table .entry)) (now (slip .entry)) .table) × (now (slip .exit) ≡ lineOf (now (line .entry)) held (now (table .entry)) (now (slip .entry)) .slip) ⌝ }
+    ensures { λ r. ⌜ WroteSlip (lineOf (now (line .entry)) held (now (table .entry)) (now (slip .entry))) r (now (table .exit)) (now (slip .exit)) ⌝ }
 {
     if slip.len() != SLIP_BYTES {
         return NO_SLIP;

@@ -4,7 +4,7 @@ use listing::legal_moves;
 use position::Position;
 ghost use mathlib.Core.Path.{_≡_};
 ghost use lib.ListN.{length};
-ghost use Rattle.host.specs.Words.{keyed, moveBytes, listingOf};
+ghost use Rattle.host.specs.Words.{keyed, moveBytes, WroteList, listingOf};
 
 // From-square and to-square of 35 moves.
 const LIST_BYTES: usize = 70;
@@ -37,7 +37,7 @@ pub extern "C" fn sledgewren_moves(
     black: u8,
     moves: &mut [u8],
 ) -> u32
-    ensures { λ r. ⌜ (r ≡ listingOf (keyed man side white square black) (now (moves .entry)) .word) × (now (moves .exit) ≡ listingOf (keyed man side white square black) (now (moves .entry)) .bytes) ⌝ }
+    ensures { λ r. ⌜ WroteList (listingOf (keyed man side white square black) (now (moves .entry))) r (now (moves .exit)) ⌝ }
 {
     if moves.len() != LIST_BYTES {
         return NO_LIST;

@@ -1,4 +1,4 @@
--- `host::sledgewren_answer_line` meets its contract. Assumes nothing.
+-- `host::sledgewren_answer_line` meets its contract, by the test of the slip's length. Assumes nothing.
 use borrow.Author.Needs.{needs}
 use Rattle.host.specs.Laws.{not-replied, line-replied}
 use Rattle.host.proofs.desk.sledgewren_answer_line.Statement.{statement}
@@ -32,7 +32,10 @@ same-length-2 : tie.Need-same-length-2
 same-length-2 c = search needs
 
 returns-2 : tie.Need-returns-2
-returns-2 c = let w = c .before .before .before .before in let a = w .before .before .before .before .before .before in line-replied _ _ _ _ _ _ _ (a .before .before .if1 .left) (a .answer-line .ensures) (w .write-slip .ensures)
+returns-2 c =
+    let w = c .before .before .before .before in
+    let a = w .before .before .before .before .before .before in
+    line-replied _ _ _ _ _ _ _ (a .before .before .if1 .left) (a .answer-line .ensures) (w .write-slip .ensures)
 
 pub sledgewren-answer-line-spec : {M : Type 1} → statement M
 sledgewren-answer-line-spec =

@@ -1,6 +1,6 @@
 -- `host::write_slip` meets its contract. The loop's invariant: the bytes left, written behind those written, give what all bytes give. Assumes nothing.
-use mathlib.Core.Path.{_≡_, refl, sym, ap, _∙_}
-use Prim.Native.Nat.{ℕ, _-_, _≤_}
+use mathlib.Core.Path.{_≡_, refl, sym, _∙_}
+use Prim.Native.Nat.{_-_, _≤_}
 use native.Mathlib.Omega.{arith}
 use lib.ListN.{length, drop, length-set}
 use lib.Seq.{sets}
@@ -9,7 +9,9 @@ use Rattle.host.proofs.desk.write_slip.Statement.{statement}
 use Rattle.host.proofs.desk.write_slip.Tie as tie
 
 abbrev Inv-loop : tie.InvT-loop
-Inv-loop slip₀ bytes i₀ slip i = (i ≤ 16) × (length slip ≡ 16) × (length bytes ≡ 16) × (sets slip i (drop i bytes) ≡ sets slip₀ 0 bytes)
+Inv-loop slip₀ bytes i₀ slip i =
+    (i ≤ 16) × (length slip ≡ 16) × (length bytes ≡ 16)
+    × (sets slip i (drop i bytes) ≡ sets slip₀ 0 bytes)
 
 abbrev μ-loop : tie.MeasureT-loop
 μ-loop slip₀ bytes i₀ slip i = 16 - i

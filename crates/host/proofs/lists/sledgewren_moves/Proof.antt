@@ -1,4 +1,4 @@
--- `host::sledgewren_moves` meets its contract. Assumes nothing.
+-- `host::sledgewren_moves` meets its contract, by the test of the bytes' length. Assumes nothing.
 use borrow.Author.Needs.{needs}
 use Rattle.host.specs.Laws.{not-listed, listed-bytes}
 use Rattle.host.proofs.lists.sledgewren_moves.Statement.{statement}
@@ -29,7 +29,10 @@ same-length : tie.Need-same-length
 same-length c = search needs
 
 returns-2 : tie.Need-returns-2
-returns-2 c = listed-bytes _ _ _ _ (c .before .before .before .before .before .before .before .before .if1 .left) (c .before .before .before .before .before .before .before .legal-moves .ensures) (c .before .before .before .before .write-moves .ensures)
+returns-2 c =
+    let w = c .before .before .before .before in
+    let l = w .before .before .before in
+    listed-bytes _ _ _ _ (l .before .if1 .left) (l .legal-moves .ensures) (w .write-moves .ensures)
 
 pub sledgewren-moves-spec : {M : Type 1} → statement M
 sledgewren-moves-spec =

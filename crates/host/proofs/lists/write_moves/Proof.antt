@@ -1,7 +1,7 @@
 -- `host::write_moves` meets its contract. The loop's invariant: the pairs left, written behind those written, give what all pairs give. Assumes nothing.
-use mathlib.Core.Path.{_≡_, refl, sym, ap, _∙_}
+use mathlib.Core.Path.{_≡_, refl, sym, _∙_}
 use mathlib.Core.List.{flatMap}
-use Prim.Native.Nat.{ℕ, _*_, _-_, _≤_}
+use Prim.Native.Nat.{_*_, _-_, _≤_}
 use native.Mathlib.Omega.{arith}
 use lib.ListN.{length, drop, length-set, length-map}
 use lib.Seq.{sets}
@@ -11,7 +11,9 @@ use Rattle.host.proofs.lists.write_moves.Statement.{statement}
 use Rattle.host.proofs.lists.write_moves.Tie as tie
 
 abbrev Inv-loop : tie.InvT-loop
-Inv-loop bytes₀ moves i₀ bytes i = (i ≤ 35) × (length bytes ≡ 70) × (length moves ≡ 35) × (sets bytes (2 * i) (flatMap pairBytes (drop i moves)) ≡ sets bytes₀ 0 (flatMap pairBytes moves))
+Inv-loop bytes₀ moves i₀ bytes i =
+    (i ≤ 35) × (length bytes ≡ 70) × (length moves ≡ 35)
+    × (sets bytes (2 * i) (flatMap pairBytes (drop i moves)) ≡ sets bytes₀ 0 (flatMap pairBytes moves))
 
 abbrev μ-loop : tie.MeasureT-loop
 μ-loop bytes₀ moves i₀ bytes i = 35 - i
