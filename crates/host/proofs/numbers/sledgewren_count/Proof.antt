@@ -1,0 +1,18 @@
+-- `host::sledgewren_count` meets its contract. The word of the answer. Assumes nothing.
+use mathlib.Core.Path.{ap, _∙_}
+use borrow.Author.Needs.{needs}
+use Rattle.host.specs.Words.{countWord}
+use Rattle.host.proofs.numbers.sledgewren_count.Statement.{statement}
+use Rattle.host.proofs.numbers.sledgewren_count.Tie as tie
+
+move-count-requires : tie.Need-move-count-requires
+move-count-requires c κs = search needs
+
+count-word-requires : tie.Need-count-word-requires
+count-word-requires c κs = search needs
+
+returns : tie.Need-returns
+returns c = c .count-word .ensures ∙ ap countWord (c .before .move-count .ensures .answer)
+
+pub sledgewren-count-spec : {M : Type 1} → statement M
+sledgewren-count-spec = tie.close (tie.spec move-count-requires count-word-requires returns)

@@ -1,0 +1,49 @@
+// Filling a table, checking one, and looking a position up.
+use super::words::answer_word;
+use super::words::checked_word;
+use super::words::filled_word;
+use checking::check;
+use filling::fill;
+use look_up::look_up;
+use position::Position;
+ghost use mathlib.Core.Path.{_≡_};
+ghost use Rattle.endings.specs.Answers.{fillOf, checkOf, lookUpOf};
+ghost use Rattle.host.specs.Words.{keyed, filledWord, checkedWord, answerWord};
+
+// Refusals 1 and 7 leave the table as it was, 10 all zero.
+#[no_mangle]
+pub extern "C" fn sledgewren_fill(man: u8, table: &mut [u8]) -> u32
+    ensures { λ r. ⌜ (r ≡ filledWord (fillOf man (now (table .entry)) .answer)) × (now (table .exit) ≡ fillOf man (now (table .entry)) .bytes) ⌝ }
+{
+    filled_word(fill(man, &mut *table))
+}
+
+// Refusals 1 and 7.
+#[no_mangle]
+pub extern "C" fn sledgewren_check(man: u8, table: &[u8]) -> u64
+    ensures { λ r. ⌜ r ≡ checkedWord (checkOf man (now (table .entry))) ⌝ }
+{
+    checked_word(check(man, table))
+}
+
+// Refusals 1 to 7 and 11.
+#[no_mangle]
+pub extern "C" fn sledgewren_look_up(
+    table: &[u8],
+    man: u8,
+    side: u8,
+    white: u8,
+    square: u8,
+    black: u8,
+) -> u64
+    ensures { λ r. ⌜ r ≡ answerWord (lookUpOf (now (table .entry)) (keyed man side white square black)) ⌝ }
+{
+    let p = Position {
+        man,
+        side,
+        white,
+        square,
+        black,
+    };
+    answer_word(look_up(table, p))
+}
