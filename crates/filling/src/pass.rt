@@ -4,13 +4,16 @@ use index::position_of;
 use listing::standing_refusal;
 use successors::requires_depth;
 ghost use mathlib.Core.Path.{_≡_};
-ghost use Prim.Native.Nat.{_<_};
+ghost use mathlib.Core.Bool.{false, cond};
+ghost use lib.Dec.{ltb};
+ghost use Prim.Native.Nat.{_<_, _≤_};
 ghost use lib.ListN.{length};
 ghost use Rattle.numbered.specs.Numbered.{settles as settlesOf, someSettles, passed};
 ghost use Rattle.rules.specs.Chess.{chess};
 ghost use Rattle.endings.specs.Chess.{tableSize};
 ghost use Rattle.endings.specs.Endings.{ending};
 ghost use Rattle.filling.specs.Laws.{Settle};
+ghost use Rattle.filling.specs.Quiet.{Quiet};
 
 // Whether pass k settles the number. Legality is asked last, of the few that would be settled.
 pub fn settles(table: &[u8], man: u8, k: u8, n: usize) -> bool
@@ -44,15 +47,55 @@ fn settle(table: &mut [u8], man: u8, k: u8, n: usize) -> bool
     true
 }
 
-// Pass k, in place; whether it settled a number.
+// Whether pass k may settle a number whose successors' numbers are from `from` on, below `to`: mates apart, depth k - 1 must stand at one.
+fn may_settle(table: &[u8], k: u8, from: usize, to: usize) -> bool
+    requires { ⌜ (k < 254) × (to ≤ length (now table)) ⌝ }
+    ensures { λ r. ⌜ (r ≡ false → Quiet k (now (table .entry)) from to) ⌝ }
+{
+    if k == 0 {
+        return true;
+    }
+    let sought = 1 + k;
+    let mut n = from;
+    while n < to {
+        if table[n] == sought {
+            return true;
+        }
+        n += 1;
+    }
+    false
+}
+
+// Settles the number if pass k does, which is asked only where it may; whether it did.
+fn settle_where(may: bool, table: &mut [u8], man: u8, k: u8, n: usize) -> bool
+    requires { ⌜ (n < tableSize) × (length (now table) ≡ tableSize) × (k < 254) × (may ≡ false → settlesOf chess (ending man) k (now table) n ≡ false) ⌝ }
+    ensures { λ r. ⌜ Settle chess (ending man) k (now (table .entry)) n r (now (table .exit)) ⌝ }
+{
+    if !may {
+        return false;
+    }
+    settle(&mut *table, man, k, n)
+}
+
+// Of two answers, the one for the half of the table that the number lies in: White to move, or Black.
+fn of_half(n: usize, white: bool, black: bool) -> bool
+    ensures { λ r. ⌜ r ≡ cond (ltb n 29568) white black ⌝ }
+{
+    if n < 29568 { white } else { black }
+}
+
+// Pass k, in place; whether it settled a number. Successors have the other side to move, so they lie in the other half.
 pub fn pass(man: u8, k: u8, table: &mut [u8]) -> bool
     requires { ⌜ (k < 254) × (length (now table) ≡ tableSize) ⌝ }
     ensures { λ r. ⌜ (r ≡ someSettles chess (ending man) k (now (table .entry))) × (now (table .exit) ≡ passed chess (ending man) k (now (table .entry))) ⌝ }
 {
+    let white = may_settle(&*table, k, 29568, 59136);
+    let black = may_settle(&*table, k, 0, 29568);
     let mut any = false;
     let mut n: usize = 0;
     while n < 59136 {
-        any = settle(&mut *table, man, k, n) | any;
+        let may = of_half(n, white, black);
+        any = settle_where(may, &mut *table, man, k, n) | any;
         n += 1;
     }
     any

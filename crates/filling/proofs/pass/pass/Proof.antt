@@ -1,40 +1,52 @@
 -- `filling::pass` meets its contract. The loop's invariant: the pass is done below n, in place, and whether it settled a number there is kept. Assumes nothing.
-use mathlib.Core.Path.{_≡_, refl, sym, ap, _∙_}
-use Prim.Native.Nat.{ℕ, _≤_, _-_}
+use mathlib.Core.Path.{_≡_, sym, _∙_}
+use Prim.Native.Nat.{_≤_, _-_}
 use native.Mathlib.Omega.{arith}
-use borrow.Author.Needs.{needs}
 use lib.ListN.{length}
 use Rattle.finite.specs.Mapped.{Upto, upto-none}
 use Rattle.numbered.specs.Numbered.{passByte}
 use Rattle.rules.specs.Chess.{chess}
 use Rattle.endings.specs.Endings.{ending}
 use Rattle.filling.specs.Laws.{someBelow, none-below, pass-turn, pass-done, size-is}
+use Rattle.filling.specs.Quiet.{quiet-in-place}
 use Rattle.filling.proofs.pass.pass.Statement.{statement}
 use Rattle.filling.proofs.pass.pass.Tie as tie
 
 abbrev Inv-loop : tie.InvT-loop
-Inv-loop man k table₀ any₀ n₀ table any n = (n ≤ 59136) × (length table₀ ≡ 59136) × Upto (passByte chess (ending man) k table₀) table₀ table n × (any ≡ someBelow chess (ending man) k table₀ n)
+Inv-loop man k table₀ white black any₀ n₀ table any n = (n ≤ 59136) × (length table₀ ≡ 59136) × Upto (passByte chess (ending man) k table₀) table₀ table n × (any ≡ someBelow chess (ending man) k table₀ n)
 
 abbrev μ-loop : tie.MeasureT-loop
-μ-loop man k table₀ any₀ n₀ table any n = 59136 - n
+μ-loop man k table₀ white black any₀ n₀ table any n = 59136 - n
+
+may-settle-requires : tie.Need-may-settle-requires Inv-loop μ-loop
+may-settle-requires c κs = let p = c .before .before .pre in (p .0, omega (arith, p .1))
+
+may-settle-requires-2 : tie.Need-may-settle-requires-2 Inv-loop μ-loop
+may-settle-requires-2 c κs = let p = c .before .before .before .before .pre in (p .0, omega (arith, p .1))
 
 loop-holds : tie.Need-loop-holds Inv-loop μ-loop
-loop-holds c = (omega arith, c .before .pre .1, upto-none _ _, none-below _ _ _ _)
+loop-holds c = (omega arith, c .before .before .before .before .before .pre .1, upto-none _ _, none-below _ _ _ _)
 
-settle-requires : tie.Need-settle-requires Inv-loop μ-loop
-settle-requires c κs = let i = c .before .before .loop .inv in (c .before .loop-test .taken, i .2 .same-length ∙ i .1, c .before .before .before .before .pre .0)
+of-half-requires : tie.Need-of-half-requires Inv-loop μ-loop
+of-half-requires c κs = tt
+
+settle-where-requires : tie.Need-settle-where-requires Inv-loop μ-loop
+settle-where-requires c κs =
+    let i = c .before .before .before .loop .inv in
+    let h = c .before .before .loop-test .taken in
+    (h, i .2 .same-length ∙ i .1, c .before .before .before .before .before .before .before .before .before .pre .0, quiet-in-place _ _ _ _ h _ _ _ _ (c .before .before .before .before .before .before .may-settle .ensures) (c .before .before .before .before .may-settle2 .ensures) (c .before .of-half .ensures) (i .2))
 
 add-n : tie.Need-add-n Inv-loop μ-loop
-add-n c = omega (arith, c .before .before .before .before .loop-test .taken)
+add-n c = omega (arith, c .before .before .before .before .before .loop-test .taken)
 
 loop-less : tie.Need-loop-less Inv-loop μ-loop
-loop-less c = omega (arith, c .before .before .before .before .loop-test .taken)
+loop-less c = omega (arith, c .before .before .before .before .before .loop-test .taken)
 
 loop-again : tie.Need-loop-again Inv-loop μ-loop
 loop-again c =
-    let i = c .before .before .before .before .before .loop .inv in
-    let h = c .before .before .before .before .loop-test .taken in
-    let t = pass-turn _ _ _ _ _ _ _ _ _ (i .2) (omega (arith, h, i .1)) (c .before .before .settle .ensures) (i .3) in
+    let i = c .before .before .before .before .before .before .loop .inv in
+    let h = c .before .before .before .before .before .loop-test .taken in
+    let t = pass-turn _ _ _ _ _ _ _ _ _ (i .2) (omega (arith, h, i .1)) (c .before .before .settle-where .ensures) (i .3) in
     (omega (arith, h), i .1, t .0, t .1)
 
 same-length : tie.Need-same-length Inv-loop μ-loop
@@ -47,4 +59,4 @@ returns c =
     pass-done _ _ _ _ _ _ _ (e ∙ sym (size-is _)) (i .1 ∙ sym (size-is _)) (i .2) (i .3)
 
 pub pass-spec : {M : Type 1} → statement M
-pass-spec = tie.close (tie.spec Inv-loop μ-loop loop-holds settle-requires add-n loop-less loop-again same-length returns)
+pass-spec = tie.close (tie.spec Inv-loop μ-loop may-settle-requires may-settle-requires-2 loop-holds of-half-requires settle-where-requires add-n loop-less loop-again same-length returns)
