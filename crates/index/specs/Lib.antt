@@ -3,3 +3,5 @@ pub mod AnswerLaws
 pub mod NumberLaws
 pub mod BackLaws
 pub mod Count
+pub mod Frames
+pub mod FrameLaws

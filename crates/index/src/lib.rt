@@ -1,5 +1,10 @@
 // The number of a position, and the position of a number.
 use position::Position;
+
+mod framing;
+
+pub use framing::frame_of;
+pub use framing::number_in;
 ghost use mathlib.Core.Path.{_≡_};
 ghost use Rattle.numbering.specs.Number.{numberOf};
 ghost use Rattle.position.specs.Keyed.{boardOf};
@@ -9,6 +14,16 @@ ghost use Rattle.index.specs.Answers.{numbered, unused, placedAt};
 const PAIRS: u32 = 462;
 
 const NUMBERS: u32 = 59136;
+
+// What the kings and the side to move fix of a number, whatever square the man stands on.
+pub struct Frame {
+    // (side x 462 + pair) x 64
+    pub base: u32,
+    // The bits of a square that the reversals turn over.
+    pub flip: u8,
+    // File and rank exchanged: 0 no, 1 yes, 2 if the man is above the diagonal.
+    pub exchange: u8,
+}
 
 // A number, or the refusal.
 pub enum Numbered {

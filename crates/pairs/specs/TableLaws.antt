@@ -1,12 +1,14 @@
 -- The rule of the constant lists, shown once over each whole list: one pass over all pairs of squares, which antt computes. Assumes nothing.
-use mathlib.Core.Path.{_≡_, subst, sym}
+use mathlib.Core.Path.{_≡_, ap, subst, sym, _∙_}
+use mathlib.Core.Logic.{⊎-elim}
+use mathlib.Core.List.{List}
 use mathlib.Core.Bool.{Bool, true, false, not, cond, _&&_}
 use Prim.Native.Nat.{ℕ, zero, suc, _+_, _-_, _*_, _/_, _%_, _<_, _≤_}
 use native.Mathlib.Omega.{arith}
 use lib.Dec.{T, eqb, eqb→eq, ltb, ltb→lt, nltb→le, leb}
 use lib.ListN.{getD}
 use borrow.Author.Tests.{le-leb, lt-leb}
-use Rattle.finite.specs.Truth.{and-left, and-right, implies, implied, by-test, cond-true, cond-false}
+use Rattle.finite.specs.Truth.{and-left, and-right, implies, implied, by-test, cond-true, cond-false, le-or-lt}
 use Rattle.finite.specs.Members.{any}
 use Rattle.finite.specs.Numbers.{numbers}
 use Rattle.finite.specs.Below.{allBelow, below}
@@ -16,7 +18,7 @@ use Rattle.board.specs.Reach.{line, reaches}
 use Rattle.numbering.specs.Kings.{above, inTriangle, cornered, separate, kingRule, kingPair, pairOf, kingsOf}
 use Rattle.numbering.specs.PairLaws.{pair-count}
 use Rattle.numbering.specs.Numberable.{separate-black, ruled-separate, ruled-triangle}
-use Rattle.pairs.specs.Tables.{whites, firsts, slots, rowFrom, rowOf, blacks, pairs}
+use Rattle.pairs.specs.Tables.{whites, firsts, slots, rowFrom, rowOf, blacks, pairs, pairIn}
 
 -- ---- the ten white squares
 
@@ -89,6 +91,37 @@ entry-pair white black h k l =
     let e = eqb (entry white black) (cond (kingRule white black) (rank kingPair n) 65535) in
     eqb→eq (entry white black) (cond (kingRule white black) (rank kingPair n) 65535)
     (implied (inTriangle white) e (and-left (implies (inTriangle white) e) (implies (kingRule white black) (eqb (kingsAt (rank kingPair n)) n)) t) (inside white h l))
+
+-- ---- by a lent list
+
+module _ (list : List ℕ) (white black : ℕ) where
+  pub in-past : 28 ≤ white → 65535 ≡ pairIn list white black
+  unfolding pairIn
+  in-past h = sym (rw (le-leb 28 white h))
+
+  pub in-off : white < 28 → 64 ≤ black → 65535 ≡ pairIn list white black
+  unfolding pairIn
+  in-off h k = sym (rw (lt-leb 28 white h, le-leb 64 black k))
+
+  pub in-outside : white < 28 → black < 64 → 10 ≤ getD slots white 0 → 65535 ≡ pairIn list white black
+  unfolding pairIn
+  in-outside h k l = sym (rw (lt-leb 28 white h, lt-leb 64 black k, le-leb 10 (getD slots white 0) l))
+
+  pub in-entry : white < 28 → black < 64 → getD slots white 0 < 10 → getD list (getD slots white 0 * 64 + black) 0 ≡ pairIn list white black
+  unfolding pairIn
+  in-entry h k l = sym (rw (lt-leb 28 white h, lt-leb 64 black k, lt-leb 10 (getD slots white 0) l))
+
+-- the constant list, lent, gives the pair
+pub lent-pair : (list : List ℕ) (white black : ℕ) → list ≡ pairs → pairIn list white black ≡ pairOf white black
+lent-pair list white black e =
+    ap (λ (l : List ℕ). pairIn l white black) e
+    ∙ ⊎-elim (λ h. sym (in-past pairs white black h) ∙ no-pair white black (past-d4 white black h))
+    (λ h. ⊎-elim (λ k. sym (in-off pairs white black h k) ∙ no-pair white black (off-board white black k))
+    (λ k. ⊎-elim (λ l. sym (in-outside pairs white black h k l) ∙ no-pair white black (outside white black h l))
+    (λ l. sym (in-entry pairs white black h k l) ∙ entry-pair white black h k l)
+    (le-or-lt 10 (getD slots white 0)))
+    (le-or-lt 64 black))
+    (le-or-lt 28 white)
 
 -- ---- from pair to squares
 

@@ -2,7 +2,7 @@
 -- black squares, or says that there is none"). Definitions only. Assumes nothing.
 use mathlib.Core.Bool.{cond}
 use mathlib.Core.List.{List, [], _∷_}
-use Prim.Native.Nat.{ℕ, zero, suc, _+_}
+use Prim.Native.Nat.{ℕ, zero, suc, _+_, _*_}
 use lib.Dec.{leb}
 use lib.ListN.{getD}
 
@@ -106,3 +106,10 @@ pairs =
     ∷ 65535 ∷ 65535 ∷ 65535 ∷ 65535 ∷ 65535 ∷ 453 ∷ 454 ∷ 455 ∷ 65535 ∷ 65535 ∷ 65535 ∷ 65535 ∷ 65535 ∷ 456 ∷ 457 ∷ 458
     ∷ 65535 ∷ 65535 ∷ 65535 ∷ 65535 ∷ 65535 ∷ 65535 ∷ 459 ∷ 460 ∷ 65535 ∷ 65535 ∷ 65535 ∷ 65535 ∷ 65535 ∷ 65535 ∷ 65535 ∷ 461
     ∷ []
+
+-- the pair of two squares by such a list; 65535 where they are not a white square of the triangle and a square of the board
+unfoldable pub pairIn : List ℕ → ℕ → ℕ → ℕ
+pairIn list white black =
+    cond (leb 28 white) 65535
+    (cond (leb 64 black) 65535
+    (cond (leb 10 (getD slots white 0)) 65535 (getD list (getD slots white 0 * 64 + black) 0)))

@@ -1,6 +1,7 @@
 // The pair of two kings' squares, by a constant list.
 ghost use mathlib.Core.Path.{_≡_};
 ghost use Rattle.numbering.specs.Kings.{pairOf};
+ghost use Rattle.pairs.specs.Tables.{pairs, pairIn};
 
 // The place of a white king's square, from a1 to d4, among the ten of the triangle a1-d1-d4; 10 for one outside it.
 const SLOTS: [u8; 28] = [
@@ -678,9 +679,16 @@ const PAIRS: [u16; 640] = [
     461,
 ];
 
-// The pair of any two bytes; 65535 where they form none.
-pub fn pair_of(white: u8, black: u8) -> u16
-    ensures { λ r. ⌜ r ≡ pairOf white black ⌝ }
+// The list itself. The back end builds a constant anew at each place that reads it; who reads it often makes it once and lends it.
+pub fn pair_list() -> [u16; 640]
+    ensures { λ r. ⌜ r ≡ pairs ⌝ }
+{
+    PAIRS
+}
+
+// The pair of any two bytes by a lent list; 65535 where they are no two squares that the list speaks of.
+pub fn pair_in(list: &[u16; 640], white: u8, black: u8) -> u16
+    ensures { λ r. ⌜ r ≡ pairIn (now (list .entry)) white black ⌝ }
 {
     if 28 <= white {
         return 65535;
@@ -692,5 +700,13 @@ pub fn pair_of(white: u8, black: u8) -> u16
     if 10 <= slot {
         return 65535;
     }
-    PAIRS[slot as usize * 64 + black as usize]
+    list[slot as usize * 64 + black as usize]
+}
+
+// The pair of any two bytes; 65535 where they form none.
+pub fn pair_of(white: u8, black: u8) -> u16
+    ensures { λ r. ⌜ r ≡ pairOf white black ⌝ }
+{
+    let list = pair_list();
+    pair_in(&list, white, black)
 }

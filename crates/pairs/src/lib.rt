@@ -3,4 +3,6 @@ mod back;
 mod forth;
 
 pub use back::kings_of;
+pub use forth::pair_in;
+pub use forth::pair_list;
 pub use forth::pair_of;

@@ -5,6 +5,8 @@ ghost use Rattle.position.specs.Keyed.{placing};
 
 mod maps;
 
+pub use maps::transposed;
+
 // As keyed: any bytes may come in.
 pub struct Position {
     pub man: u8,

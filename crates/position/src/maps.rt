@@ -27,7 +27,7 @@ fn rank_reversed(s: u8) -> u8
 }
 
 // The square with file and rank exchanged.
-fn transposed(s: u8) -> u8
+pub fn transposed(s: u8) -> u8
     ensures { λ r. ⌜ r ≡ mapped exchange s ⌝ }
 {
     if 64 <= s {

@@ -1,0 +1,102 @@
+// The number by its frame: made once, a frame serves all the squares that the man may go to.
+use crate::Frame;
+use pairs::pair_in;
+use position::transposed;
+ghost use mathlib.Core.Path.{_≡_};
+ghost use lib.Dec.{eqb};
+ghost use Rattle.symmetry.specs.Symmetry.{mapped};
+ghost use Rattle.numbering.specs.KingMaps.{swapping};
+ghost use Rattle.pairs.specs.Tables.{pairIn};
+ghost use Rattle.index.specs.Frames.{flipOf, flipped as flippedBy, exchangeOf, exchangesMan, frameOf, numberIn};
+
+// The bits that bring this white king to the files a to d and the ranks 1 to 4.
+fn flip_of(white: u8) -> u8
+    ensures { λ r. ⌜ r ≡ flipOf white ⌝ }
+{
+    if 3 < white % 8 {
+        if 3 < white / 8 {
+            return 63;
+        }
+        return 7;
+    }
+    if 3 < white / 8 {
+        return 56;
+    }
+    0
+}
+
+// The square with these bits turned over.
+fn flipped(flip: u8, s: u8) -> u8
+    ensures { λ r. ⌜ r ≡ flippedBy flip s ⌝ }
+{
+    if 64 <= s {
+        return s;
+    }
+    s ^ flip
+}
+
+// Whether these kings, once reversed, have file and rank exchanged.
+fn exchange_of(white: u8, black: u8) -> u8
+    ensures { λ r. ⌜ r ≡ exchangeOf white black ⌝ }
+{
+    if white % 8 < white / 8 {
+        return 1;
+    }
+    if white % 8 != white / 8 {
+        return 0;
+    }
+    if black % 8 < black / 8 {
+        return 1;
+    }
+    if black % 8 != black / 8 {
+        return 0;
+    }
+    2
+}
+
+// Whether a man on this square, once reversed, has them exchanged.
+fn exchanges_man(exchange: u8, s: u8) -> bool
+    ensures { λ r. ⌜ r ≡ exchangesMan exchange s ⌝ }
+{
+    if exchange == 1 {
+        return true;
+    }
+    (exchange == 2) & (s % 8 < s / 8)
+}
+
+// The pair of the kings, once reversed, by the list.
+fn pair_for(list: &[u16; 640], exchange: u8, white: u8, black: u8) -> u16
+    ensures { λ r. ⌜ r ≡ pairIn (now (list .entry)) (mapped (swapping (eqb exchange 1)) white) (mapped (swapping (eqb exchange 1)) black) ⌝ }
+{
+    if exchange == 1 {
+        return pair_in(list, transposed(white), transposed(black));
+    }
+    pair_in(list, white, black)
+}
+
+// The frame of two kings and a side to move, by a lent list of pairs.
+pub fn frame_of(list: &[u16; 640], side: u8, white: u8, black: u8) -> Frame
+    ensures { λ r. ⌜ r ≡ frameOf (now (list .entry)) side white black ⌝ }
+{
+    let flip = flip_of(white);
+    let w = flipped(flip, white);
+    let b = flipped(flip, black);
+    let exchange = exchange_of(w, b);
+    let pair = pair_for(list, exchange, w, b);
+    Frame {
+        base: (side as u32 * 462 + pair as u32) * 64,
+        flip: flip,
+        exchange: exchange,
+    }
+}
+
+// The number with the man on this square.
+pub fn number_in(f: Frame, square: u8) -> usize
+    ensures { λ r. ⌜ r ≡ numberIn f square ⌝ }
+{
+    let s = flipped(f.flip, square);
+    if exchanges_man(f.exchange, s) {
+        return f.base as usize + transposed(s) as usize;
+    }
+    f.base as usize + s as usize
+}
