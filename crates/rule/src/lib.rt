@@ -3,6 +3,7 @@ ghost use mathlib.Core.Path.{_≡_};
 ghost use Rattle.theory.specs.Required.{winning, back as backOf, better as betterOf};
 ghost use Rattle.theory.specs.Verdict.{spoils as spoilsOf};
 ghost use Rattle.theory.specs.Play.{suits as suitsOf};
+ghost use Rattle.theory.specs.Judge.{refutes as refutesOf};
 
 // Whether the byte is a win for the side to move.
 pub fn is_win(b: u16) -> bool
@@ -63,4 +64,14 @@ pub fn suits(b: u8, c: u8) -> bool
         return c <= 1;
     }
     1 + c as u16 == b as u16
+}
+
+// Whether a successor's byte c shows that byte b, 1 or more, is not required.
+pub fn refutes(b: u8, c: u8) -> bool
+    ensures { λ r. ⌜ r ≡ refutesOf b c ⌝ }
+{
+    if b <= 1 {
+        return (c % 2 == 0) & (2 <= c);
+    }
+    spoils(b - 2, c)
 }

@@ -13,6 +13,7 @@ pub mod Alike
 pub mod Passes
 pub mod InPlace
 pub mod Verdict
+pub mod Judge
 pub mod Choice
 pub mod OnePly
 pub mod Games
