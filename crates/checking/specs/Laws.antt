@@ -78,14 +78,16 @@ module _ (man n : ℕ) where
 
 -- ---- the byte required there
 
-module _ (t : List ℕ) (man n : ℕ) where
-  pub wanted-nothing : legalNumber man n ≡ false → 0 ≡ requiredByte chess (ending man) t n
+module _ (t : List ℕ) (man n c : ℕ) where
+  -- nothing legal stands there
+  pub zero-right : legalNumber man n ≡ false → eqb c 0 ≡ eqb c (requiredByte chess (ending man) t n)
   unfolding requiredByte ending
-  wanted-nothing e = sym (rw e)
+  zero-right e = sym (rw e)
 
-  pub wanted-legal : (p : Position) (w : ℕ) → boardOf p ≡ boardAt man n → legalNumber man n ≡ true → w ≡ requiredAt chess (byteOf t) (boardOf p) → w ≡ requiredByte chess (ending man) t n
+  -- a legal position stands there
+  pub position-right : (p : Position) (r : Bool) → boardOf p ≡ boardAt man n → legalNumber man n ≡ true → r ≡ eqb c (requiredAt chess (byteOf t) (boardOf p)) → r ≡ eqb c (requiredByte chess (ending man) t n)
   unfolding requiredByte ending
-  wanted-legal p w b l e = e ∙ sym (rw (l, ← byte-reads man t, ← b))
+  position-right p r b l e = e ∙ sym (rw (l, ← byte-reads man t, ← b))
 
 -- ---- the loop
 
@@ -94,15 +96,15 @@ abbrev pub RightBelow : ℕ → List ℕ → ℕ → Type 0
 RightBelow man t n = (k : ℕ) → k < n → wrongAt chess (ending man) t k ≡ false
 
 module _ (man : ℕ) (t : List ℕ) where
-  right-at : (n : ℕ) → getD t n 0 ≡ requiredByte chess (ending man) t n → wrongAt chess (ending man) t n ≡ false
+  right-at : (n : ℕ) → eqb (getD t n 0) (requiredByte chess (ending man) t n) ≡ true → wrongAt chess (ending man) t n ≡ false
   unfolding wrongAt
-  right-at n e = rw (eq-eqb (getD t n 0) (requiredByte chess (ending man) t n) e)
+  right-at n e = rw e
 
-  pub right-more : (n w : ℕ) → w ≡ requiredByte chess (ending man) t n → getD t n 0 ≡ w → RightBelow man t n → RightBelow man t (n + 1)
-  right-more n w e q r k h = go (eq-or-lt-of-le (le-of-suc-le-suc (subst (λ (m : ℕ). k < m) (add-one n) h)))
+  pub right-more : (n : ℕ) (right : Bool) → right ≡ eqb (getD t n 0) (requiredByte chess (ending man) t n) → right ≡ true → RightBelow man t n → RightBelow man t (n + 1)
+  right-more n right e q r k h = go (eq-or-lt-of-le (le-of-suc-le-suc (subst (λ (m : ℕ). k < m) (add-one n) h)))
     where
       go : (k ≡ n) ⊎ (k < n) → wrongAt chess (ending man) t k ≡ false
-      go (inl z) = rw z (right-at n (q ∙ e))
+      go (inl z) = rw z (right-at n (sym e ∙ q))
       go (inr l) = r k l
 
   module _ (known : man < 4) (long : length t ≡ tableSize) where
@@ -111,13 +113,13 @@ module _ (man : ℕ) (t : List ℕ) where
     asked = rw (lt-leb 4 man known, eq-eqb (length t) tableSize long)
 
     -- a wrong byte after right ones is the lowest wrong
-    pub check-wrong : (n w : ℕ) → n < tableSize → w ≡ requiredByte chess (ending man) t n → (getD t n 0 ≡ w → ⊥) → RightBelow man t n → Checked.Wrong n ≡ checkOf man t
-    check-wrong n w h e q r =
-        let low : lowest (wrongAt chess (ending man) t) tableSize ≡ n = lowest-is (wrongAt chess (ending man) t) tableSize n h (λ j l x. refuted (r j l) x) (wrong n (λ z. q (z ∙ sym e))) in
+    pub check-wrong : (n : ℕ) (right : Bool) → n < tableSize → right ≡ eqb (getD t n 0) (requiredByte chess (ending man) t n) → right ≡ false → RightBelow man t n → Checked.Wrong n ≡ checkOf man t
+    check-wrong n right h e q r =
+        let low : lowest (wrongAt chess (ending man) t) tableSize ≡ n = lowest-is (wrongAt chess (ending man) t) tableSize n h (λ j l x. refuted (r j l) x) (wrong n (sym e ∙ q)) in
         sym (asked ∙ rw (low, lt-ltb n tableSize h))
       where
-        wrong : (n : ℕ) → (getD t n 0 ≡ requiredByte chess (ending man) t n → ⊥) → T (wrongAt chess (ending man) t n)
-        wrong n f = unfold wrongAt in of-true (ap not (ne-eqb (getD t n 0) (requiredByte chess (ending man) t n) f))
+        wrong : (n : ℕ) → eqb (getD t n 0) (requiredByte chess (ending man) t n) ≡ false → T (wrongAt chess (ending man) t n)
+        wrong n f = unfold wrongAt in of-true (ap not f)
 
     pub check-right : (n : ℕ) → tableSize ≤ n → RightBelow man t n → Checked.Accepted ≡ checkOf man t
     check-right n h r =

@@ -1,6 +1,7 @@
 // The checker.
-use super::numbers::wanted;
+use super::numbers::is_right;
 use answers::Checked;
+use pairs::pair_list;
 ghost use mathlib.Core.Path.{_≡_};
 ghost use Rattle.endings.specs.Answers.{checkOf};
 
@@ -16,9 +17,10 @@ pub fn check(man: u8, table: &[u8]) -> Checked
     if table.len() != TABLE_SIZE {
         return Checked::Refused(7);
     }
+    let list = pair_list();
     let mut n: usize = 0;
     while n < TABLE_SIZE {
-        if table[n] as u16 != wanted(table, man, n as u32) {
+        if !is_right(&list, table, man, n as u32, table[n]) {
             return Checked::Wrong(n as u32);
         }
         n += 1;

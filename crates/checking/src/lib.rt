@@ -4,4 +4,3 @@ mod numbers;
 
 pub use checker::check;
 pub use numbers::is_legal_number;
-pub use numbers::wanted;

@@ -4,6 +4,7 @@ use super::bytes::start;
 use super::pass::pass;
 use super::pass::some_settles;
 use answers::Filled;
+use pairs::pair_list;
 ghost use mathlib.Core.Path.{_≡_};
 ghost use Rattle.numbered.specs.Numbered.{ended as endedOf};
 ghost use Rattle.endings.specs.Answers.{resultOf, fillOf};
@@ -34,15 +35,16 @@ pub fn fill(man: u8, table: &mut [u8]) -> Filled
     if table.len() != TABLE_SIZE {
         return Filled::Refused(7);
     }
+    let list = pair_list();
     start(man, &mut *table);
     let mut k: u8 = 0;
     while k < TOO_DEEP {
-        if !pass(man, k, &mut *table) {
+        if !pass(&list, man, k, &mut *table) {
             return ended(k);
         }
         k += 1;
     }
-    if some_settles(&*table, man, TOO_DEEP) {
+    if some_settles(&list, &*table, man, TOO_DEEP) {
         clear(&mut *table);
         return Filled::Refused(10);
     }

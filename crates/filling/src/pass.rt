@@ -10,14 +10,15 @@ ghost use Prim.Native.Nat.{_<_, _≤_};
 ghost use lib.ListN.{length};
 ghost use Rattle.numbered.specs.Numbered.{settles as settlesOf, someSettles, passed};
 ghost use Rattle.rules.specs.Chess.{chess};
+ghost use Rattle.pairs.specs.Tables.{pairs};
 ghost use Rattle.endings.specs.Chess.{tableSize};
 ghost use Rattle.endings.specs.Endings.{ending};
 ghost use Rattle.filling.specs.Laws.{Settle};
 ghost use Rattle.filling.specs.Quiet.{Quiet};
 
 // Whether pass k settles the number. Legality is asked last, of the few that would be settled.
-pub fn settles(table: &[u8], man: u8, k: u8, n: usize) -> bool
-    requires { ⌜ (n < tableSize) × (length (now table) ≡ tableSize) ⌝ }
+pub fn settles(list: &[u16; 640], table: &[u8], man: u8, k: u8, n: usize) -> bool
+    requires { ⌜ (n < tableSize) × (length (now table) ≡ tableSize) × (now list ≡ pairs) ⌝ }
     ensures { λ r. ⌜ r ≡ settlesOf chess (ending man) k (now (table .entry)) n ⌝ }
 {
     if table[n] != 1 {
@@ -26,7 +27,7 @@ pub fn settles(table: &[u8], man: u8, k: u8, n: usize) -> bool
     let placed = position_of(man, n as u32);
     match placed {
         Placed::At(p) => {
-            if !requires_depth(table, p, k) {
+            if !requires_depth(list, table, p, k) {
                 return false;
             }
             standing_refusal(p) == 0
@@ -36,11 +37,11 @@ pub fn settles(table: &[u8], man: u8, k: u8, n: usize) -> bool
 }
 
 // Settles the number if pass k does; whether it did.
-fn settle(table: &mut [u8], man: u8, k: u8, n: usize) -> bool
-    requires { ⌜ (n < tableSize) × (length (now table) ≡ tableSize) × (k < 254) ⌝ }
+fn settle(list: &[u16; 640], table: &mut [u8], man: u8, k: u8, n: usize) -> bool
+    requires { ⌜ (n < tableSize) × (length (now table) ≡ tableSize) × (k < 254) × (now list ≡ pairs) ⌝ }
     ensures { λ r. ⌜ Settle chess (ending man) k (now (table .entry)) n r (now (table .exit)) ⌝ }
 {
-    if !settles(&*table, man, k, n) {
+    if !settles(list, &*table, man, k, n) {
         return false;
     }
     table[n] = 2 + k;
@@ -67,14 +68,14 @@ fn may_settle(table: &[u8], k: u8, from: usize, to: usize) -> bool
 }
 
 // Settles the number if pass k does, which is asked only where it may; whether it did.
-fn settle_where(may: bool, table: &mut [u8], man: u8, k: u8, n: usize) -> bool
-    requires { ⌜ (n < tableSize) × (length (now table) ≡ tableSize) × (k < 254) × (may ≡ false → settlesOf chess (ending man) k (now table) n ≡ false) ⌝ }
+fn settle_where(list: &[u16; 640], may: bool, table: &mut [u8], man: u8, k: u8, n: usize) -> bool
+    requires { ⌜ (n < tableSize) × (length (now table) ≡ tableSize) × (k < 254) × (now list ≡ pairs) × (may ≡ false → settlesOf chess (ending man) k (now table) n ≡ false) ⌝ }
     ensures { λ r. ⌜ Settle chess (ending man) k (now (table .entry)) n r (now (table .exit)) ⌝ }
 {
     if !may {
         return false;
     }
-    settle(&mut *table, man, k, n)
+    settle(list, &mut *table, man, k, n)
 }
 
 // Of two answers, the one for the half of the table that the number lies in: White to move, or Black.
@@ -85,8 +86,8 @@ fn of_half(n: usize, white: bool, black: bool) -> bool
 }
 
 // Pass k, in place; whether it settled a number. Successors have the other side to move, so they lie in the other half.
-pub fn pass(man: u8, k: u8, table: &mut [u8]) -> bool
-    requires { ⌜ (k < 254) × (length (now table) ≡ tableSize) ⌝ }
+pub fn pass(list: &[u16; 640], man: u8, k: u8, table: &mut [u8]) -> bool
+    requires { ⌜ (k < 254) × (length (now table) ≡ tableSize) × (now list ≡ pairs) ⌝ }
     ensures { λ r. ⌜ (r ≡ someSettles chess (ending man) k (now (table .entry))) × (now (table .exit) ≡ passed chess (ending man) k (now (table .entry))) ⌝ }
 {
     let white = may_settle(&*table, k, 29568, 59136);
@@ -95,20 +96,20 @@ pub fn pass(man: u8, k: u8, table: &mut [u8]) -> bool
     let mut n: usize = 0;
     while n < 59136 {
         let may = of_half(n, white, black);
-        any = settle_where(may, &mut *table, man, k, n) | any;
+        any = settle_where(list, may, &mut *table, man, k, n) | any;
         n += 1;
     }
     any
 }
 
 // Whether pass k would settle a number.
-pub fn some_settles(table: &[u8], man: u8, k: u8) -> bool
-    requires { ⌜ length (now table) ≡ tableSize ⌝ }
+pub fn some_settles(list: &[u16; 640], table: &[u8], man: u8, k: u8) -> bool
+    requires { ⌜ (length (now table) ≡ tableSize) × (now list ≡ pairs) ⌝ }
     ensures { λ r. ⌜ r ≡ someSettles chess (ending man) k (now (table .entry)) ⌝ }
 {
     let mut n: usize = 0;
     while n < 59136 {
-        if settles(table, man, k, n) {
+        if settles(list, table, man, k, n) {
             return true;
         }
         n += 1;

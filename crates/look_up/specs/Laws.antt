@@ -4,17 +4,19 @@ use mathlib.Core.List.{List}
 use Prim.Native.Nat.{ℕ}
 use lib.ListN.{length}
 use borrow.Author.Tests.{eq-eqb, ne-eqb}
-use Rattle.theory.specs.Required.{requiredAt}
 use Rattle.theory.specs.Play.{firstSuited}
 use Rattle.rules.specs.Rules.{Board}
-use Rattle.rules.specs.Chess.{chess}
 use Rattle.answers.specs.declared.Advice.{Advice}
 use Rattle.answers.specs.declared.Answer.{Answer}
 use Rattle.position.specs.declared.Position.{Position}
 use Rattle.position.specs.Keyed.{boardOf, standing}
+use Rattle.pairs.specs.Tables.{pairs}
 use Rattle.endings.specs.Chess.{tableSize, byteOf}
 use Rattle.endings.specs.Answers.{adviceOf, answerOf, lookUpOf}
-use Rattle.successors.specs.Successors.{suitedFrom}
+use Rattle.successors.specs.declared.Verdict.{Verdict}
+use Rattle.successors.specs.Successors.{byteBy, suitedFrom, verdictOf}
+use Rattle.successors.specs.ByteLaws.{lent-byte}
+use Rattle.successors.specs.VerdictLaws.{told-wrong, told-right, lent-verdict}
 
 module _ (t : List ℕ) (p : Position) where
   pub refused-standing : (n : ℕ) → n ≡ standing p → (n ≡ 0 → ⊥) → Answer.Refused n ≡ lookUpOf t p
@@ -26,11 +28,18 @@ module _ (t : List ℕ) (p : Position) where
     unfolding lookUpOf
     refused-length h = sym (rw (← e, eq-eqb n 0 z, ne-eqb (length t) tableSize h))
 
-    module _ (byte wanted : ℕ) (l : length t ≡ tableSize) (b : byte ≡ byteOf t (boardOf p)) (w : wanted ≡ requiredAt chess (byteOf t) (boardOf p)) where
-      pub refused-byte : (byte ≡ wanted → ⊥) → Answer.Refused 11 ≡ lookUpOf t p
-      unfolding lookUpOf
-      refused-byte h = sym (rw (← e, eq-eqb n 0 z, eq-eqb (length t) tableSize l, ← b, ← w, ne-eqb byte wanted h))
+    module _ (list : List ℕ) (byte : ℕ) (v : Verdict) (l : length t ≡ tableSize) (k : list ≡ pairs) (b : byte ≡ byteBy list t (boardOf p)) (h : v ≡ verdictOf (byteBy list t) byte (boardOf p)) where
+      at-number : byte ≡ byteOf t (boardOf p)
+      at-number = b ∙ ap (λ (f : Board → ℕ). f (boardOf p)) (lent-byte list t k)
 
-      pub answered : byte ≡ wanted → (a : Advice) → a ≡ adviceOf (suitedFrom t byte (boardOf p)) → answerOf byte a ≡ lookUpOf t p
+      pub refused-byte : v ≡ Verdict.Wrong → Answer.Refused 11 ≡ lookUpOf t p
+      unfolding lookUpOf
+      refused-byte w =
+          let q = told-wrong (byteOf t) (boardOf p) byte v (lent-verdict list t byte (boardOf p) v k h) w in
+          sym (rw (← e, eq-eqb n 0 z, eq-eqb (length t) tableSize l, ← at-number, q))
+
+      pub answered : (a : Advice) → v ≡ Verdict.Right a → answerOf byte a ≡ lookUpOf t p
       unfolding lookUpOf suitedFrom firstSuited
-      answered h a f = sym (rw (← e, eq-eqb n 0 z, eq-eqb (length t) tableSize l, ← b, ← w, eq-eqb byte wanted h, ← f))
+      answered a w =
+          let r = told-right (byteOf t) (boardOf p) byte v a (lent-verdict list t byte (boardOf p) v k h) w in
+          sym (rw (← e, eq-eqb n 0 z, eq-eqb (length t) tableSize l, ← at-number, r .0, ← r .1))

@@ -2,10 +2,11 @@
 use answers::Advice;
 use answers::Answer;
 use listing::standing_refusal;
+use pairs::pair_list;
 use position::Position;
+use successors::Verdict;
 use successors::byte_of;
-use successors::first_suited;
-use successors::required;
+use successors::verdict_on;
 ghost use mathlib.Core.Path.{_≡_};
 ghost use Rattle.endings.specs.Answers.{answerOf, lookUpOf};
 
@@ -35,9 +36,11 @@ pub fn look_up(table: &[u8], p: Position) -> Answer
     if table.len() != TABLE_SIZE {
         return Answer::Refused(7);
     }
-    let byte = byte_of(table, p);
-    if byte as u16 != required(table, p) {
-        return Answer::Refused(11);
+    let list = pair_list();
+    let byte = byte_of(&list, table, p);
+    let verdict = verdict_on(&list, table, p, byte);
+    match verdict {
+        Verdict::Wrong => Answer::Refused(11),
+        Verdict::Right(advice) => answer(byte, advice),
     }
-    answer(byte, first_suited(table, p, byte))
 }

@@ -1,3 +1,4 @@
 pub mod Successors
-pub mod Laws
-pub mod ScanLaws
+pub mod ByteLaws
+pub mod JudgeLaws
+pub mod VerdictLaws

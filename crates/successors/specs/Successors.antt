@@ -1,24 +1,54 @@
--- The bytes of a board's successors, in list order, and what the code computes of them. Assumes nothing.
+-- The byte of a board by a lent list of pairs, and a byte held against those of a board's successors. Definitions only. Assumes nothing.
 use mathlib.Core.Path.{_≡_}
-use mathlib.Core.List.{List, map}
-use mathlib.Core.Option.{Option}
+use mathlib.Core.Bool.{Bool, cond, _&&_, _||_}
+use mathlib.Core.List.{List}
+use mathlib.Core.Option.{Option, none, some}
 use Prim.Native.Nat.{ℕ}
+use lib.Dec.{eqb}
+use lib.ListN.{getD}
 use Rattle.finite.specs.Members.{first}
-use Rattle.theory.specs.Required.{best}
+use Rattle.theory.specs.Required.{requiredAt}
 use Rattle.theory.specs.Play.{suits}
+use Rattle.theory.specs.Judge.{judge}
 use Rattle.rules.specs.declared.Move.{Move}
-use Rattle.rules.specs.Rules.{Board, moves}
-use Rattle.rules.specs.Chess.{played}
-use Rattle.endings.specs.Chess.{byteOf}
+use Rattle.rules.specs.Rules.{Board, empty, inCheck, moves}
+use Rattle.rules.specs.Chess.{chess, played}
+use Rattle.answers.specs.declared.Advice.{Advice}
+use Rattle.position.specs.declared.Position.{Position}
+use Rattle.index.specs.Frames.{numberBy}
+use Rattle.endings.specs.Answers.{adviceOf}
+use Rattle.successors.specs.declared.Judged.{Judged}
+use Rattle.successors.specs.declared.Verdict.{Verdict}
 
--- the bytes after each move
-abbrev pub bytesAfter : List ℕ → Board → List ℕ
-bytesAfter t b = map (λ m. byteOf t (played b m)) (moves b)
+-- the byte of a board, as `byteOf`, with the pair by a lent list
+unfoldable pub byteBy : List ℕ → List ℕ → Board → ℕ
+byteBy list t b = cond (empty (b .men)) 1 (getD t (numberBy list b) 0)
 
--- the best byte that a move gets; 0 with no move
-abbrev pub bestAfter : List ℕ → Board → ℕ
-bestAfter t b = best 0 (bytesAfter t b)
+-- a king stands where the move starts, so that the pair of kings changes
+abbrev pub kingMoves : Position → ℕ → Bool
+kingMoves p from = eqb (p .white) from || eqb (p .black) from
+
+-- the move in an answer, back from `adviceOf`
+abbrev pub moveIn : Advice → Option Move
+moveIn Advice.NoMove = none
+moveIn (Advice.Play m) = some m
+
+abbrev pub judgedOf : Option (Option Move) → Judged
+judgedOf none = Judged.Refuted
+judgedOf (some found) = Judged.Found (adviceOf found)
+
+-- byte c held against some moves of a board, from what is found so far
+abbrev pub judgedFrom : (Board → ℕ) → ℕ → Board → Option Move → List Move → Option (Option Move)
+judgedFrom byte c b found ms = judge c (λ m. byte (played b m)) found ms
 
 -- the first move to a byte that suits byte c
-unfoldable pub suitedFrom : List ℕ → ℕ → Board → Option Move
-suitedFrom t c b = first (λ m. suits c (byteOf t (played b m))) (moves b)
+unfoldable pub suitedFrom : (Board → ℕ) → ℕ → Board → Option Move
+suitedFrom byte c b = first (λ m. suits c (byte (played b m))) (moves b)
+
+-- byte c is the one required, and what it advises; or it is wrong
+unfoldable pub verdictOf : (Board → ℕ) → ℕ → Board → Verdict
+verdictOf byte c b = cond (eqb c (requiredAt chess byte b)) (Verdict.Right (adviceOf (suitedFrom byte c b))) Verdict.Wrong
+
+-- with no move left the byte is 2 in check, which is mate, and 1 otherwise, which is stalemate
+unfoldable pub overWith : ℕ → Board → Bool
+overWith c b = empty (moves b) && eqb c (cond (inCheck b (b .side)) 2 1)

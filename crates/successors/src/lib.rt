@@ -1,11 +1,22 @@
-// A position's successors as a table's bytes: the byte after a move, the byte required, whether a depth is required, the move sought.
-mod after;
-mod require;
-mod scan;
-mod suited;
+// A byte of a table held against those of a position's successors: whether it is the one required, and the move that it advises.
+use answers::Advice;
 
-pub use after::byte_after;
+mod after;
+mod judging;
+mod verdicts;
+
 pub use after::byte_of;
-pub use require::required;
-pub use scan::requires_depth;
-pub use suited::first_suited;
+pub use verdicts::requires_depth;
+pub use verdicts::verdict_on;
+
+// A byte held against some successors: one refutes it, or the first move found that suits.
+pub enum Judged {
+    Refuted,
+    Found(Advice),
+}
+
+// The verdict on a byte: it is not the one required; or it is, with the move that it advises.
+pub enum Verdict {
+    Wrong,
+    Right(Advice),
+}

@@ -6,7 +6,7 @@ use Rattle.look_up.proofs.look_up.Statement.{statement}
 use Rattle.look_up.proofs.look_up.Tie as tie
 
 standing-refusal-requires : tie.Need-standing-refusal-requires
-standing-refusal-requires c κs = search needs
+standing-refusal-requires c κs = tt
 
 returns : tie.Need-returns
 returns c = refused-standing _ _ _ (c .before .standing-refusal .ensures) (c .if1 .taken)
@@ -14,32 +14,38 @@ returns c = refused-standing _ _ _ (c .before .standing-refusal .ensures) (c .if
 returns-2 : tie.Need-returns-2
 returns-2 c = refused-length _ _ _ (c .before .before .standing-refusal .ensures) (c .before .if1 .left) (c .if2 .taken)
 
+pair-list-requires : tie.Need-pair-list-requires
+pair-list-requires c κs = tt
+
 byte-of-requires : tie.Need-byte-of-requires
-byte-of-requires c κs = search needs
+byte-of-requires c κs = tt
 
-cast-if3 : tie.Need-cast-if3
-cast-if3 c = search needs
+verdict-on-requires : tie.Need-verdict-on-requires
+verdict-on-requires c κs = tt
 
-required-requires : tie.Need-required-requires
-required-requires c κs = search needs
+enum-told : tie.Need-enum-told
+enum-told c = search needs
+
+enum-known-verdict : tie.Need-enum-known-verdict
+enum-known-verdict c = search needs
+
+answer-requires : tie.Need-answer-requires
+answer-requires c κs = tt
 
 returns-3 : tie.Need-returns-3
 returns-3 c =
-    refused-byte _ _ _ (c .before .before .before .before .before .standing-refusal .ensures) (c .before .before .before .before .if1 .left) _ _ (c .before .before .before .if2 .left)
-    (c .before .before .byte-of .ensures) (c .before .required .ensures) (c .if3 .taken)
-
-first-suited-requires : tie.Need-first-suited-requires
-first-suited-requires c κs = search needs
-
-answer-requires : tie.Need-answer-requires
-answer-requires c κs = search needs
+    let v = c .before .before in
+    let b = v .before .before in
+    let l = b .before .before in
+    refused-byte _ _ _ (l .before .before .before .standing-refusal .ensures) (l .before .before .if1 .left) _ _ _ (l .before .if2 .left) (l .pair-list .ensures) (b .byte-of .ensures) (v .verdict-on .ensures) (c .enum-told .given .1)
 
 returns-4 : tie.Need-returns-4
 returns-4 c =
-    let d = c .before .before in
+    let v = c .before .before .before .before in
+    let b = v .before .before in
+    let l = b .before .before in
     c .answer .ensures
-    ∙ answered _ _ _ (d .before .before .before .before .before .standing-refusal .ensures) (d .before .before .before .before .if1 .left) _ _ (d .before .before .before .if2 .left) (d .before .before .byte-of .ensures)
-    (d .before .required .ensures) (d .if3 .left) _ (c .before .first-suited .ensures)
+    ∙ answered _ _ _ (l .before .before .before .standing-refusal .ensures) (l .before .before .if1 .left) _ _ _ (l .before .if2 .left) (l .pair-list .ensures) (b .byte-of .ensures) (v .verdict-on .ensures) _ (c .before .before .verdict .given .1)
 
 pub look-up-spec : {M : Type 1} → statement M
-look-up-spec = tie.close (tie.spec standing-refusal-requires returns returns-2 byte-of-requires cast-if3 required-requires returns-3 first-suited-requires answer-requires returns-4)
+look-up-spec = tie.close (tie.spec standing-refusal-requires returns returns-2 pair-list-requires byte-of-requires verdict-on-requires enum-told enum-known-verdict answer-requires returns-3 returns-4)

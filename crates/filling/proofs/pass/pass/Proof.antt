@@ -13,10 +13,10 @@ use Rattle.filling.proofs.pass.pass.Statement.{statement}
 use Rattle.filling.proofs.pass.pass.Tie as tie
 
 abbrev Inv-loop : tie.InvT-loop
-Inv-loop man k table₀ white black any₀ n₀ table any n = (n ≤ 59136) × (length table₀ ≡ 59136) × Upto (passByte chess (ending man) k table₀) table₀ table n × (any ≡ someBelow chess (ending man) k table₀ n)
+Inv-loop list man k table₀ white black any₀ n₀ table any n = (n ≤ 59136) × (length table₀ ≡ 59136) × Upto (passByte chess (ending man) k table₀) table₀ table n × (any ≡ someBelow chess (ending man) k table₀ n)
 
 abbrev μ-loop : tie.MeasureT-loop
-μ-loop man k table₀ white black any₀ n₀ table any n = 59136 - n
+μ-loop list man k table₀ white black any₀ n₀ table any n = 59136 - n
 
 may-settle-requires : tie.Need-may-settle-requires Inv-loop μ-loop
 may-settle-requires c κs = let p = c .before .before .pre in (p .0, omega (arith, p .1))
@@ -34,7 +34,8 @@ settle-where-requires : tie.Need-settle-where-requires Inv-loop μ-loop
 settle-where-requires c κs =
     let i = c .before .before .before .loop .inv in
     let h = c .before .before .loop-test .taken in
-    (h, i .2 .same-length ∙ i .1, c .before .before .before .before .before .before .before .before .before .pre .0, quiet-in-place _ _ _ _ h _ _ _ _ (c .before .before .before .before .before .before .may-settle .ensures) (c .before .before .before .before .may-settle2 .ensures) (c .before .of-half .ensures) (i .2))
+    let p = c .before .before .before .before .before .before .before .before .before .pre in
+    (h, i .2 .same-length ∙ i .1, p .0, p .2, quiet-in-place _ _ _ _ h _ _ _ _ (c .before .before .before .before .before .before .may-settle .ensures) (c .before .before .before .before .may-settle2 .ensures) (c .before .of-half .ensures) (i .2))
 
 add-n : tie.Need-add-n Inv-loop μ-loop
 add-n c = omega (arith, c .before .before .before .before .before .loop-test .taken)

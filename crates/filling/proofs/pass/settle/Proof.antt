@@ -9,7 +9,7 @@ use Rattle.filling.proofs.pass.settle.Statement.{statement}
 use Rattle.filling.proofs.pass.settle.Tie as tie
 
 settles-requires : tie.Need-settles-requires
-settles-requires c κs = (c .before .before .pre .0, c .before .before .pre .1)
+settles-requires c κs = let p = c .before .before .pre in (p .0, p .1, p .3)
 
 same-length : tie.Need-same-length
 same-length c = search needs

@@ -7,7 +7,7 @@ use Rattle.filling.proofs.pass.settle_where.Statement.{statement}
 use Rattle.filling.proofs.pass.settle_where.Tie as tie
 
 returns : tie.Need-returns
-returns c = settle-no _ _ _ _ _ _ refl (c .before .before .pre .3 (not-true _ (c .if1 .taken)))
+returns c = settle-no _ _ _ _ _ _ refl (c .before .before .pre .4 (not-true _ (c .if1 .taken)))
 
 settle-requires : tie.Need-settle-requires
 settle-requires c κs = search needs

@@ -7,6 +7,7 @@ use lib.Dec.{eqb}
 use borrow.Author.Needs.{needs}
 use borrow.Author.Tests.{not-true, not-false}
 use Rattle.checking.specs.Laws.{nothing-legal, standing-legal, board-own}
+use Rattle.successors.specs.VerdictLaws.{lent-depth}
 use Rattle.filling.specs.Laws.{verdict-settled, verdict-illegal, verdict-no, verdict-yes}
 use Rattle.filling.proofs.pass.settles.Statement.{statement}
 use Rattle.filling.proofs.pass.settles.Tie as tie
@@ -32,7 +33,7 @@ requires-depth-requires c κs = tt
 returns-2 : tie.Need-returns-2
 returns-2 c =
     let e = sym (c .before .before .before .placed .given .1) ∙ c .before .before .before .before .before .position-of .ensures in
-    verdict-no _ _ _ _ _ (board-own _ _ _ e) _ _ (c .before .requires-depth .ensures) refl (not-true _ (c .if2 .taken))
+    verdict-no _ _ _ _ _ (board-own _ _ _ e) _ _ (lent-depth _ _ _ _ _ (c .before .before .before .before .before .before .before .before .before .pre .2) (c .before .requires-depth .ensures)) refl (not-true _ (c .if2 .taken))
 
 standing-refusal-requires : tie.Need-standing-refusal-requires
 standing-refusal-requires c κs = tt
@@ -43,7 +44,7 @@ enum-told c = search needs
 returns-3 : tie.Need-returns-3
 returns-3 c =
     let e = sym (c .before .before .before .before .placed .given .1) ∙ c .before .before .before .before .before .before .position-of .ensures in
-    verdict-yes _ _ _ _ _ (board-own _ _ _ e) _ _ (c .before .before .requires-depth .ensures) (ap (λ (r : ℕ). eqb r 0) (c .standing-refusal .ensures) ∙ standing-legal _ _ _ e) (c .before .before .before .before .before .before .before .if1 .left) (not-false _ (c .before .if2 .left))
+    verdict-yes _ _ _ _ _ (board-own _ _ _ e) _ _ (lent-depth _ _ _ _ _ (c .before .before .before .before .before .before .before .before .before .before .pre .2) (c .before .before .requires-depth .ensures)) (ap (λ (r : ℕ). eqb r 0) (c .standing-refusal .ensures) ∙ standing-legal _ _ _ e) (c .before .before .before .before .before .before .before .if1 .left) (not-false _ (c .before .if2 .left))
 
 returns-4 : tie.Need-returns-4
 returns-4 c = verdict-illegal _ _ _ _ (nothing-legal _ _ _ (sym (c .enum-told .given .1) ∙ c .before .before .position-of .ensures))

@@ -12,16 +12,16 @@ use Rattle.filling.proofs.pass.some_settles.Statement.{statement}
 use Rattle.filling.proofs.pass.some_settles.Tie as tie
 
 abbrev Inv-loop : tie.InvT-loop
-Inv-loop table man k n₀ n = (n ≤ 59136) × (someBelow chess (ending man) k table n ≡ false)
+Inv-loop list table man k n₀ n = (n ≤ 59136) × (someBelow chess (ending man) k table n ≡ false)
 
 abbrev μ-loop : tie.MeasureT-loop
-μ-loop table man k n₀ n = 59136 - n
+μ-loop list table man k n₀ n = 59136 - n
 
 loop-holds : tie.Need-loop-holds Inv-loop μ-loop
 loop-holds c = (omega arith, sym (none-below _ _ _ _))
 
 settles-requires : tie.Need-settles-requires Inv-loop μ-loop
-settles-requires c κs = (c .loop-test .taken, c .before .before .before .pre)
+settles-requires c κs = let p = c .before .before .before .pre in (c .loop-test .taken, p .0, p .1)
 
 returns : tie.Need-returns Inv-loop μ-loop
 returns c = some-now _ _ _ _ _ _ (rw (size-is _) (c .before .before .loop-test .taken)) (c .before .settles .ensures) (c .if1 .taken)

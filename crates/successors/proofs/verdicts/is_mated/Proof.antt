@@ -3,9 +3,9 @@ use mathlib.Core.Path.{sym, _∙_}
 use mathlib.Core.Bool.{true, false}
 use borrow.Author.Needs.{needs}
 use borrow.Author.Tests.{not-true, not-false}
-use Rattle.successors.specs.Laws.{unchecked, keyed-check, keyed-mate}
-use Rattle.successors.proofs.scan.is_mated.Statement.{statement}
-use Rattle.successors.proofs.scan.is_mated.Tie as tie
+use Rattle.successors.specs.VerdictLaws.{unchecked, keyed-check, keyed-mate}
+use Rattle.successors.proofs.verdicts.is_mated.Statement.{statement}
+use Rattle.successors.proofs.verdicts.is_mated.Tie as tie
 
 setup-of-requires : tie.Need-setup-of-requires
 setup-of-requires c κs = tt

@@ -1,0 +1,28 @@
+-- `checking::is_required` meets its contract: by the verdict. Assumes nothing.
+use mathlib.Core.Path.{sym}
+use borrow.Author.Needs.{needs}
+use Rattle.successors.specs.VerdictLaws.{told-wrong, told-right, lent-verdict}
+use Rattle.checking.proofs.numbers.is_required.Statement.{statement}
+use Rattle.checking.proofs.numbers.is_required.Tie as tie
+
+verdict-on-requires : tie.Need-verdict-on-requires
+verdict-on-requires c κs = tt
+
+enum-told : tie.Need-enum-told
+enum-told c = search needs
+
+enum-told-2 : tie.Need-enum-told-2
+enum-told-2 c = search needs
+
+returns : tie.Need-returns
+returns c =
+    let v = c .before .before in
+    sym (told-wrong _ _ _ _ (lent-verdict _ _ _ _ _ (v .before .before .pre) (v .verdict-on .ensures)) (c .enum-told .given .1))
+
+returns-2 : tie.Need-returns-2
+returns-2 c =
+    let v = c .before .before in
+    sym (told-right _ _ _ _ _ (lent-verdict _ _ _ _ _ (v .before .before .pre) (v .verdict-on .ensures)) (c .enum-told2 .given .1) .0)
+
+pub is-required-spec : {M : Type 1} → statement M
+is-required-spec = tie.close (tie.spec verdict-on-requires enum-told enum-told-2 returns returns-2)

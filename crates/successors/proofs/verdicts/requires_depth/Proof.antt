@@ -1,0 +1,68 @@
+-- `successors::requires_depth` meets its contract: mate, or the judgement of the byte for that depth. Assumes nothing.
+use mathlib.Core.Path.{_≡_, sym, ap, _∙_}
+use mathlib.Core.Option.{Option, some}
+use borrow.Author.Needs.{needs}
+use Rattle.rules.specs.declared.Move.{Move}
+use Rattle.answers.specs.declared.Advice.{Advice}
+use Rattle.successors.specs.Successors.{moveIn}
+use Rattle.successors.specs.JudgeLaws.{judged-refuted, judged-found}
+use Rattle.successors.specs.VerdictLaws.{depth-mate, depth-met, depth-refuted, depth-unmet}
+use Rattle.successors.proofs.verdicts.requires_depth.Statement.{statement}
+use Rattle.successors.proofs.verdicts.requires_depth.Tie as tie
+
+is-mated-requires : tie.Need-is-mated-requires
+is-mated-requires c κs = search needs
+
+returns : tie.Need-returns
+returns c = c .is-mated .ensures ∙ depth-mate _ _ _ (c .before .if1 .taken)
+
+add-judge : tie.Need-add-judge
+add-judge c = search needs
+
+judge-requires : tie.Need-judge-requires
+judge-requires c κs = search needs
+
+enum-told : tie.Need-enum-told
+enum-told c = search needs
+
+enum-known-judged : tie.Need-enum-known-judged
+enum-known-judged c = search needs
+
+enum-told-2 : tie.Need-enum-told-2
+enum-told-2 c = search needs
+
+enum-told-3 : tie.Need-enum-told-3
+enum-told-3 c = search needs
+
+returns-2 : tie.Need-returns-2
+returns-2 c =
+    let j = c .before .before in
+    depth-refuted _ _ _ (j .before .if1 .left) (judged-refuted _ (sym (c .enum-told .given .1) ∙ j .judge .ensures))
+
+returns-3 : tie.Need-returns-3
+returns-3 c =
+    let j = c .before .before .before .before .before in
+    depth-met _ _ _ (j .before .if1 .left) _
+    (judged-found _ _ (sym (c .before .before .before .judged .given .1) ∙ j .judge .ensures) ∙ ap (λ (a : Advice). some (moveIn a)) (c .enum-told2 .given .1))
+
+returns-4 : tie.Need-returns-4
+returns-4 c =
+    let j = c .before .before .before .before .before in
+    depth-unmet _ _ _ (j .before .if1 .left)
+    (judged-found _ _ (sym (c .before .before .before .judged .given .1) ∙ j .judge .ensures) ∙ ap (λ (a : Advice). some (moveIn a)) (c .enum-told3 .given .1))
+
+pub requires-depth-spec : {M : Type 1} → statement M
+requires-depth-spec =
+    tie.close
+    (tie.spec
+    is-mated-requires
+    returns
+    add-judge
+    judge-requires
+    enum-told
+    enum-known-judged
+    enum-told-2
+    enum-told-3
+    returns-2
+    returns-3
+    returns-4)

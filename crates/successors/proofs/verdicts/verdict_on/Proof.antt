@@ -1,0 +1,75 @@
+-- `successors::verdict_on` meets its contract: each return by the judgement that led there. Assumes nothing.
+use mathlib.Core.Path.{_≡_, sym, ap, _∙_}
+use mathlib.Core.Option.{Option, some}
+use borrow.Author.Needs.{needs}
+use Rattle.answers.specs.declared.Advice.{Advice}
+use Rattle.successors.specs.Successors.{moveIn}
+use Rattle.successors.specs.JudgeLaws.{judged-refuted, judged-found}
+use Rattle.successors.specs.VerdictLaws.{verdict-zero, verdict-refuted, verdict-met, verdict-over, verdict-open}
+use Rattle.successors.proofs.verdicts.verdict_on.Statement.{statement}
+use Rattle.successors.proofs.verdicts.verdict_on.Tie as tie
+
+returns : tie.Need-returns
+returns c = verdict-zero _ _ _ (c .if1 .taken)
+
+judge-requires : tie.Need-judge-requires
+judge-requires c κs = search needs
+
+enum-told : tie.Need-enum-told
+enum-told c = search needs
+
+enum-known-judged : tie.Need-enum-known-judged
+enum-known-judged c = search needs
+
+enum-known-found : tie.Need-enum-known-found
+enum-known-found c = search needs
+
+enum-told-2 : tie.Need-enum-told-2
+enum-told-2 c = search needs
+
+is-over-with-requires : tie.Need-is-over-with-requires
+is-over-with-requires c κs = search needs
+
+returns-2 : tie.Need-returns-2
+returns-2 c =
+    let e = c .before .before in
+    let j = e .before .before .before .before .before in
+    verdict-over _ _ _
+    (judged-found _ _ (sym (e .before .before .before .judged .given .1) ∙ j .judge .ensures) ∙ ap (λ (a : Advice). some (moveIn a)) (e .enum-told2 .given .1))
+    (sym (c .before .is-over-with .ensures) ∙ c .if2 .taken)
+
+returns-3 : tie.Need-returns-3
+returns-3 c =
+    let j = c .before .before in
+    verdict-refuted _ _ _ (j .before .if1 .left) (judged-refuted _ (sym (c .enum-told .given .1) ∙ j .judge .ensures))
+
+returns-4 : tie.Need-returns-4
+returns-4 c =
+    let e = c .before in
+    let j = e .before .before .before .before .before in
+    verdict-met _ _ _ (j .before .if1 .left) _
+    (judged-found _ _ (sym (e .before .before .before .judged .given .1) ∙ j .judge .ensures) ∙ ap (λ (a : Advice). some (moveIn a)) (e .found .given .1))
+
+returns-5 : tie.Need-returns-5
+returns-5 c =
+    let e = c .before .before in
+    let j = e .before .before .before .before .before in
+    verdict-open _ _ _
+    (judged-found _ _ (sym (e .before .before .before .judged .given .1) ∙ j .judge .ensures) ∙ ap (λ (a : Advice). some (moveIn a)) (e .enum-told2 .given .1))
+    (sym (c .before .is-over-with .ensures) ∙ c .if2 .left)
+
+pub verdict-on-spec : {M : Type 1} → statement M
+verdict-on-spec =
+    tie.close
+    (tie.spec
+    returns
+    judge-requires
+    enum-told
+    enum-known-judged
+    enum-known-found
+    enum-told-2
+    is-over-with-requires
+    returns-2
+    returns-3
+    returns-4
+    returns-5)
