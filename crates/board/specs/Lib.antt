@@ -8,3 +8,4 @@ pub mod Blocking
 pub mod SetLaws
 pub mod LowestLaws
 pub mod SweepLaws
+pub mod StepLaws

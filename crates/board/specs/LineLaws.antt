@@ -1,11 +1,11 @@
 -- Laws of lines: what a line does by what its next square is, as code that walks it finds out; and that only the board counts. Assumes nothing.
 use mathlib.Core.Path.{_≡_, refl, subst}
 use mathlib.Core.Logic.{⊎-elim}
-use mathlib.Core.Bool.{Bool, true, false, not, _&&_, _||_, and-false}
+use mathlib.Core.Bool.{Bool, false, not, _&&_, _||_, and-false}
 use Prim.Native.Nat.{ℕ, zero, suc, _+_, _-_, _≤_, _<_}
 use native.Mathlib.Omega.{arith}
 use lib.Dec.{T, ltb, eqb, ltb→lt, eqb→eq}
-use borrow.Author.Tests.{lt-ltb, le-ltb, eq-eqb, ne-eqb}
+use borrow.Author.Tests.{lt-ltb, le-ltb}
 use Rattle.finite.specs.Truth.{and-left, and-right, or-cases, le-or-lt}
 use Rattle.board.specs.Square.{shift}
 use Rattle.board.specs.Reach.{line}
@@ -28,19 +28,6 @@ module _ (occ : ℕ → Bool) (s dx dy t : ℕ) where
     pub line-on : (r n : ℕ) → n < r → (u ≡ 64 → ⊥) → line occ (r - n) s dx dy t ≡ (eqb u t || not (occ u) && line occ (r - (n + 1)) u dx dy t)
     unfolding line
     line-on r n l h = let z : r - n ≡ suc (r - (n + 1)) = omega arith in rw (z, ← e, lt-ltb u 64 (shift-lt u s dx dy e h))
-
-    -- the target comes next
-    pub line-hit : (r n : ℕ) → n < r → (u ≡ 64 → ⊥) → u ≡ t → line occ (r - n) s dx dy t ≡ true
-    line-hit r n l h q = rw (line-on r n l h, eq-eqb u t q)
-
-    module _ (r n : ℕ) (l : n < r) (h : u ≡ 64 → ⊥) (q : u ≡ t → ⊥) where
-      -- another piece comes next
-      pub line-stop : occ u ≡ true → line occ (r - n) s dx dy t ≡ false
-      line-stop o = rw (line-on r n l h, ne-eqb u t q, o)
-
-      -- an empty square comes next
-      pub line-next : occ u ≡ false → line occ (r - n) s dx dy t ≡ line occ (r - (n + 1)) u dx dy t
-      line-next o = rw (line-on r n l h, ne-eqb u t q, o)
 
 -- a line starts and ends on the board
 pub line-squares : (occ : ℕ → Bool) (n s dx dy t : ℕ) → T (line occ n s dx dy t) → (s < 64) × (t < 64)

@@ -24,6 +24,10 @@ stepXs = 2 ∷ 1 ∷ 3 ∷ 2 ∷ 1 ∷ 3 ∷ 1 ∷ 3 ∷ 1 ∷ 3 ∷ 0 ∷ 4 ∷
 abbrev pub stepYs : List ℕ
 stepYs = 1 ∷ 2 ∷ 2 ∷ 3 ∷ 1 ∷ 1 ∷ 3 ∷ 3 ∷ 0 ∷ 0 ∷ 1 ∷ 1 ∷ 3 ∷ 3 ∷ 4 ∷ 4 ∷ []
 
+-- the square that the k-th step leads to from s, or 64
+abbrev pub stepped : ℕ → ℕ → ℕ
+stepped s k = shift s (getD stepXs k 0) (getD stepYs k 0)
+
 -- of each kind: its first step, the number of its steps, and how often one may be repeated
 abbrev pub firstSteps : List ℕ
 firstSteps = 0 ∷ 0 ∷ 4 ∷ 8 ∷ 0 ∷ 0 ∷ []

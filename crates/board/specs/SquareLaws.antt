@@ -5,7 +5,6 @@ use mathlib.Core.Bool.{_&&_}
 use Prim.Native.Nat.{ℕ, _+_, _-_, _*_, _/_, _%_, _≤_, _<_}
 use native.Mathlib.Omega.{arith}
 use lib.Dec.{T, leb, ltb, leb→le, ltb→lt}
-use borrow.Author.Tests.{lt-ltb, le-leb}
 use Rattle.finite.specs.Truth.{and-left, and-right, by-test, cond-true, cond-false, le-or-lt}
 use Rattle.board.specs.Square.{stays, shift}
 
@@ -33,12 +32,6 @@ stays-facts s dx dy t =
       bottom = leb→le 2 (s / 8 + dy) (and-right b (leb 2 (s / 8 + dy)) td);
       top = leb→le (s / 8 + dy) 9 (and-right d (leb (s / 8 + dy) 9) t);
     }
-
--- a step that stays on the board
-pub shift-on : (s dx dy : ℕ) → Stays s dx dy → shift s dx dy ≡ (s / 8 + dy - 2) * 8 + (s % 8 + dx - 2)
-unfolding shift stays
-shift-on s dx dy h =
-    simp (lt-ltb s 64 (h .square), le-leb 2 (s % 8 + dx) (h .left), le-leb (s % 8 + dx) 9 (h .right), le-leb 2 (s / 8 + dy) (h .bottom), le-leb (s / 8 + dy) 9 (h .top))
 
 -- a step that leaves it
 pub shift-out : (s dx dy : ℕ) → (Stays s dx dy → ⊥) → shift s dx dy ≡ 64

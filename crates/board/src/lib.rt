@@ -2,8 +2,6 @@
 mod lines;
 mod sets;
 
-pub use lines::reaches;
-pub use lines::shift;
 pub use lines::targets;
 pub use sets::has;
 pub use sets::lowest;

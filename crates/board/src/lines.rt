@@ -1,131 +1,118 @@
-// Steps, lines and the squares that a piece attacks.
+// The squares that a piece attacks, by steps of a square's bit.
 ghost use mathlib.Core.Path.{_≡_};
-ghost use mathlib.Core.Bool.{_||_};
-ghost use Prim.Native.Nat.{ℕ, _<_};
-ghost use Rattle.board.specs.Square.{shift as shiftOf};
-ghost use Rattle.board.specs.Reach.{line, reaches as reachesOf};
+ghost use mathlib.Core.Bool.{false};
+ghost use Prim.Native.Nat.{ℕ, _-_, _≤_, _<_};
+ghost use Rattle.finite.specs.Members.{any};
+ghost use Rattle.finite.specs.Numbers.{numbers};
+ghost use Rattle.board.specs.Reach.{stepped, lineOf, reaches as reachesOf};
 ghost use Rattle.board.specs.Sets.{has as holds, setOf};
+ghost use Rattle.board.specs.SetLaws.{bit};
 
-// The change of file and of rank, plus 2, of each step: four of the rook, four of the bishop, eight of the knight.
-const STEP_X: [u8; 16] = [2, 1, 3, 2, 1, 3, 1, 3, 1, 3, 0, 4, 0, 4, 1, 3];
+// All squares but those of file a, where no step to the right ends, and all but those of file h, where none to the left does.
+const NOT_A: u64 = 18374403900871474942;
 
-const STEP_Y: [u8; 16] = [1, 2, 2, 3, 1, 1, 3, 3, 0, 0, 1, 1, 3, 3, 4, 4];
+const NOT_H: u64 = 9187201950435737471;
 
-// The kinds of piece: queen 0, rook 1, bishop 2, knight 3, none 4, king 5.
-const KINDS: u8 = 6;
-
-// Of each kind: its first step, the number of its steps, and how often one may be repeated.
-const FIRST: [u8; 6] = [0, 0, 4, 8, 0, 0];
-
-const COUNT: [u8; 6] = [8, 4, 4, 8, 0, 8];
-
-const RANGE: [u8; 6] = [7, 7, 7, 1, 0, 1];
-
-// The square that the step (dx - 2, dy - 2) leads to from s, or 64 where it leaves the board.
-fn next_square(s: u8, dx: u8, dy: u8) -> u8
-    requires { ⌜ (s < 64) × (dx < 10) × (dy < 10) ⌝ }
-    ensures { λ r. ⌜ r ≡ shiftOf s dx dy ⌝ }
+// From a square's bit the bit of the next square in the k-th direction, four of the rook and four of the bishop; 0 at the edge.
+fn step(b: u64, k: u8) -> u64
+    requires { ⌜ k < 8 ⌝ }
+    ensures { λ r. ⌜ ((s : ℕ) → s < 64 → b ≡ bit s → r ≡ bit (stepped s k)) ⌝ }
 {
-    let x = s % 8 + dx;
-    let y = s / 8 + dy;
-    if x < 2 || 9 < x || y < 2 || 9 < y {
-        return 64;
+    if k == 0 {
+        return b >> 8;
     }
-    (y - 2) * 8 + (x - 2)
+    if k == 1 {
+        return (b >> 1) & NOT_H;
+    }
+    if k == 2 {
+        return (b << 1) & NOT_A;
+    }
+    if k == 3 {
+        return b << 8;
+    }
+    if k == 4 {
+        return (b >> 9) & NOT_H;
+    }
+    if k == 5 {
+        return (b >> 7) & NOT_A;
+    }
+    if k == 6 {
+        return (b << 7) & NOT_H;
+    }
+    (b << 9) & NOT_A
 }
 
-// The same for any bytes: 64 off the board, and for a step that leads off it from anywhere.
-pub fn shift(s: u8, dx: u8, dy: u8) -> u8
-    ensures { λ r. ⌜ r ≡ shiftOf s dx dy ⌝ }
+// The squares of the lines in the directions `first` up to `end`: a line stops at the first piece it meets.
+fn lines(occ: u64, from: u8, first: u8, end: u8) -> u64
+    requires { ⌜ (from < 64) × (end ≤ 8) ⌝ }
+    ensures { λ r. ⌜ ((t : ℕ) → t < 64 → holds r t ≡ any (lineOf (holds occ) 0 from t) (numbers (end - first) first)) ⌝ }
 {
-    if 64 <= s || 9 < dx || 9 < dy {
-        return 64;
-    }
-    next_square(s, dx, dy)
-}
-
-// Whether a piece of this kind on `from` attacks `to`: a line stops at the first occupied square.
-pub fn reaches(occ: u64, kind: u8, from: u8, to: u8) -> bool
-    ensures { λ r. ⌜ r ≡ reachesOf (holds occ) kind from to ⌝ }
-{
-    if KINDS <= kind {
-        return false;
-    }
-    if 64 <= from {
-        return false;
-    }
-    let i = kind as usize;
-    let range = RANGE[i];
-    let first = FIRST[i];
-    let end = first + COUNT[i];
+    let mut set: u64 = 0;
     let mut k = first;
     'lines: loop {
         if end <= k {
-            break false;
+            break set;
         }
-        let dx = STEP_X[k as usize];
-        let dy = STEP_Y[k as usize];
-        let mut at = from;
-        let mut n = 0;
-        while n < range {
-            let next = next_square(at, dx, dy);
-            if next == 64 {
-                break;
+        let d = k;
+        k += 1;
+        let mut at: u64 = 1 << from;
+        let mut n: u8 = 0;
+        while n < 7 {
+            at = step(at, d);
+            set |= at;
+            // a piece, or the edge
+            if at & !occ == 0 {
+                continue 'lines;
             }
-            if next == to {
-                break 'lines true;
-            }
-            if (occ >> next) % 2 == 1 {
-                break;
-            }
-            at = next;
             n += 1;
         }
-        k += 1;
     }
 }
 
-// The squares of one line of at most `range` steps.
-fn line_squares(occ: u64, from: u8, dx: u8, dy: u8, range: u8) -> u64
-    requires { ⌜ (from < 64) × (dx < 10) × (dy < 10) ⌝ }
-    ensures { λ r. ⌜ ((t : ℕ) → t < 64 → holds r t ≡ line (holds occ) range from dx dy t) ⌝ }
+// The squares that a king attacks: those of three files in three ranks, but its own. Nothing stands in its way.
+fn king(from: u8) -> u64
+    requires { ⌜ from < 64 ⌝ }
+    ensures { λ r. ⌜ r ≡ setOf (reachesOf (λ (u : ℕ). false) 5 from) ⌝ }
 {
-    let mut set: u64 = 0;
-    let mut at = from;
-    let mut n = 0;
-    while n < range {
-        at = next_square(at, dx, dy);
-        if at == 64 {
-            break;
-        }
-        set |= 1 << at;
-        if (occ >> at) % 2 == 1 {
-            break;
-        }
-        n += 1;
-    }
-    set
+    let b: u64 = 1 << from;
+    let row = b | (((b >> 1) & NOT_H) | ((b << 1) & NOT_A));
+    (row | (row >> 8) | (row << 8)) & !b
 }
 
-// All the squares that a piece of this kind on `from` attacks.
+// The squares that a knight attacks: one file away two ranks up or down, two files away one. Nothing stands in its way.
+fn knight(from: u8) -> u64
+    requires { ⌜ from < 64 ⌝ }
+    ensures { λ r. ⌜ r ≡ setOf (reachesOf (λ (u : ℕ). false) 3 from) ⌝ }
+{
+    let b: u64 = 1 << from;
+    let left = (b >> 1) & NOT_H;
+    let right = (b << 1) & NOT_A;
+    let near = left | right;
+    let far = ((left >> 1) & NOT_H) | ((right << 1) & NOT_A);
+    (near >> 16) | (near << 16) | (far >> 8) | (far << 8)
+}
+
+// All the squares that a piece of this kind on `from` attacks: queen 0, rook 1, bishop 2, knight 3, king 5.
 pub fn targets(occ: u64, kind: u8, from: u8) -> u64
     ensures { λ r. ⌜ r ≡ setOf (reachesOf (holds occ) kind from) ⌝ }
 {
-    if KINDS <= kind {
-        return 0;
-    }
     if 64 <= from {
         return 0;
     }
-    let i = kind as usize;
-    let range = RANGE[i];
-    let first = FIRST[i];
-    let end = first + COUNT[i];
-    let mut set: u64 = 0;
-    let mut k = first;
-    while k < end {
-        set |= line_squares(occ, from, STEP_X[k as usize], STEP_Y[k as usize], range);
-        k += 1;
+    if kind == 0 {
+        return lines(occ, from, 0, 8);
     }
-    set
+    if kind == 1 {
+        return lines(occ, from, 0, 4);
+    }
+    if kind == 2 {
+        return lines(occ, from, 4, 8);
+    }
+    if kind == 3 {
+        return knight(from);
+    }
+    if kind == 5 {
+        return king(from);
+    }
+    0
 }

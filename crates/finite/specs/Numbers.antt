@@ -1,7 +1,7 @@
 -- A run of numbers, as a list; and one of them that passes a test, as a loop over the run finds it. Assumes nothing.
-use mathlib.Core.Path.{_≡_, sym, _∙_}
+use mathlib.Core.Path.{_≡_, sym}
 use mathlib.Core.Logic.{⊎-elim}
-use mathlib.Core.Bool.{Bool, true, false, _||_}
+use mathlib.Core.Bool.{Bool, false, _||_}
 use mathlib.Core.List.{List, [], _∷_, List·Memᴰ·head, List·Memᴰ·tail, List·Memᴰ·not-nil, List·Memᴰ·cases-cons}
 use Prim.Native.Nat.{ℕ, zero, suc, _+_, _-_, _≤_, _<_}
 use native.Mathlib.Nat.{eq-or-lt-of-le}
@@ -36,9 +36,3 @@ module _ (f : ℕ → Bool) (k e : ℕ) where
   pub any-first : k < e → any f (numbers (e - k) k) ≡ (f k || any f (numbers (e - (k + 1)) (k + 1)))
   unfolding any numbers
   any-first h = let z : e - k ≡ suc (e - (k + 1)) = omega arith in rw (z, add-one k)
-
-  pub any-here : k < e → f k ≡ true → any f (numbers (e - k) k) ≡ true
-  any-here h t = any-first h ∙ rw t
-
-  pub any-skip : k < e → f k ≡ false → any f (numbers (e - k) k) ≡ any f (numbers (e - (k + 1)) (k + 1))
-  any-skip h t = any-first h ∙ rw t

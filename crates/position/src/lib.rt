@@ -1,5 +1,6 @@
 // A position as it is keyed, the refusals it may meet, and the position under the board's maps.
-use board::reaches;
+use board::has;
+use board::targets;
 ghost use mathlib.Core.Path.{_≡_};
 ghost use Rattle.position.specs.Keyed.{placing};
 
@@ -37,7 +38,7 @@ pub fn placing_refusal(p: Position) -> u8
     if (white == square) | ((white == black) | (square == black)) {
         return 4;
     }
-    if reaches(0, 5, white, black) {
+    if has(targets(0, 5, white), black) {
         return 5;
     }
     0

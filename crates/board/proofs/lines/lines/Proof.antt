@@ -1,0 +1,147 @@
+use mathlib.Core.Path.{_≡_, refl, sym, ap, _∙_}
+use mathlib.Core.Bool.{Bool, _||_}
+use Prim.Native.Nat.{ℕ, _+_, _-_, _<_}
+use borrow.Author.Needs.{needs}
+use Rattle.finite.specs.Members.{any}
+use Rattle.finite.specs.Numbers.{numbers, any-end}
+use Rattle.board.specs.Reach.{stepped, lineOf}
+use Rattle.board.specs.Sets.{has}
+use Rattle.board.specs.SetLaws.{bit, has-none}
+use Rattle.board.specs.SweepLaws.{sweep-end, sweep-line}
+use Rattle.board.specs.StepLaws.{ahead, walk-end, walk-on, walk-next, walk-stop}
+use Rattle.board.proofs.lines.lines.Statement.{statement}
+use Rattle.board.proofs.lines.lines.Tie as tie
+
+-- one of the lines k up to end leads to t
+abbrev ways : ℕ → ℕ → ℕ → ℕ → ℕ → Bool
+ways occ from end k t = any (lineOf (has occ) 0 from t) (numbers (end - k) k)
+
+-- the set holds the squares of the lines before the k-th
+record Lines (occ from first end set k : ℕ) : Type 0 where
+  rest : (t : ℕ) → t < 64 → ways occ from end first t ≡ (has set t || ways occ from end k t)
+
+-- it holds the first n squares of the line d besides, all of them empty, and at is the bit of the last
+record Walked (occ from first end k d set at n : ℕ) : Type 0 where
+  square : ℕ
+  on : square < 64
+  is : at ≡ bit square
+  rest : (t : ℕ) → t < 64 → ways occ from end first t ≡ ((has set t || ahead occ d n square t) || ways occ from end k t)
+
+abbrev Inv-loop : tie.InvT-loop
+Inv-loop occ from first end set₀ k d at₀ n₀ set at n = Walked occ from first end k d set at n
+
+abbrev μ-loop : tie.MeasureT-loop
+μ-loop occ from first end set₀ k d at₀ n₀ set at n = 7 - n
+
+abbrev Inv-lines : tie.InvT-lines
+Inv-lines occ from first end set₀ k₀ set k = Lines occ from first end set k
+
+abbrev μ-lines : tie.MeasureT-lines
+μ-lines occ from first end set₀ k₀ set k = end - k
+
+lines-holds : tie.Need-lines-holds Inv-loop μ-loop Inv-lines μ-lines
+lines-holds c = record { rest = λ t h. rw (has-none t) }
+
+add-k : tie.Need-add-k Inv-loop μ-loop Inv-lines μ-lines
+add-k c = search needs
+
+shl-at : tie.Need-shl-at Inv-loop μ-loop Inv-lines μ-lines
+shl-at c = search needs
+
+loop-holds : tie.Need-loop-holds Inv-loop μ-loop Inv-lines μ-lines
+loop-holds c =
+    let a = c .before .before .args in
+    let o = c .before .lines in
+    record {
+      square = a .from;
+      on = c .before .before .pre .0;
+      is = refl;
+      rest = λ t h. o .inv .rest t h ∙ sweep-line (lineOf (has (a .occ)) 0 (a .from) t) (o .k) (a .end) (c .if1 .left) (has (o .set) t);
+    }
+
+lines-less : tie.Need-lines-less Inv-loop μ-loop Inv-lines μ-lines
+lines-less c = search needs
+
+lines-again : tie.Need-lines-again Inv-loop μ-loop Inv-lines μ-lines
+lines-again c =
+    let a = c .before .before .before .before .args in
+    let k = c .before .before .before .lines .k in
+    let l = c .before .loop in
+    record {
+      rest = λ t h.
+          l .inv .rest t h
+          ∙ ap (λ b. b || ways (a .occ) (a .from) (a .end) (k + 1) t) (walk-end (a .occ) k (l .n) (l .inv .square) (l .set) t (c .loop-test .left));
+    }
+
+step-requires : tie.Need-step-requires Inv-loop μ-loop Inv-lines μ-lines
+step-requires c κs = search needs
+
+lines-less-2 : tie.Need-lines-less-2 Inv-loop μ-loop Inv-lines μ-lines
+lines-less-2 c = search needs
+
+lines-again-2 : tie.Need-lines-again-2 Inv-loop μ-loop Inv-lines μ-lines
+lines-again-2 c =
+    let w = c .before .before .before in
+    let a = w .before .before .before .args in
+    let k = w .before .before .lines .k in
+    let l = w .loop in
+    let fits = w .before .before .before .fits .occ .fits in
+    let next = c .before .step .ensures (l .inv .square) (l .inv .on) (l .inv .is) in
+    record {
+      rest = λ t h.
+          l .inv .rest t h
+          ∙ ap (λ b. b || ways (a .occ) (a .from) (a .end) (k + 1) t)
+          (walk-stop (a .occ) k (l .inv .square) _ fits next (l .n) (l .set) t (c .before .before .loop-test .taken) h (c .if2 .taken));
+    }
+
+add-n : tie.Need-add-n Inv-loop μ-loop Inv-lines μ-lines
+add-n c = search needs
+
+loop-less : tie.Need-loop-less Inv-loop μ-loop Inv-lines μ-lines
+loop-less c = search needs
+
+loop-again : tie.Need-loop-again Inv-loop μ-loop Inv-lines μ-lines
+loop-again c =
+    let w = c .before .before .before in
+    let a = w .before .before .before .args in
+    let k = w .before .before .lines .k in
+    let l = w .loop in
+    let fits = w .before .before .before .fits .occ .fits in
+    let next = c .before .step .ensures (l .inv .square) (l .inv .on) (l .inv .is) in
+    record {
+      square = stepped (l .inv .square) k;
+      on = walk-on (a .occ) k (l .inv .square) _ fits next (c .if2 .left);
+      is = next;
+      rest = λ t h.
+          l .inv .rest t h
+          ∙ ap (λ b. b || ways (a .occ) (a .from) (a .end) (k + 1) t)
+          (walk-next (a .occ) k (l .inv .square) _ fits next (l .n) (l .set) t (c .before .before .loop-test .taken) h (c .if2 .left));
+    }
+
+returns : tie.Need-returns Inv-loop μ-loop Inv-lines μ-lines
+returns c =
+    let a = c .before .before .args in
+    let o = c .before .lines in
+    λ t h. sym (o .inv .rest t h ∙ sweep-end _ _ (any-end (lineOf (has (a .occ)) 0 (a .from) t) (o .k) (a .end) (c .if1 .taken)))
+
+pub lines-spec : {M : Type 1} → statement M
+lines-spec =
+    tie.close
+    (tie.spec
+    Inv-loop
+    μ-loop
+    Inv-lines
+    μ-lines
+    lines-holds
+    add-k
+    shl-at
+    loop-holds
+    lines-less
+    lines-again
+    step-requires
+    lines-less-2
+    lines-again-2
+    add-n
+    loop-less
+    loop-again
+    returns)
