@@ -6,7 +6,6 @@ ghost use mathlib.Core.Path.{_≡_};
 ghost use lib.Dec.{eqb};
 ghost use Rattle.symmetry.specs.Symmetry.{mapped};
 ghost use Rattle.numbering.specs.KingMaps.{swapping};
-ghost use Rattle.pairs.specs.Tables.{pairIn};
 ghost use Rattle.index.specs.Frames.{flipOf, flipped as flippedBy, exchangeOf, exchangesMan, frameOf, numberIn};
 
 // The bits that bring this white king to the files a to d and the ranks 1 to 4.
@@ -64,14 +63,14 @@ fn exchanges_man(exchange: u8, s: u8) -> bool
     (exchange == 2) & (s % 8 < s / 8)
 }
 
-// The pair of the kings, once reversed, by the list.
-fn pair_for(list: &[u16; 640], exchange: u8, white: u8, black: u8) -> u16
-    ensures { λ r. ⌜ r ≡ pairIn (now (list .entry)) (mapped (swapping (eqb exchange 1)) white) (mapped (swapping (eqb exchange 1)) black) ⌝ }
+// A king's square, once reversed, with file and rank exchanged or not.
+fn exchanged(exchange: u8, s: u8) -> u8
+    ensures { λ r. ⌜ r ≡ mapped (swapping (eqb exchange 1)) s ⌝ }
 {
     if exchange == 1 {
-        return pair_in(list, transposed(white), transposed(black));
+        return transposed(s);
     }
-    pair_in(list, white, black)
+    s
 }
 
 // The frame of two kings and a side to move, by a lent list of pairs.
@@ -82,7 +81,7 @@ pub fn frame_of(list: &[u16; 640], side: u8, white: u8, black: u8) -> Frame
     let w = flipped(flip, white);
     let b = flipped(flip, black);
     let exchange = exchange_of(w, b);
-    let pair = pair_for(list, exchange, w, b);
+    let pair = pair_in(list, exchanged(exchange, w), exchanged(exchange, b));
     Frame {
         base: (side as u32 * 462 + pair as u32) * 64,
         flip: flip,

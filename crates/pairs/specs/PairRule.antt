@@ -15,26 +15,24 @@ use Rattle.finite.specs.Ranked.{rank, select, pass, passed, rank-rises, rank-on
 use Rattle.board.specs.Square.{stays, shift}
 use Rattle.board.specs.Reach.{line, reaches}
 use Rattle.numbering.specs.Kings.{cornered, separate, kingRule, kingPair, pairOf}
-use Rattle.pairs.specs.Tables.{whites, firsts, slots, pairs}
+use Rattle.pairs.specs.Tables.{whites, firsts, slotOf, pairs}
 use Rattle.pairs.specs.TableLaws.{entry-pair}
 
 -- ---- equal to the definition
 
 slot-back : ℕ → Bool
-slot-back j = ltb (getD whites j 0) 28 && eqb (getD slots (getD whites j 0) 0) j
+slot-back j = eqb (slotOf (getD whites j 0)) j
 
 all-back : T (allBelow slot-back 10)
-unfolding allBelow slot-back slots
+unfolding allBelow slot-back slotOf
 all-back = tt
 
 pub entry-is : (slot black : ℕ) → slot < 10 → black < 64 → getD pairs (slot * 64 + black) 0 ≡ pairOf (getD whites slot 0) black
 unfolding slot-back
 entry-is slot black h k =
     let w = getD whites slot 0 in
-    let t = below slot-back 10 all-back slot h in
-    let e = eqb→eq (getD slots w 0) slot (and-right (ltb w 28) (eqb (getD slots w 0) slot) t) in
-    subst (λ (i : ℕ). getD pairs (i * 64 + black) 0 ≡ pairOf w black) e
-    (entry-pair w black (ltb→lt w 28 (and-left (ltb w 28) (eqb (getD slots w 0) slot) t)) k (omega arith))
+    let e = eqb→eq (slotOf w) slot (below slot-back 10 all-back slot h) in
+    subst (λ (i : ℕ). getD pairs (i * 64 + black) 0 ≡ pairOf w black) e (entry-pair w black k (omega arith))
 
 -- the first pair of each of the ten squares
 first-right : ℕ → Bool

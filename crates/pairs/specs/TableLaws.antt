@@ -5,9 +5,9 @@ use mathlib.Core.List.{List}
 use mathlib.Core.Bool.{Bool, true, false, not, cond, _&&_}
 use Prim.Native.Nat.{ℕ, zero, suc, _+_, _-_, _*_, _/_, _%_, _<_, _≤_}
 use native.Mathlib.Omega.{arith}
-use lib.Dec.{T, eqb, eqb→eq, ltb, ltb→lt, nltb→le, leb}
+use lib.Dec.{T, eqb, eqb→eq, ltb, ltb→lt, nltb→le, leb, leb→le}
 use lib.ListN.{getD}
-use borrow.Author.Tests.{le-leb, lt-leb}
+use borrow.Author.Tests.{le-leb, lt-leb, le-ltb, lt-ltb}
 use Rattle.finite.specs.Truth.{and-left, and-right, implies, implied, by-test, cond-true, cond-false, le-or-lt}
 use Rattle.finite.specs.Members.{any}
 use Rattle.finite.specs.Numbers.{numbers}
@@ -18,21 +18,58 @@ use Rattle.board.specs.Reach.{line, reaches}
 use Rattle.numbering.specs.Kings.{above, inTriangle, cornered, separate, kingRule, kingPair, pairOf, kingsOf}
 use Rattle.numbering.specs.PairLaws.{pair-count}
 use Rattle.numbering.specs.Numberable.{separate-black, ruled-separate, ruled-triangle}
-use Rattle.pairs.specs.Tables.{whites, firsts, slots, rowFrom, rowOf, blacks, pairs, pairIn}
+use Rattle.pairs.specs.Tables.{whites, firsts, slotOf, rowFrom, rowOf, blacks, pairs, pairIn}
 
 -- ---- the ten white squares
 
 slot-right : ℕ → Bool
-slot-right s = cond (inTriangle s) (ltb (getD slots s 0) 10 && eqb (getD whites (getD slots s 0) 0) s) (eqb (getD slots s 0) 10)
+slot-right s = implies (inTriangle s) (ltb (slotOf s) 10)
 
 all-slots : T (allBelow slot-right 28)
-unfolding allBelow slot-right slots
+unfolding allBelow slot-right slotOf
 all-slots = tt
+
+in-triangle : (white : ℕ) → T (inTriangle white) → white < 28
+in-triangle white t = omega (arith, ltb→lt (white % 8) 4 (and-left (ltb (white % 8) 4) (not (above white)) t), nltb→le (white % 8) (white / 8) (and-right (ltb (white % 8) 4) (not (above white)) t))
+
+-- a square has a place exactly in the triangle
+slot-in : (white : ℕ) → T (inTriangle white) → slotOf white < 10
+unfolding slot-right
+slot-in white t = ltb→lt (slotOf white) 10 (implied (inTriangle white) (ltb (slotOf white) 10) (below slot-right 28 all-slots white (in-triangle white t)) t)
+
+inside : (white : ℕ) → slotOf white < 10 → T (inTriangle white)
+unfolding slotOf
+inside white h = by-test (inTriangle white) (λ t. t) (λ f. let e = cond-false (inTriangle white) (white % 8 + white / 8 * (7 - white / 8) / 2) 10 f in absurd (omega arith))
+
+-- as the code finds it
+pub slot-past : (white : ℕ) → 3 < white % 8 → 10 ≡ slotOf white
+unfolding slotOf
+slot-past white h = sym (rw (le-ltb (white % 8) 4 (omega arith)))
+
+pub slot-above : (white : ℕ) → white % 8 ≤ 3 → white % 8 < white / 8 → 10 ≡ slotOf white
+unfolding slotOf
+slot-above white h k = sym (rw (lt-ltb (white % 8) 4 (omega arith), lt-ltb (white % 8) (white / 8) k))
+
+pub slot-place : (white : ℕ) → white % 8 ≤ 3 → white / 8 ≤ white % 8 → white % 8 + white / 8 * (7 - white / 8) / 2 ≡ slotOf white
+unfolding slotOf
+slot-place white h k = sym (rw (lt-ltb (white % 8) 4 (omega arith), le-ltb (white % 8) (white / 8) k))
+
+-- the sum fits a byte
+small : ℕ → Bool
+small rank = leb (rank * (7 - rank)) 12
+
+all-small : T (allBelow small 4)
+unfolding allBelow small
+all-small = tt
+
+pub place-small : (rank : ℕ) → rank < 4 → rank * (7 - rank) ≤ 12
+unfolding small
+place-small rank h = leb→le (rank * (7 - rank)) 12 (below small 4 all-small rank h)
 
 -- ---- both lists of pairs, in one pass over the squares of both kings, with the number of pairs so far carried along
 
 abbrev entry : ℕ → ℕ → ℕ
-entry white black = getD pairs (getD slots white 0 * 64 + black) 0
+entry white black = getD pairs (slotOf white * 64 + black) 0
 
 abbrev kingsAt : ℕ → ℕ
 kingsAt pair = getD whites (rowOf pair) 0 * 64 + getD blacks pair 0
@@ -41,7 +78,7 @@ right : ℕ → ℕ → Bool
 right k c = implies (inTriangle (k / 64)) (eqb (entry (k / 64) (k % 64)) (cond (kingPair k) c 65535)) && implies (kingPair k) (eqb (kingsAt c) k)
 
 all-right : T (pass kingPair right 4096 0 0)
-unfolding pass right pairs slots blacks rowFrom kingPair kingRule cornered separate reaches any numbers line shift stays
+unfolding pass right pairs slotOf blacks rowFrom kingPair kingRule cornered separate reaches any numbers line shift stays
 all-right = tt
 
 right-at : (k : ℕ) → k < 4096 → T (right k (rank kingPair k))
@@ -53,75 +90,50 @@ pub no-pair : (white black : ℕ) → (T (kingRule white black) → ⊥) → 655
 unfolding pairOf
 no-pair white black f = sym (cond-false (kingRule white black) (rank kingPair (white * 64 + black)) 65535 f)
 
--- a white square past d4, a black one off the board, and a white one outside the triangle have none
-pub past-d4 : (white black : ℕ) → 28 ≤ white → T (kingRule white black) → ⊥
-past-d4 white black h t =
-    let w = ruled-triangle white black t in
-    omega (arith, ltb→lt (white % 8) 4 (and-left (ltb (white % 8) 4) (not (above white)) w), nltb→le (white % 8) (white / 8) (and-right (ltb (white % 8) 4) (not (above white)) w))
-
-pub off-board : (white black : ℕ) → 64 ≤ black → T (kingRule white black) → ⊥
+-- a black square off the board and a white one outside the triangle have none
+off-board : (white black : ℕ) → 64 ≤ black → T (kingRule white black) → ⊥
 off-board white black h t = omega (arith, separate-black white black (ruled-separate white black t))
 
-slot-cases : (white : ℕ) → white < 28 → T (slot-right white)
-slot-cases white h = below slot-right 28 all-slots white h
-
-pub outside : (white black : ℕ) → white < 28 → 10 ≤ getD slots white 0 → T (kingRule white black) → ⊥
-unfolding slot-right
-outside white black h k t =
-    let i = inTriangle white in
-    let l = ltb (getD slots white 0) 10 in
-    let s = subst T (cond-true i (l && eqb (getD whites (getD slots white 0) 0) white) (eqb (getD slots white 0) 10) (ruled-triangle white black t)) (slot-cases white h) in
-    omega (arith, ltb→lt (getD slots white 0) 10 (and-left l (eqb (getD whites (getD slots white 0) 0) white) s))
-
-inside : (white : ℕ) → white < 28 → getD slots white 0 < 10 → T (inTriangle white)
-unfolding slot-right
-inside white h k =
-    let i = inTriangle white in
-    by-test i (λ t. t)
-    (λ f. let e = eqb→eq (getD slots white 0) 10 (subst T (cond-false i (ltb (getD slots white 0) 10 && eqb (getD whites (getD slots white 0) 0) white) (eqb (getD slots white 0) 10) f) (slot-cases white h)) in absurd (omega arith))
+outside : (white black : ℕ) → 10 ≤ slotOf white → T (kingRule white black) → ⊥
+outside white black h t = let s = slot-in white (ruled-triangle white black t) in omega arith
 
 -- the entry of any other two squares is their pair, or says that there is none
-pub entry-pair : (white black : ℕ) → white < 28 → black < 64 → getD slots white 0 < 10 → entry white black ≡ pairOf white black
+pub entry-pair : (white black : ℕ) → black < 64 → slotOf white < 10 → entry white black ≡ pairOf white black
 unfolding right pairOf kingPair
-entry-pair white black h k l =
+entry-pair white black k l =
+    let h = in-triangle white (inside white l) in
     let n : ℕ = white * 64 + black in
     let q : n / 64 ≡ white = omega arith in
     let r : n % 64 ≡ black = omega arith in
     let t = rw (q, r) at (right-at n (omega arith)) in
     let e = eqb (entry white black) (cond (kingRule white black) (rank kingPair n) 65535) in
     eqb→eq (entry white black) (cond (kingRule white black) (rank kingPair n) 65535)
-    (implied (inTriangle white) e (and-left (implies (inTriangle white) e) (implies (kingRule white black) (eqb (kingsAt (rank kingPair n)) n)) t) (inside white h l))
+    (implied (inTriangle white) e (and-left (implies (inTriangle white) e) (implies (kingRule white black) (eqb (kingsAt (rank kingPair n)) n)) t) (inside white l))
 
 -- ---- by a lent list
 
 module _ (list : List ℕ) (white black : ℕ) where
-  pub in-past : 28 ≤ white → 65535 ≡ pairIn list white black
+  pub in-outside : 10 ≤ slotOf white → 65535 ≡ pairIn list white black
   unfolding pairIn
-  in-past h = sym (rw (le-leb 28 white h))
+  in-outside l = sym (rw (le-leb 10 (slotOf white) l))
 
-  pub in-off : white < 28 → 64 ≤ black → 65535 ≡ pairIn list white black
+  pub in-off : slotOf white < 10 → 64 ≤ black → 65535 ≡ pairIn list white black
   unfolding pairIn
-  in-off h k = sym (rw (lt-leb 28 white h, le-leb 64 black k))
+  in-off l k = sym (rw (lt-leb 10 (slotOf white) l, le-leb 64 black k))
 
-  pub in-outside : white < 28 → black < 64 → 10 ≤ getD slots white 0 → 65535 ≡ pairIn list white black
+  pub in-entry : slotOf white < 10 → black < 64 → getD list (slotOf white * 64 + black) 0 ≡ pairIn list white black
   unfolding pairIn
-  in-outside h k l = sym (rw (lt-leb 28 white h, lt-leb 64 black k, le-leb 10 (getD slots white 0) l))
-
-  pub in-entry : white < 28 → black < 64 → getD slots white 0 < 10 → getD list (getD slots white 0 * 64 + black) 0 ≡ pairIn list white black
-  unfolding pairIn
-  in-entry h k l = sym (rw (lt-leb 28 white h, lt-leb 64 black k, lt-leb 10 (getD slots white 0) l))
+  in-entry l k = sym (rw (lt-leb 10 (slotOf white) l, lt-leb 64 black k))
 
 -- the constant list, lent, gives the pair
 pub lent-pair : (list : List ℕ) (white black : ℕ) → list ≡ pairs → pairIn list white black ≡ pairOf white black
 lent-pair list white black e =
     ap (λ (l : List ℕ). pairIn l white black) e
-    ∙ ⊎-elim (λ h. sym (in-past pairs white black h) ∙ no-pair white black (past-d4 white black h))
-    (λ h. ⊎-elim (λ k. sym (in-off pairs white black h k) ∙ no-pair white black (off-board white black k))
-    (λ k. ⊎-elim (λ l. sym (in-outside pairs white black h k l) ∙ no-pair white black (outside white black h l))
-    (λ l. sym (in-entry pairs white black h k l) ∙ entry-pair white black h k l)
-    (le-or-lt 10 (getD slots white 0)))
+    ∙ ⊎-elim (λ l. sym (in-outside pairs white black l) ∙ no-pair white black (outside white black l))
+    (λ l. ⊎-elim (λ k. sym (in-off pairs white black l k) ∙ no-pair white black (off-board white black k))
+    (λ k. sym (in-entry pairs white black l k) ∙ entry-pair white black k l)
     (le-or-lt 64 black))
-    (le-or-lt 28 white)
+    (le-or-lt 10 (slotOf white))
 
 -- ---- from pair to squares
 

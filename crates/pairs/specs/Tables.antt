@@ -2,9 +2,10 @@
 -- black squares, or says that there is none"). Definitions only. Assumes nothing.
 use mathlib.Core.Bool.{cond}
 use mathlib.Core.List.{List, [], _∷_}
-use Prim.Native.Nat.{ℕ, zero, suc, _+_, _*_}
+use Prim.Native.Nat.{ℕ, zero, suc, _+_, _-_, _*_, _/_, _%_}
 use lib.Dec.{leb}
 use lib.ListN.{getD}
+use Rattle.numbering.specs.Kings.{inTriangle}
 
 -- the ten white squares, a1 to d4, and the first pair with each (01's table)
 abbrev pub whites : List ℕ
@@ -13,12 +14,9 @@ whites = 0 ∷ 1 ∷ 2 ∷ 3 ∷ 9 ∷ 10 ∷ 11 ∷ 18 ∷ 19 ∷ 27 ∷ []
 abbrev pub firsts : List ℕ
 firsts = 0 ∷ 33 ∷ 91 ∷ 149 ∷ 207 ∷ 237 ∷ 292 ∷ 347 ∷ 377 ∷ 432 ∷ []
 
--- the place of each white square among the ten, up to d4; 10 outside the triangle
-unfoldable pub slots : List ℕ
-slots =
-    0 ∷ 1 ∷ 2 ∷ 3 ∷ 10 ∷ 10 ∷ 10 ∷ 10 ∷ 10 ∷ 4 ∷ 5 ∷ 6 ∷ 10 ∷ 10
-    ∷ 10 ∷ 10 ∷ 10 ∷ 10 ∷ 7 ∷ 8 ∷ 10 ∷ 10 ∷ 10 ∷ 10 ∷ 10 ∷ 10 ∷ 10 ∷ 9
-    ∷ []
+-- the place of a white square among the ten, counted along the ranks of the triangle; 10 outside it
+unfoldable pub slotOf : ℕ → ℕ
+slotOf white = cond (inTriangle white) (white % 8 + white / 8 * (7 - white / 8) / 2) 10
 
 -- the row of a pair: the last whose first pair is not above it
 unfoldable pub rowFrom : ℕ → ℕ → ℕ → ℕ
@@ -110,6 +108,5 @@ pairs =
 -- the pair of two squares by such a list; 65535 where they are not a white square of the triangle and a square of the board
 unfoldable pub pairIn : List ℕ → ℕ → ℕ → ℕ
 pairIn list white black =
-    cond (leb 28 white) 65535
-    (cond (leb 64 black) 65535
-    (cond (leb 10 (getD slots white 0)) 65535 (getD list (getD slots white 0 * 64 + black) 0)))
+    cond (leb 10 (slotOf white)) 65535
+    (cond (leb 64 black) 65535 (getD list (slotOf white * 64 + black) 0))

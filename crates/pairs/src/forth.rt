@@ -1,39 +1,7 @@
 // The pair of two kings' squares, by a constant list.
 ghost use mathlib.Core.Path.{_≡_};
 ghost use Rattle.numbering.specs.Kings.{pairOf};
-ghost use Rattle.pairs.specs.Tables.{pairs, pairIn};
-
-// The place of a white king's square, from a1 to d4, among the ten of the triangle a1-d1-d4; 10 for one outside it.
-const SLOTS: [u8; 28] = [
-    0,
-    1,
-    2,
-    3,
-    10,
-    10,
-    10,
-    10,
-    10,
-    4,
-    5,
-    6,
-    10,
-    10,
-    10,
-    10,
-    10,
-    10,
-    7,
-    8,
-    10,
-    10,
-    10,
-    10,
-    10,
-    10,
-    10,
-    9,
-];
+ghost use Rattle.pairs.specs.Tables.{slotOf, pairs, pairIn};
 
 // The pair for each of the ten white squares and 64 black squares; 65535: there is none.
 const PAIRS: [u16; 640] = [
@@ -686,18 +654,30 @@ pub fn pair_list() -> [u16; 640]
     PAIRS
 }
 
+// The place of a white king's square among the ten of the triangle a1-d1-d4; 10 outside it.
+fn slot_of(white: u8) -> u8
+    ensures { λ r. ⌜ r ≡ slotOf white ⌝ }
+{
+    let file = white % 8;
+    let rank = white / 8;
+    if 3 < file {
+        return 10;
+    }
+    if file < rank {
+        return 10;
+    }
+    file + rank * (7 - rank) / 2
+}
+
 // The pair of any two bytes by a lent list; 65535 where they are no two squares that the list speaks of.
 pub fn pair_in(list: &[u16; 640], white: u8, black: u8) -> u16
     ensures { λ r. ⌜ r ≡ pairIn (now (list .entry)) white black ⌝ }
 {
-    if 28 <= white {
+    let slot = slot_of(white);
+    if 10 <= slot {
         return 65535;
     }
     if 64 <= black {
-        return 65535;
-    }
-    let slot = SLOTS[white as usize];
-    if 10 <= slot {
         return 65535;
     }
     list[slot as usize * 64 + black as usize]

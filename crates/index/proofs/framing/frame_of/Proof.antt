@@ -16,25 +16,32 @@ flipped-requires-2 c κs = search needs
 exchange-of-requires : tie.Need-exchange-of-requires
 exchange-of-requires c κs = search needs
 
-pair-for-requires : tie.Need-pair-for-requires
-pair-for-requires c κs = search needs
+exchanged-requires : tie.Need-exchanged-requires
+exchanged-requires c κs = search needs
 
-mul-t11 : tie.Need-mul-t11
-mul-t11 c = search needs
+exchanged-requires-2 : tie.Need-exchanged-requires-2
+exchanged-requires-2 c κs = search needs
 
-cast-t12 : tie.Need-cast-t12
-cast-t12 c = search needs
+pair-in-requires : tie.Need-pair-in-requires
+pair-in-requires c κs = search needs
 
-add-t13 : tie.Need-add-t13
-add-t13 c = search needs
+mul-t13 : tie.Need-mul-t13
+mul-t13 c = search needs
 
-mul-t14 : tie.Need-mul-t14
-mul-t14 c = search needs
+cast-t14 : tie.Need-cast-t14
+cast-t14 c = search needs
+
+add-t15 : tie.Need-add-t15
+add-t15 c = search needs
+
+mul-t16 : tie.Need-mul-t16
+mul-t16 c = search needs
 
 returns : tie.Need-returns
 unfolding frameOf
 returns c =
-    rw (c .pair-for .ensures, c .before .exchange-of .ensures, c .before .before .flipped2 .ensures, c .before .before .before .flipped .ensures, c .before .before .before .before .flip-of .ensures)
+    let x = c .before .before .before in
+    rw (c .pair-in .ensures, c .before .exchanged2 .ensures, c .before .before .exchanged .ensures, x .exchange-of .ensures, x .before .flipped2 .ensures, x .before .before .flipped .ensures, x .before .before .before .flip-of .ensures)
 
 pub frame-of-spec : {M : Type 1} → statement M
 frame-of-spec =
@@ -44,9 +51,11 @@ frame-of-spec =
     flipped-requires
     flipped-requires-2
     exchange-of-requires
-    pair-for-requires
-    mul-t11
-    cast-t12
-    add-t13
-    mul-t14
+    exchanged-requires
+    exchanged-requires-2
+    pair-in-requires
+    mul-t13
+    cast-t14
+    add-t15
+    mul-t16
     returns)
