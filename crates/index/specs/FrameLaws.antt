@@ -1,19 +1,19 @@
 -- A frame gives the number: the reversals turn bits over, and the exchange that the man calls for leaves kings on the diagonal where they are.
 -- Assumes nothing.
-use mathlib.Core.Path.{_≡_, refl, ap, ap₂, sym, _∙_}
+use mathlib.Core.Path.{_≡_, refl, ap, sym, _∙_}
 use mathlib.Core.Logic.{⊎-elim}
 use mathlib.Core.Bool.{Bool, true, false, cond, _&&_, _||_}
 use mathlib.Core.List.{List}
-use Prim.Native.Nat.{ℕ, _+_, _*_, _/_, _%_, _<_}
+use Prim.Native.Nat.{ℕ, _+_, _*_, _/_, _%_}
 use lib.Bits.{bitXor}
 use lib.Dec.{T, ltb, eqb, eqb→eq}
 use borrow.Author.Tests.{lt-ltb, le-ltb}
-use Rattle.finite.specs.Truth.{le-or-lt, of-true}
+use Rattle.finite.specs.Truth.{le-or-lt}
 use Rattle.finite.specs.Below.{allBelow, below}
 use Rattle.symmetry.specs.Symmetry.{Symmetry, mapped}
 use Rattle.symmetry.specs.SymmetryLaws.{mapped-off}
 use Rattle.rules.specs.Rules.{Board}
-use Rattle.numbering.specs.Kings.{above, onDiagonal, pairOf}
+use Rattle.numbering.specs.Kings.{above, onDiagonal}
 use Rattle.numbering.specs.Normal.{firstAbove, turn, swapsKings, normalMap, normalised}
 use Rattle.numbering.specs.KingMaps.{swapping}
 use Rattle.numbering.specs.NormalLaws.{stays-diagonal}

@@ -1,5 +1,5 @@
 -- Look-up's answer by the tests that lead to it. Assumes nothing.
-use mathlib.Core.Path.{_≡_, refl, sym, ap, _∙_}
+use mathlib.Core.Path.{_≡_, sym, ap, _∙_}
 use mathlib.Core.List.{List}
 use Prim.Native.Nat.{ℕ}
 use lib.ListN.{length}
@@ -12,7 +12,7 @@ use Rattle.position.specs.declared.Position.{Position}
 use Rattle.position.specs.Keyed.{boardOf, standing}
 use Rattle.pairs.specs.Tables.{pairs}
 use Rattle.endings.specs.Chess.{tableSize, byteOf}
-use Rattle.endings.specs.Answers.{adviceOf, answerOf, lookUpOf}
+use Rattle.endings.specs.Answers.{answerOf, lookUpOf}
 use Rattle.successors.specs.declared.Verdict.{Verdict}
 use Rattle.successors.specs.Successors.{byteBy, suitedFrom, verdictOf}
 use Rattle.successors.specs.ByteLaws.{lent-byte}

@@ -1,13 +1,13 @@
 -- The rule of the 640-entry list, over the whole of it: each entry is the pair of its two squares or says that there is none; the pairs rise, are
 -- below 462, and each stands once. Assumes nothing.
 use mathlib.Core.Path.{_≡_, refl, ap, subst, sym, _∙_}
-use mathlib.Core.Bool.{Bool, not, _&&_}
+use mathlib.Core.Bool.{Bool, not}
 use Prim.Native.Nat.{ℕ, _+_, _*_, _<_}
 use native.Mathlib.Omega.{arith}
-use lib.Dec.{T, eqb, eqb→eq, ltb, ltb→lt}
+use lib.Dec.{T, eqb, eqb→eq}
 use lib.ListN.{getD}
 use borrow.Author.Tests.{ne-eqb}
-use Rattle.finite.specs.Truth.{and-left, and-right, implies, implied, of-true}
+use Rattle.finite.specs.Truth.{implies, implied, of-true}
 use Rattle.finite.specs.Members.{any}
 use Rattle.finite.specs.Numbers.{numbers}
 use Rattle.finite.specs.Below.{allBelow, below}

@@ -1,5 +1,5 @@
 -- The rule of the constant lists, shown once over each whole list: one pass over all pairs of squares, which antt computes. Assumes nothing.
-use mathlib.Core.Path.{_≡_, ap, subst, sym, _∙_}
+use mathlib.Core.Path.{_≡_, ap, sym, _∙_}
 use mathlib.Core.Logic.{⊎-elim}
 use mathlib.Core.List.{List}
 use mathlib.Core.Bool.{Bool, true, false, not, cond, _&&_}
@@ -8,7 +8,7 @@ use native.Mathlib.Omega.{arith}
 use lib.Dec.{T, eqb, eqb→eq, ltb, ltb→lt, nltb→le, leb, leb→le}
 use lib.ListN.{getD}
 use borrow.Author.Tests.{le-leb, lt-leb, le-ltb, lt-ltb}
-use Rattle.finite.specs.Truth.{and-left, and-right, implies, implied, by-test, cond-true, cond-false, le-or-lt}
+use Rattle.finite.specs.Truth.{and-left, and-right, implies, implied, by-test, cond-false, le-or-lt}
 use Rattle.finite.specs.Members.{any}
 use Rattle.finite.specs.Numbers.{numbers}
 use Rattle.finite.specs.Below.{allBelow, below}

@@ -8,7 +8,7 @@ use lib.ListN.{length, getD, List·getD-eq-default}
 use borrow.Author.Tests.{eq-eqb, ne-eqb}
 use Rattle.finite.specs.Truth.{refuted}
 use Rattle.finite.specs.Filter.{filter}
-use Rattle.rules.specs.Rules.{Board, empty, carried, moved}
+use Rattle.rules.specs.Rules.{empty, carried, moved}
 use Rattle.position.specs.declared.Position.{Position}
 use Rattle.position.specs.Keyed.{boardOf}
 use Rattle.pairs.specs.Tables.{pairs}

@@ -1,5 +1,4 @@
 -- The byte of a board by a lent list of pairs, and a byte held against those of a board's successors. Definitions only. Assumes nothing.
-use mathlib.Core.Path.{_≡_}
 use mathlib.Core.Bool.{Bool, cond, _&&_, _||_}
 use mathlib.Core.List.{List}
 use mathlib.Core.Option.{Option, none, some}

@@ -1,20 +1,17 @@
 -- From the judgement of a byte to the verdict on it, and whether a depth is required. Assumes nothing.
-use mathlib.Core.Path.{_≡_, refl, sym, ap, subst, _∙_}
+use mathlib.Core.Path.{_≡_, refl, sym, ap, _∙_}
 use mathlib.Core.Bool.{Bool, true, false, cond, _&&_}
-use mathlib.Core.Logic.{_⊎_, inl, inr}
 use mathlib.Core.List.{List, [], _∷_, map}
 use mathlib.Core.Option.{Option, none, some}
-use Prim.Native.Nat.{ℕ, _+_, _≤_, _<_, max}
+use Prim.Native.Nat.{ℕ, _+_, _≤_}
 use native.Mathlib.Omega.{arith}
-use lib.Dec.{T, eqb, eqb→eq, eqb-refl}
+use lib.Dec.{eqb, eqb→eq}
 use lib.ListN.{length}
 use borrow.Author.Tests.{eq-eqb, ne-eqb}
-use Rattle.finite.specs.Truth.{of-true, true-of, fails, refuted, true-not-false}
-use Rattle.finite.specs.Members.{first, any}
+use Rattle.finite.specs.Truth.{of-true, fails, refuted, true-not-false}
 use Rattle.theory.specs.Required.{Rule, best, required, requiredAt}
 use Rattle.theory.specs.RuleLaws.{required-rule}
 use Rattle.theory.specs.Step.{required-moves}
-use Rattle.theory.specs.Play.{suits}
 use Rattle.theory.specs.Judge.{judge, judge-accepts, judge-refuses, judge-nothing, judge-nothing-over}
 use Rattle.rules.specs.declared.Move.{Move}
 use Rattle.rules.specs.Rules.{Board, empty, inCheck, moves, mated}

@@ -138,10 +138,6 @@ rule-pos (loses b m f e) = omega arith
 rule-pos (draws b m d f e) = omega arith
 rule-pos (stalemate z e) = omega arith
 
--- with a move there is a byte
-pub best-pos : (b : ℕ) (bs : List ℕ) → 1 ≤ best 0 (b ∷ bs)
-best-pos b bs = rule-pos (best-rule b bs)
-
 -- The byte required is what 01's rule says.
 pub required-rule : (mate : Bool) (bs : List ℕ) → Rule bs (required mate bs) mate
 unfolding required

@@ -1,14 +1,13 @@
--- Whether the rule requires one depth, as a loop that may stop early decides it: no successor's byte spoils it, and one meets it.
+-- Whether the rule requires one depth: no successor's byte spoils it, and one meets it. A loop may stop at the first that spoils it.
 -- Assumes nothing.
-use mathlib.Core.Path.{_≡_, refl, sym, subst, _∙_}
+use mathlib.Core.Path.{_≡_, sym, subst}
 use mathlib.Core.Logic.{_⊎_, inl, inr, _↔_}
-use mathlib.Core.Bool.{Bool, true, false, not, _&&_, _||_, cond}
-use mathlib.Core.List.{List, [], _∷_, _++_}
+use mathlib.Core.Bool.{Bool, false, not, _&&_, cond}
+use mathlib.Core.List.{List}
 use Prim.Native.Nat.{ℕ, _+_, _%_, _≤_, _<_}
 use native.Mathlib.Omega.{arith}
 use lib.Dec.{T, T-not, not-T, leb, ltb, eqb, leb→le, le→leb, ltb→lt, lt→ltb, eqb→eq, eqb-refl}
-use borrow.Author.Tests.{ne-eqb}
-use Rattle.finite.specs.Truth.{decided, and-left, and-right, and-both, true-of, fails}
+use Rattle.finite.specs.Truth.{decided, and-left, and-right, and-both}
 use Rattle.finite.specs.Members.{_∈_, any, any-in, any-out}
 use Rattle.theory.specs.Required.{Win, Loss, Rule, winning, required}
 use Rattle.theory.specs.Better.{winning-is}
@@ -81,53 +80,3 @@ module _ (k : ℕ) (h : 1 ≤ k) (bs : List ℕ) where
   -- Depth k, not 0, is required exactly so.
   pub verdict : T (requires k bs) ↔ (required false bs ≡ 2 + k)
   verdict = (λ t. rule-one (required-rule false bs) (to-rule t (decided (eqb (k % 2) 0))), λ e. of-rule (rw e at (required-rule false bs)))
-
--- ---- the loop: 0 spoiled, 1 not met yet, 2 met
-
-unfoldable pub scan : ℕ → ℕ → List ℕ → ℕ
-scan k state [] = state
-scan k state (c ∷ bs) = cond (spoils k c) 0 (scan k (cond (eqb (1 + k) c) 2 state) bs)
-
--- the state at the end, from the state at the start
-abbrev outcome : Bool → Bool → ℕ
-outcome spoilt seen = cond spoilt 0 (cond seen 2 1)
-
-scan-met : (k : ℕ) (bs : List ℕ) → scan k 2 bs ≡ outcome (any (spoils k) bs) true
-unfolding scan any
-scan-met k [] = refl
-scan-met k (c ∷ bs) = go (spoils k c) (eqb (1 + k) c) (scan-met k bs)
-  where
-    go : (a b : Bool) → scan k 2 bs ≡ outcome (any (spoils k) bs) true → cond a 0 (scan k (cond b 2 2) bs) ≡ outcome (a || any (spoils k) bs) true
-    go true b e = refl
-    go false true e = e
-    go false false e = e
-
-scan-is : (k : ℕ) (bs : List ℕ) → scan k 1 bs ≡ outcome (any (spoils k) bs) (any (eqb (1 + k)) bs)
-unfolding scan any
-scan-is k [] = refl
-scan-is k (c ∷ bs) = go (spoils k c) (eqb (1 + k) c) (scan-is k bs) (scan-met k bs)
-  where
-    go : (a b : Bool) → scan k 1 bs ≡ outcome (any (spoils k) bs) (any (eqb (1 + k)) bs) → scan k 2 bs ≡ outcome (any (spoils k) bs) true → cond a 0 (scan k (cond b 2 1) bs) ≡ outcome (a || any (spoils k) bs) (b || any (eqb (1 + k)) bs)
-    go true b e f = refl
-    go false true e f = f
-    go false false e f = e
-
-pub scan-verdict : (k : ℕ) (bs : List ℕ) → eqb (scan k 1 bs) 2 ≡ requires k bs
-unfolding requires
-scan-verdict k bs = rw (scan-is k bs) (go (any (spoils k) bs) (any (eqb (1 + k)) bs))
-  where
-    go : (a b : Bool) → eqb (outcome a b) 2 ≡ (not a && b)
-    go true b = refl
-    go false true = refl
-    go false false = refl
-
--- a part of the list at a time
-pub scan-append : (k state : ℕ) (xs ys : List ℕ) → (state ≡ 0 → ⊥) → scan k state (xs ++ ys) ≡ cond (eqb (scan k state xs) 0) 0 (scan k (scan k state xs) ys)
-unfolding scan
-scan-append k state [] ys h = rw (ne-eqb state 0 h)
-scan-append k state (c ∷ xs) ys h = go (spoils k c) (eqb (1 + k) c) (scan-append k 2 xs ys (λ e. omega arith)) (scan-append k state xs ys h)
-  where
-    go : (a b : Bool) → scan k 2 (xs ++ ys) ≡ cond (eqb (scan k 2 xs) 0) 0 (scan k (scan k 2 xs) ys) → scan k state (xs ++ ys) ≡ cond (eqb (scan k state xs) 0) 0 (scan k (scan k state xs) ys) → cond a 0 (scan k (cond b 2 state) (xs ++ ys)) ≡ cond (eqb (cond a 0 (scan k (cond b 2 state) xs)) 0) 0 (scan k (cond a 0 (scan k (cond b 2 state) xs)) ys)
-    go true b p q = refl
-    go false true p q = p
-    go false false p q = q

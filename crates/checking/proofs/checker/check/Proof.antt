@@ -1,9 +1,6 @@
 -- `checking::check` meets its contract. The loop's invariant: the bytes below n are right. Assumes nothing.
-use mathlib.Core.Path.{_≡_, sym, _∙_}
-use Prim.Native.Nat.{ℕ, _-_, _≤_}
+use Prim.Native.Nat.{_-_, _≤_}
 use native.Mathlib.Omega.{arith}
-use lib.ListN.{length}
-use borrow.Author.Needs.{needs}
 use borrow.Author.Tests.{not-true, not-false}
 use Rattle.checking.specs.Laws.{RightBelow, right-more, check-wrong, check-right, check-man, check-length}
 use Rattle.checking.proofs.checker.check.Statement.{statement}

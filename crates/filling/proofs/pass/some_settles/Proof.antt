@@ -1,10 +1,8 @@
 -- `filling::some_settles` meets its contract. The loop's invariant: no number below n is settled. Assumes nothing.
-use mathlib.Core.Path.{_≡_, refl, sym, ap, _∙_}
-use mathlib.Core.Bool.{true, false}
-use Prim.Native.Nat.{ℕ, _≤_, _-_}
+use mathlib.Core.Path.{_≡_, sym, _∙_}
+use mathlib.Core.Bool.{false}
+use Prim.Native.Nat.{_≤_, _-_}
 use native.Mathlib.Omega.{arith}
-use borrow.Author.Needs.{needs}
-use lib.ListN.{length}
 use Rattle.rules.specs.Chess.{chess}
 use Rattle.endings.specs.Endings.{ending}
 use Rattle.filling.specs.Laws.{someBelow, none-below, none-yet, some-now, none-at-all, size-is}

@@ -1,5 +1,5 @@
 -- `successors::frame_for` meets its contract. Assumes nothing.
-use mathlib.Core.Path.{sym, ap, _∙_}
+use mathlib.Core.Path.{_∙_}
 use borrow.Author.Needs.{needs}
 use Rattle.finite.specs.Truth.{true-not-false}
 use Rattle.successors.proofs.after.frame_for.Statement.{statement}

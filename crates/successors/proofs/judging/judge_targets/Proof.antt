@@ -3,16 +3,13 @@
 use mathlib.Core.Path.{_≡_, refl, sym, ap, _∙_}
 use mathlib.Core.Bool.{not, _&&_}
 use mathlib.Core.List.{map}
-use mathlib.Core.Option.{some}
 use Prim.Native.Nat.{ℕ, _^_, _<_}
 use lib.Dec.{eqb}
 use lib.ListN.{length}
-use Rattle.theory.specs.Judge.{judge}
 use Rattle.board.specs.Sets.{has, members, setOf}
 use Rattle.board.specs.LowestLaws.{Lowest, lowest-of}
 use Rattle.rules.specs.Rules.{moveOf}
 use Rattle.position.specs.Keyed.{boardOf}
-use Rattle.endings.specs.Answers.{adviceOf}
 use Rattle.successors.specs.declared.Judged.{Judged}
 use Rattle.successors.specs.Successors.{byteBy, moveIn, judgedOf, judgedFrom}
 use Rattle.successors.specs.JudgeLaws.{advice-in, move-in, target-refutes, target-turn, target-end}

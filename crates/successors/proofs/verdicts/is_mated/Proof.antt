@@ -1,7 +1,6 @@
 -- `successors::is_mated` meets its contract. Assumes nothing.
 use mathlib.Core.Path.{sym, _∙_}
-use mathlib.Core.Bool.{true, false}
-use borrow.Author.Needs.{needs}
+use mathlib.Core.Bool.{true}
 use borrow.Author.Tests.{not-true, not-false}
 use Rattle.successors.specs.VerdictLaws.{unchecked, keyed-check, keyed-mate}
 use Rattle.successors.proofs.verdicts.is_mated.Statement.{statement}

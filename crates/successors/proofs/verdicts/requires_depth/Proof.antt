@@ -1,8 +1,7 @@
 -- `successors::requires_depth` meets its contract: mate, or the judgement of the byte for that depth. Assumes nothing.
-use mathlib.Core.Path.{_≡_, sym, ap, _∙_}
-use mathlib.Core.Option.{Option, some}
+use mathlib.Core.Path.{sym, ap, _∙_}
+use mathlib.Core.Option.{some}
 use borrow.Author.Needs.{needs}
-use Rattle.rules.specs.declared.Move.{Move}
 use Rattle.answers.specs.declared.Advice.{Advice}
 use Rattle.successors.specs.Successors.{moveIn}
 use Rattle.successors.specs.JudgeLaws.{judged-refuted, judged-found}

@@ -1,6 +1,6 @@
 -- `successors::verdict_on` meets its contract: each return by the judgement that led there. Assumes nothing.
-use mathlib.Core.Path.{_≡_, sym, ap, _∙_}
-use mathlib.Core.Option.{Option, some}
+use mathlib.Core.Path.{sym, ap, _∙_}
+use mathlib.Core.Option.{some}
 use borrow.Author.Needs.{needs}
 use Rattle.answers.specs.declared.Advice.{Advice}
 use Rattle.successors.specs.Successors.{moveIn}
