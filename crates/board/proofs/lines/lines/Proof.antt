@@ -1,14 +1,16 @@
 use mathlib.Core.Path.{_≡_, refl, sym, ap, _∙_}
 use mathlib.Core.Bool.{Bool, _||_}
 use Prim.Native.Nat.{ℕ, _+_, _-_, _<_}
+use native.Mathlib.Omega.{arith}
+use lib.ListN.{getD}
 use borrow.Author.Needs.{needs}
 use Rattle.finite.specs.Members.{any}
 use Rattle.finite.specs.Numbers.{numbers, any-end}
-use Rattle.board.specs.Reach.{stepped, lineOf}
+use Rattle.board.specs.Reach.{lineOf}
 use Rattle.board.specs.Sets.{has}
 use Rattle.board.specs.SetLaws.{bit, has-none}
 use Rattle.board.specs.SweepLaws.{sweep-end, sweep-line}
-use Rattle.board.specs.StepLaws.{ahead, walk-end, walk-on, walk-next, walk-stop}
+use Rattle.board.specs.StepLaws.{steps, step-parts, step-small, next, ahead, walk-end, walk-on, walk-next, walk-stop}
 use Rattle.board.proofs.lines.lines.Statement.{statement}
 use Rattle.board.proofs.lines.lines.Tie as tie
 
@@ -20,18 +22,18 @@ ways occ from end k t = any (lineOf (has occ) 0 from t) (numbers (end - k) k)
 record Lines (occ from first end set k : ℕ) : Type 0 where
   rest : (t : ℕ) → t < 64 → ways occ from end first t ≡ (has set t || ways occ from end k t)
 
--- it holds the first n squares of the line d besides, all of them empty, and at is the bit of the last
-record Walked (occ from first end k d set at n : ℕ) : Type 0 where
+-- it holds the first n squares of the line of step besides, all of them empty, and at is the bit of the last
+record Walked (occ from first end k step set at n : ℕ) : Type 0 where
   square : ℕ
   on : square < 64
   is : at ≡ bit square
-  rest : (t : ℕ) → t < 64 → ways occ from end first t ≡ ((has set t || ahead occ d n square t) || ways occ from end k t)
+  rest : (t : ℕ) → t < 64 → ways occ from end first t ≡ ((has set t || ahead occ step n square t) || ways occ from end k t)
 
 abbrev Inv-loop : tie.InvT-loop
-Inv-loop occ from first end set₀ k d at₀ n₀ set at n = Walked occ from first end k d set at n
+Inv-loop occ from first end set₀ k step ends at₀ n₀ set at n = Walked occ from first end k step set at n
 
 abbrev μ-loop : tie.MeasureT-loop
-μ-loop occ from first end set₀ k d at₀ n₀ set at n = 7 - n
+μ-loop occ from first end set₀ k step ends at₀ n₀ set at n = 7 - n
 
 abbrev Inv-lines : tie.InvT-lines
 Inv-lines occ from first end set₀ k₀ set k = Lines occ from first end set k
@@ -41,6 +43,21 @@ abbrev μ-lines : tie.MeasureT-lines
 
 lines-holds : tie.Need-lines-holds Inv-loop μ-loop Inv-lines μ-lines
 lines-holds c = record { rest = λ t h. rw (has-none t) }
+
+cast-step : tie.Need-cast-step Inv-loop μ-loop Inv-lines μ-lines
+cast-step c = search needs
+
+array-read-step : tie.Need-array-read-step Inv-loop μ-loop Inv-lines μ-lines
+array-read-step c = search needs
+
+cast-ends : tie.Need-cast-ends Inv-loop μ-loop Inv-lines μ-lines
+cast-ends c = search needs
+
+mul-ends : tie.Need-mul-ends Inv-loop μ-loop Inv-lines μ-lines
+mul-ends c = search needs
+
+array-read-ends : tie.Need-array-read-ends Inv-loop μ-loop Inv-lines μ-lines
+array-read-ends c = step-small (c .before .lines .k) (omega arith) .0
 
 add-k : tie.Need-add-k Inv-loop μ-loop Inv-lines μ-lines
 add-k c = search needs
@@ -52,11 +69,12 @@ loop-holds : tie.Need-loop-holds Inv-loop μ-loop Inv-lines μ-lines
 loop-holds c =
     let a = c .before .before .args in
     let o = c .before .lines in
+    let p = step-parts (o .k) (omega arith) in
     record {
       square = a .from;
       on = c .before .before .pre .0;
       is = refl;
-      rest = λ t h. o .inv .rest t h ∙ sweep-line (lineOf (has (a .occ)) 0 (a .from) t) (o .k) (a .end) (c .if1 .left) (has (o .set) t);
+      rest = λ t h. o .inv .rest t h ∙ rw (p .0, p .1) (sweep-line (lineOf (has (a .occ)) 0 (a .from) t) (o .k) (a .end) (c .if1 .left) (has (o .set) t));
     }
 
 lines-less : tie.Need-lines-less Inv-loop μ-loop Inv-lines μ-lines
@@ -70,11 +88,11 @@ lines-again c =
     record {
       rest = λ t h.
           l .inv .rest t h
-          ∙ ap (λ b. b || ways (a .occ) (a .from) (a .end) (k + 1) t) (walk-end (a .occ) k (l .n) (l .inv .square) (l .set) t (c .loop-test .left));
+          ∙ ap (λ b. b || ways (a .occ) (a .from) (a .end) (k + 1) t) (walk-end (a .occ) (getD steps k 0) (l .n) (l .inv .square) (l .set) t (c .loop-test .left));
     }
 
-step-requires : tie.Need-step-requires Inv-loop μ-loop Inv-lines μ-lines
-step-requires c κs = search needs
+stepped-requires : tie.Need-stepped-requires Inv-loop μ-loop Inv-lines μ-lines
+stepped-requires c κs = let w = step-small (c .before .before .before .lines .k) (omega arith) in (w .0, w .1, refl)
 
 lines-less-2 : tie.Need-lines-less-2 Inv-loop μ-loop Inv-lines μ-lines
 lines-less-2 c = search needs
@@ -86,12 +104,12 @@ lines-again-2 c =
     let k = w .before .before .lines .k in
     let l = w .loop in
     let fits = w .before .before .before .fits .occ .fits in
-    let next = c .before .step .ensures (l .inv .square) (l .inv .on) (l .inv .is) in
+    let lands = c .before .stepped .ensures (l .inv .square) (l .inv .on) (l .inv .is) in
     record {
       rest = λ t h.
           l .inv .rest t h
           ∙ ap (λ b. b || ways (a .occ) (a .from) (a .end) (k + 1) t)
-          (walk-stop (a .occ) k (l .inv .square) _ fits next (l .n) (l .set) t (c .before .before .loop-test .taken) h (c .if2 .taken));
+          (walk-stop (a .occ) (getD steps k 0) (l .inv .square) _ fits lands (l .n) (l .set) t (c .before .before .loop-test .taken) h (c .if2 .taken));
     }
 
 add-n : tie.Need-add-n Inv-loop μ-loop Inv-lines μ-lines
@@ -107,15 +125,15 @@ loop-again c =
     let k = w .before .before .lines .k in
     let l = w .loop in
     let fits = w .before .before .before .fits .occ .fits in
-    let next = c .before .step .ensures (l .inv .square) (l .inv .on) (l .inv .is) in
+    let lands = c .before .stepped .ensures (l .inv .square) (l .inv .on) (l .inv .is) in
     record {
-      square = stepped (l .inv .square) k;
-      on = walk-on (a .occ) k (l .inv .square) _ fits next (c .if2 .left);
-      is = next;
+      square = next (l .inv .square) (getD steps k 0);
+      on = walk-on (a .occ) (getD steps k 0) (l .inv .square) _ fits lands (c .if2 .left);
+      is = lands;
       rest = λ t h.
           l .inv .rest t h
           ∙ ap (λ b. b || ways (a .occ) (a .from) (a .end) (k + 1) t)
-          (walk-next (a .occ) k (l .inv .square) _ fits next (l .n) (l .set) t (c .before .before .loop-test .taken) h (c .if2 .left));
+          (walk-next (a .occ) (getD steps k 0) (l .inv .square) _ fits lands (l .n) (l .set) t (c .before .before .loop-test .taken) h (c .if2 .left));
     }
 
 returns : tie.Need-returns Inv-loop μ-loop Inv-lines μ-lines
@@ -133,12 +151,17 @@ lines-spec =
     Inv-lines
     μ-lines
     lines-holds
+    cast-step
+    array-read-step
+    cast-ends
+    mul-ends
+    array-read-ends
     add-k
     shl-at
     loop-holds
     lines-less
     lines-again
-    step-requires
+    stepped-requires
     lines-less-2
     lines-again-2
     add-n
