@@ -49,27 +49,31 @@ module _ (b step ends : ℕ) (x : step % 8 < 5) (y : step / 8 < 5) (m : ends ≡
       (ap (λ z. stepBits (bit s) z (getD stepEnds (step % 8) 0)) parts
       ∙ eqb→eq _ _ (below3 shift-right 64 5 5 shifts-right s (step % 8) (step / 8) h x y))
 
--- the code's table of the sixteen steps holds of each its change of file and 8 times its change of rank
-abbrev pub steps : List ℕ
+-- the number is that of the k-th step
+abbrev pub IsStep : ℕ → ℕ → Type 0
+IsStep step k = (step % 8 ≡ getD stepXs k 0) × (step / 8 ≡ getD stepYs k 0)
+
+-- the code's table of the sixteen
+abbrev steps : List ℕ
 steps = 10 ∷ 17 ∷ 19 ∷ 26 ∷ 9 ∷ 11 ∷ 25 ∷ 27 ∷ 1 ∷ 3 ∷ 8 ∷ 12 ∷ 24 ∷ 28 ∷ 33 ∷ 35 ∷ []
 
 step-right : ℕ → Bool
-step-right k = eqb (getD steps k 0) (getD stepXs k 0 + 8 * getD stepYs k 0)
+step-right k = eqb (getD steps k 0 % 8) (getD stepXs k 0) && eqb (getD steps k 0 / 8) (getD stepYs k 0)
 
 steps-right : T (allBelow step-right 16)
 unfolding allBelow step-right
 steps-right = tt
 
-pub step-parts : (k : ℕ) → k < 16 → (getD steps k 0 % 8 ≡ getD stepXs k 0) × (getD steps k 0 / 8 ≡ getD stepYs k 0)
+pub step-is : (k : ℕ) → k < 16 → IsStep (getD steps k 0) k
 unfolding step-right
-step-parts k h =
-    let e = eqb→eq (getD steps k 0) (getD stepXs k 0 + 8 * getD stepYs k 0) (below step-right 16 steps-right k h) in
-    let l = step-lt k h in
-    let x = l .0 in
-    (omega arith, omega arith)
+step-is k h =
+    let t = below step-right 16 steps-right k h in
+    let x = eqb (getD steps k 0 % 8) (getD stepXs k 0) in
+    let y = eqb (getD steps k 0 / 8) (getD stepYs k 0) in
+    (eqb→eq _ _ (and-left x y t), eqb→eq _ _ (and-right x y t))
 
-pub step-small : (k : ℕ) → k < 16 → (getD steps k 0 % 8 < 5) × (getD steps k 0 / 8 < 5)
-step-small k h = let p = step-parts k h in let l = step-lt k h in (rw (p .0) (l .0), rw (p .1) (l .1))
+pub step-small : (step k : ℕ) → k < 16 → IsStep step k → (step % 8 < 5) × (step / 8 < 5)
+step-small step k h p = let l = step-lt k h in (rw (p .0) (l .0), rw (p .1) (l .1))
 
 -- ---- a line walked by bits: the set gathers its squares, and the walk stops where no free square comes next
 
@@ -147,10 +151,10 @@ module _ (occ step s b : ℕ) (f : occ < 2 ^ 64) (e : b ≡ bit (next s step)) w
 
 -- ---- a step made once
 
--- the k-th step leads to the bit b
-module _ (s k b t : ℕ) (i : k < 16) (e : b ≡ bit (next s (getD steps k 0))) (h : t < 64) where
+-- the k-th leads to the bit b
+module _ (s k step b t : ℕ) (p : IsStep step k) (e : b ≡ bit (next s step)) (h : t < 64) where
   is-stepped : b ≡ bit (stepped s k)
-  is-stepped = let p = step-parts k i in e ∙ rw (p .0, p .1)
+  is-stepped = e ∙ rw (p .0, p .1)
 
   -- which holds the one square of its line
   once-has : has b t ≡ line (λ u. false) 1 s (getD stepXs k 0) (getD stepYs k 0) t

@@ -9,13 +9,13 @@ ghost use Rattle.board.specs.Square.{shift};
 ghost use Rattle.board.specs.Reach.{lineOf, reaches as reachesOf};
 ghost use Rattle.board.specs.Sets.{has as holds, setOf};
 ghost use Rattle.board.specs.SetLaws.{bit};
-ghost use Rattle.board.specs.StepLaws.{stepEnds};
+ghost use Rattle.board.specs.StepLaws.{IsStep, stepEnds};
 
 // The king's eight steps, of which four are the rook's directions and four the bishop's, and the knight's eight.
 // A step is one number x + 8 * y, of its changes of file and of rank, each plus 2; so the one that stays is 18.
 const STEPS: [u8; 16] = [10, 17, 19, 26, 9, 11, 25, 27, 1, 3, 8, 12, 24, 28, 33, 35];
 
-// The squares where a step can end, by x: those not on g or h, those not on h, all, those not on a, those not on a or b.
+// The squares where a step can end, by its x: those not on g or h, those not on h, all, those not on a, those not on a or b.
 const ENDS: [u64; 5] = [
     4557430888798830399,
     9187201950435737471,
@@ -23,6 +23,22 @@ const ENDS: [u64; 5] = [
     18374403900871474942,
     18229723555195321596,
 ];
+
+// The k-th step.
+fn step_at(k: u8) -> u8
+    requires { ⌜ k < 16 ⌝ }
+    ensures { λ r. ⌜ IsStep r k ⌝ }
+{
+    STEPS[k as usize]
+}
+
+// The squares where this step can end.
+fn ends_of(step: u8) -> u64
+    requires { ⌜ step % 8 < 5 ⌝ }
+    ensures { λ r. ⌜ r ≡ getD stepEnds (step % 8) 0 ⌝ }
+{
+    ENDS[(step % 8) as usize]
+}
 
 // From a square's bit the bit of the square that a step leads to; 0 at the edge.
 fn stepped(b: u64, step: u8, ends: u64) -> u64
@@ -46,8 +62,8 @@ fn lines(occ: u64, from: u8, first: u8, end: u8) -> u64
         if end <= k {
             break set;
         }
-        let step = STEPS[k as usize];
-        let ends = ENDS[(step % 8) as usize];
+        let step = step_at(k);
+        let ends = ends_of(step);
         k += 1;
         let mut at: u64 = 1 << from;
         let mut n: u8 = 0;
@@ -72,8 +88,8 @@ fn near(from: u8, first: u8, end: u8) -> u64
     let mut set: u64 = 0;
     let mut k = first;
     while k < end {
-        let step = STEPS[k as usize];
-        set |= stepped(b, step, ENDS[(step % 8) as usize]);
+        let step = step_at(k);
+        set |= stepped(b, step, ends_of(step));
         k += 1;
     }
     set

@@ -2,7 +2,6 @@ use mathlib.Core.Path.{_≡_, refl, sym, ap, _∙_}
 use mathlib.Core.Bool.{Bool, _||_}
 use Prim.Native.Nat.{ℕ, _+_, _-_, _<_}
 use native.Mathlib.Omega.{arith}
-use lib.ListN.{getD}
 use borrow.Author.Needs.{needs}
 use Rattle.finite.specs.Members.{any}
 use Rattle.finite.specs.Numbers.{numbers, any-end}
@@ -10,7 +9,7 @@ use Rattle.board.specs.Reach.{lineOf}
 use Rattle.board.specs.Sets.{has}
 use Rattle.board.specs.SetLaws.{bit, has-none}
 use Rattle.board.specs.SweepLaws.{sweep-end, sweep-line}
-use Rattle.board.specs.StepLaws.{steps, step-parts, step-small, next, ahead, walk-end, walk-on, walk-next, walk-stop}
+use Rattle.board.specs.StepLaws.{step-small, next, ahead, walk-end, walk-on, walk-next, walk-stop}
 use Rattle.board.proofs.lines.lines.Statement.{statement}
 use Rattle.board.proofs.lines.lines.Tie as tie
 
@@ -44,20 +43,11 @@ abbrev μ-lines : tie.MeasureT-lines
 lines-holds : tie.Need-lines-holds Inv-loop μ-loop Inv-lines μ-lines
 lines-holds c = record { rest = λ t h. rw (has-none t) }
 
-cast-step : tie.Need-cast-step Inv-loop μ-loop Inv-lines μ-lines
-cast-step c = search needs
+step-at-requires : tie.Need-step-at-requires Inv-loop μ-loop Inv-lines μ-lines
+step-at-requires c κs = search needs
 
-array-read-step : tie.Need-array-read-step Inv-loop μ-loop Inv-lines μ-lines
-array-read-step c = search needs
-
-cast-ends : tie.Need-cast-ends Inv-loop μ-loop Inv-lines μ-lines
-cast-ends c = search needs
-
-mul-ends : tie.Need-mul-ends Inv-loop μ-loop Inv-lines μ-lines
-mul-ends c = search needs
-
-array-read-ends : tie.Need-array-read-ends Inv-loop μ-loop Inv-lines μ-lines
-array-read-ends c = step-small (c .before .lines .k) (omega arith) .0
+ends-of-requires : tie.Need-ends-of-requires Inv-loop μ-loop Inv-lines μ-lines
+ends-of-requires c κs = step-small (c .step-at .result) (c .before .before .lines .k) (omega arith) (c .step-at .ensures) .0
 
 add-k : tie.Need-add-k Inv-loop μ-loop Inv-lines μ-lines
 add-k c = search needs
@@ -67,14 +57,14 @@ shl-at c = search needs
 
 loop-holds : tie.Need-loop-holds Inv-loop μ-loop Inv-lines μ-lines
 loop-holds c =
-    let a = c .before .before .args in
-    let o = c .before .lines in
-    let p = step-parts (o .k) (omega arith) in
+    let a = c .before .before .before .before .args in
+    let o = c .before .before .before .lines in
+    let p = c .before .step-at .ensures in
     record {
       square = a .from;
-      on = c .before .before .pre .0;
+      on = c .before .before .before .before .pre .0;
       is = refl;
-      rest = λ t h. o .inv .rest t h ∙ rw (p .0, p .1) (sweep-line (lineOf (has (a .occ)) 0 (a .from) t) (o .k) (a .end) (c .if1 .left) (has (o .set) t));
+      rest = λ t h. o .inv .rest t h ∙ rw (p .0, p .1) (sweep-line (lineOf (has (a .occ)) 0 (a .from) t) (o .k) (a .end) (c .before .before .if1 .left) (has (o .set) t));
     }
 
 lines-less : tie.Need-lines-less Inv-loop μ-loop Inv-lines μ-lines
@@ -82,34 +72,40 @@ lines-less c = search needs
 
 lines-again : tie.Need-lines-again Inv-loop μ-loop Inv-lines μ-lines
 lines-again c =
-    let a = c .before .before .before .before .args in
-    let k = c .before .before .before .lines .k in
+    let w = c .before .before in
+    let a = w .before .before .before .before .args in
+    let k = w .before .before .before .lines .k in
     let l = c .before .loop in
     record {
       rest = λ t h.
           l .inv .rest t h
-          ∙ ap (λ b. b || ways (a .occ) (a .from) (a .end) (k + 1) t) (walk-end (a .occ) (getD steps k 0) (l .n) (l .inv .square) (l .set) t (c .loop-test .left));
+          ∙ ap (λ b. b || ways (a .occ) (a .from) (a .end) (k + 1) t)
+          (walk-end (a .occ) (w .before .step-at .result) (l .n) (l .inv .square) (l .set) t (c .loop-test .left));
     }
 
 stepped-requires : tie.Need-stepped-requires Inv-loop μ-loop Inv-lines μ-lines
-stepped-requires c κs = let w = step-small (c .before .before .before .lines .k) (omega arith) in (w .0, w .1, refl)
+stepped-requires c κs =
+    let d = c .before .before .before .step-at in
+    let w = step-small (d .result) (c .before .before .before .before .before .lines .k) (omega arith) (d .ensures) in
+    (w .0, w .1, c .before .before .ends-of .ensures)
 
 lines-less-2 : tie.Need-lines-less-2 Inv-loop μ-loop Inv-lines μ-lines
 lines-less-2 c = search needs
 
 lines-again-2 : tie.Need-lines-again-2 Inv-loop μ-loop Inv-lines μ-lines
 lines-again-2 c =
-    let w = c .before .before .before in
-    let a = w .before .before .before .args in
-    let k = w .before .before .lines .k in
-    let l = w .loop in
-    let fits = w .before .before .before .fits .occ .fits in
+    let w = c .before .before .before .before in
+    let start = w .before .before .before .before in
+    let a = start .args in
+    let k = w .before .before .before .lines .k in
+    let step = w .before .step-at .result in
+    let l = c .before .before .before .loop in
     let lands = c .before .stepped .ensures (l .inv .square) (l .inv .on) (l .inv .is) in
     record {
       rest = λ t h.
           l .inv .rest t h
           ∙ ap (λ b. b || ways (a .occ) (a .from) (a .end) (k + 1) t)
-          (walk-stop (a .occ) (getD steps k 0) (l .inv .square) _ fits lands (l .n) (l .set) t (c .before .before .loop-test .taken) h (c .if2 .taken));
+          (walk-stop (a .occ) step (l .inv .square) _ (start .fits .occ .fits) lands (l .n) (l .set) t (c .before .before .loop-test .taken) h (c .if2 .taken));
     }
 
 add-n : tie.Need-add-n Inv-loop μ-loop Inv-lines μ-lines
@@ -120,20 +116,21 @@ loop-less c = search needs
 
 loop-again : tie.Need-loop-again Inv-loop μ-loop Inv-lines μ-lines
 loop-again c =
-    let w = c .before .before .before in
-    let a = w .before .before .before .args in
-    let k = w .before .before .lines .k in
-    let l = w .loop in
-    let fits = w .before .before .before .fits .occ .fits in
+    let w = c .before .before .before .before in
+    let start = w .before .before .before .before in
+    let a = start .args in
+    let k = w .before .before .before .lines .k in
+    let step = w .before .step-at .result in
+    let l = c .before .before .before .loop in
     let lands = c .before .stepped .ensures (l .inv .square) (l .inv .on) (l .inv .is) in
     record {
-      square = next (l .inv .square) (getD steps k 0);
-      on = walk-on (a .occ) (getD steps k 0) (l .inv .square) _ fits lands (c .if2 .left);
+      square = next (l .inv .square) step;
+      on = walk-on (a .occ) step (l .inv .square) _ (start .fits .occ .fits) lands (c .if2 .left);
       is = lands;
       rest = λ t h.
           l .inv .rest t h
           ∙ ap (λ b. b || ways (a .occ) (a .from) (a .end) (k + 1) t)
-          (walk-next (a .occ) (getD steps k 0) (l .inv .square) _ fits lands (l .n) (l .set) t (c .before .before .loop-test .taken) h (c .if2 .left));
+          (walk-next (a .occ) step (l .inv .square) _ (start .fits .occ .fits) lands (l .n) (l .set) t (c .before .before .loop-test .taken) h (c .if2 .left));
     }
 
 returns : tie.Need-returns Inv-loop μ-loop Inv-lines μ-lines
@@ -151,11 +148,8 @@ lines-spec =
     Inv-lines
     μ-lines
     lines-holds
-    cast-step
-    array-read-step
-    cast-ends
-    mul-ends
-    array-read-ends
+    step-at-requires
+    ends-of-requires
     add-k
     shl-at
     loop-holds

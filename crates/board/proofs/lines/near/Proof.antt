@@ -37,23 +37,17 @@ shl-b c = search needs
 loop-holds : tie.Need-loop-holds Inv-loop μ-loop
 loop-holds c = record { rest = λ t h. rw (has-none t) }
 
-cast-step : tie.Need-cast-step Inv-loop μ-loop
-cast-step c = search needs
+step-at-requires : tie.Need-step-at-requires Inv-loop μ-loop
+step-at-requires c κs = search needs
 
-array-read-step : tie.Need-array-read-step Inv-loop μ-loop
-array-read-step c = search needs
-
-cast-stepped : tie.Need-cast-stepped Inv-loop μ-loop
-cast-stepped c = search needs
-
-mul-stepped : tie.Need-mul-stepped Inv-loop μ-loop
-mul-stepped c = search needs
-
-array-read-stepped : tie.Need-array-read-stepped Inv-loop μ-loop
-array-read-stepped c = step-small (c .before .loop .k) (omega arith) .0
+ends-of-requires : tie.Need-ends-of-requires Inv-loop μ-loop
+ends-of-requires c κs = step-small (c .step-at .result) (c .before .before .loop .k) (omega arith) (c .step-at .ensures) .0
 
 stepped-requires : tie.Need-stepped-requires Inv-loop μ-loop
-stepped-requires c κs = let w = step-small (c .before .loop .k) (omega arith) in (w .0, w .1, refl)
+stepped-requires c κs =
+    let d = c .before .step-at in
+    let w = step-small (d .result) (c .before .before .before .loop .k) (omega arith) (d .ensures) in
+    (w .0, w .1, c .ends-of .ensures)
 
 add-k : tie.Need-add-k Inv-loop μ-loop
 add-k c = search needs
@@ -63,14 +57,16 @@ loop-less c = search needs
 
 loop-again : tie.Need-loop-again Inv-loop μ-loop
 loop-again c =
-    let a = c .before .before .before .args in
-    let l = c .before .before .loop in
+    let w = c .before .before .before .before in
+    let a = w .before .args in
+    let l = w .loop in
+    let d = c .before .before .step-at in
+    let lands = c .stepped .ensures (a .from) (w .before .pre .0) refl in
     record {
       rest = λ t h.
           l .inv .rest t h
-          ∙ sweep-line (leads (a .from) t) (l .k) (a .end) (c .before .loop-test .taken) (has (l .set) t)
-          ∙ ap (λ b. b || ways (a .from) (a .end) (l .k + 1) t)
-          (sym (once-next (a .from) (l .k) _ t (omega arith) (c .stepped .ensures (a .from) (c .before .before .before .pre .0) refl) h (l .set)));
+          ∙ sweep-line (leads (a .from) t) (l .k) (a .end) (c .before .before .before .loop-test .taken) (has (l .set) t)
+          ∙ ap (λ b. b || ways (a .from) (a .end) (l .k + 1) t) (sym (once-next (a .from) (l .k) (d .result) _ t (d .ensures) lands h (l .set)));
     }
 
 returns : tie.Need-returns Inv-loop μ-loop
@@ -87,11 +83,8 @@ near-spec =
     μ-loop
     shl-b
     loop-holds
-    cast-step
-    array-read-step
-    cast-stepped
-    mul-stepped
-    array-read-stepped
+    step-at-requires
+    ends-of-requires
     stepped-requires
     add-k
     loop-less
