@@ -6,7 +6,7 @@ use mathlib.Core.List.{List, [], _∷_}
 use mathlib.Core.Logic.{⊎-elim}
 use Prim.Native.Nat.{ℕ, _+_, _-_, _*_, _/_, _%_, _^_, _≤_, _<_}
 use native.Mathlib.Omega.{arith}
-use lib.Dec.{T, ltb, eqb, eqb→eq}
+use lib.Dec.{T, leb, ltb, eqb, eqb→eq}
 use lib.Bits.{bitAnd, bitOr, and-lt}
 use lib.ListN.{getD}
 use borrow.Author.Tests.{not-false, lt-ltb, eq-eqb}
@@ -23,9 +23,24 @@ use Rattle.board.specs.SweepLaws.{sweep-end, sweep-stop, sweep-next}
 
 -- ---- one step
 
--- the code's table of the squares where a step can end, by its change of file
-abbrev pub stepEnds : List ℕ
+-- a step with the change of file x can end on t: it comes from a file of the board
+abbrev pub endsOn : ℕ → ℕ → Bool
+endsOn x t = leb x (t % 8 + 2) && leb (t % 8 + 2) (x + 7)
+
+-- the code's table of these squares
+abbrev stepEnds : List ℕ
 stepEnds = 4557430888798830399 ∷ 9187201950435737471 ∷ 18446744073709551615 ∷ 18374403900871474942 ∷ 18229723555195321596 ∷ []
+
+ends-right : ℕ → Bool
+ends-right x = eqb (getD stepEnds x 0) (setOf (endsOn x))
+
+all-ends-right : T (allBelow ends-right 5)
+unfolding allBelow ends-right setOf pack
+all-ends-right = tt
+
+pub ends-are : (x : ℕ) → x < 5 → getD stepEnds x 0 ≡ setOf (endsOn x)
+unfolding ends-right
+ends-are x h = eqb→eq (getD stepEnds x 0) (setOf (endsOn x)) (below ends-right 5 all-ends-right x h)
 
 -- what the code makes of b
 unfoldable pub stepBits : ℕ → ℕ → ℕ → ℕ
@@ -39,13 +54,13 @@ shifts-right : T (allBelow3 shift-right 64 5 5)
 unfolding allBelow allBelow2 allBelow3 shift-right stepBits shift stays
 shifts-right = tt
 
-module _ (b step ends : ℕ) (x : step % 8 < 5) (y : step / 8 < 5) (m : ends ≡ getD stepEnds (step % 8) 0) where
+module _ (b step ends : ℕ) (x : step % 8 < 5) (y : step / 8 < 5) (m : ends ≡ setOf (endsOn (step % 8))) where
   pub step-bit : {r : ℕ} → r ≡ stepBits b step ends → (s : ℕ) → s < 64 → b ≡ bit s → r ≡ bit (shift s (step % 8) (step / 8))
   unfolding shift-right
   step-bit q s h e =
       let parts : step ≡ step % 8 + 8 * (step / 8) = omega arith in
       q
-      ∙ rw (m, e)
+      ∙ rw (m, ← ends-are (step % 8) x, e)
       (ap (λ z. stepBits (bit s) z (getD stepEnds (step % 8) 0)) parts
       ∙ eqb→eq _ _ (below3 shift-right 64 5 5 shifts-right s (step % 8) (step / 8) h x y))
 

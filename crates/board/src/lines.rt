@@ -2,14 +2,13 @@
 ghost use mathlib.Core.Path.{_≡_};
 ghost use mathlib.Core.Bool.{false};
 ghost use Prim.Native.Nat.{ℕ, _-_, _/_, _%_, _≤_, _<_};
-ghost use lib.ListN.{getD};
 ghost use Rattle.finite.specs.Members.{any};
 ghost use Rattle.finite.specs.Numbers.{numbers};
 ghost use Rattle.board.specs.Square.{shift};
 ghost use Rattle.board.specs.Reach.{lineOf, reaches as reachesOf};
 ghost use Rattle.board.specs.Sets.{has as holds, setOf};
 ghost use Rattle.board.specs.SetLaws.{bit};
-ghost use Rattle.board.specs.StepLaws.{IsStep, stepEnds};
+ghost use Rattle.board.specs.StepLaws.{IsStep, endsOn};
 
 // The king's eight steps, of which four are the rook's directions and four the bishop's, and the knight's eight.
 // A step is one number x + 8 * y, of its changes of file and of rank, each plus 2; so the one that stays is 18.
@@ -35,14 +34,14 @@ fn step_at(k: u8) -> u8
 // The squares where this step can end.
 fn ends_of(step: u8) -> u64
     requires { ⌜ step % 8 < 5 ⌝ }
-    ensures { λ r. ⌜ r ≡ getD stepEnds (step % 8) 0 ⌝ }
+    ensures { λ r. ⌜ r ≡ setOf (endsOn (step % 8)) ⌝ }
 {
     ENDS[(step % 8) as usize]
 }
 
 // From a square's bit the bit of the square that a step leads to; 0 at the edge.
 fn stepped(b: u64, step: u8, ends: u64) -> u64
-    requires { ⌜ (step % 8 < 5) × (step / 8 < 5) × (ends ≡ getD stepEnds (step % 8) 0) ⌝ }
+    requires { ⌜ (step % 8 < 5) × (step / 8 < 5) × (ends ≡ setOf (endsOn (step % 8))) ⌝ }
     ensures { λ r. ⌜ ((s : ℕ) → s < 64 → b ≡ bit s → r ≡ bit (shift s (step % 8) (step / 8))) ⌝ }
 {
     if step < 18 {
