@@ -79,7 +79,7 @@ steps-small : T (allBelow step-small 16)
 unfolding allBelow step-small
 steps-small = tt
 
-step-lt : (k : ℕ) → k < 16 → (getD stepXs k 0 < 5) × (getD stepYs k 0 < 5)
+pub step-lt : (k : ℕ) → k < 16 → (getD stepXs k 0 < 5) × (getD stepYs k 0 < 5)
 unfolding step-small
 step-lt k h =
     let t = below step-small 16 steps-small k h in

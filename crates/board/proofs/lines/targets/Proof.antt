@@ -6,7 +6,7 @@ use native.Mathlib.Omega.{arith}
 use borrow.Author.Needs.{needs}
 use Rattle.board.specs.Reach.{reaches}
 use Rattle.board.specs.Sets.{has}
-use Rattle.board.specs.SetLaws.{has-none, set-is, setOf-same}
+use Rattle.board.specs.SetLaws.{has-none, set-is}
 use Rattle.board.specs.ReachLaws.{reaches-off, reaches-other, king-reaches, knight-reaches}
 use Rattle.board.proofs.lines.targets.Statement.{statement}
 use Rattle.board.proofs.lines.targets.Tie as tie
@@ -35,21 +35,23 @@ returns-4 : tie.Need-returns-4
 unfolding reaches
 returns-4 c = rw (c .before .if4 .taken) (set-is _ _ (c .lines3 .ok) (c .lines3 .ensures))
 
-knight-requires : tie.Need-knight-requires
-knight-requires c κs = search needs
+near-requires : tie.Need-near-requires
+near-requires c κs = search needs
 
 returns-5 : tie.Need-returns-5
+unfolding reaches
 returns-5 c =
     let a = c .before .before .before .before .before .before .args in
-    rw (c .before .if5 .taken) (c .knight .ensures ∙ setOf-same _ _ (λ t h. knight-reaches (λ (u : ℕ). false) (has (a .occ)) (a .from) t))
+    rw (c .before .if5 .taken) (set-is _ _ (c .near .ok) (λ t h. c .near .ensures t h ∙ knight-reaches (λ (u : ℕ). false) (has (a .occ)) (a .from) t))
 
-king-requires : tie.Need-king-requires
-king-requires c κs = search needs
+near-requires-2 : tie.Need-near-requires-2
+near-requires-2 c κs = search needs
 
 returns-6 : tie.Need-returns-6
+unfolding reaches
 returns-6 c =
     let a = c .before .before .before .before .before .before .before .args in
-    rw (c .before .if6 .taken) (c .king .ensures ∙ setOf-same _ _ (λ t h. king-reaches (λ (u : ℕ). false) (has (a .occ)) (a .from) t))
+    rw (c .before .if6 .taken) (set-is _ _ (c .near2 .ok) (λ t h. c .near2 .ensures t h ∙ king-reaches (λ (u : ℕ). false) (has (a .occ)) (a .from) t))
 
 returns-7 : tie.Need-returns-7
 returns-7 c = set-is _ 0 (omega arith) (λ t h. has-none t ∙ sym (reaches-other _ _ _ _ (omega arith) (c .before .if5 .left) (c .if6 .left)))
@@ -65,8 +67,8 @@ targets-spec =
     returns-3
     lines-requires-3
     returns-4
-    knight-requires
+    near-requires
     returns-5
-    king-requires
+    near-requires-2
     returns-6
     returns-7)
