@@ -2,6 +2,7 @@ pub mod Ending
 pub mod Chess
 pub mod IndexLaws
 pub mod Endings
+pub mod Halves
 pub mod Answers
 pub mod Truth
 pub mod Checking

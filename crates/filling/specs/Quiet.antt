@@ -1,6 +1,6 @@
 -- Where a pass settles nothing: a depth above 0 is required only where a successor holds the depth before it, and successors' numbers lie in the
 -- other half of the table. Assumes nothing.
-use mathlib.Core.Path.{_≡_, refl, sym, ap, subst, _∙_}
+use mathlib.Core.Path.{_≡_, sym, ap, subst, _∙_}
 use mathlib.Core.Bool.{Bool, false, cond, not, _&&_}
 use mathlib.Core.Logic.{_⊎_, inl, inr}
 use mathlib.Core.List.{List, map}
@@ -10,27 +10,21 @@ use lib.Dec.{T, ltb, eqb, eqb→eq}
 use lib.ListN.{getD}
 use borrow.Author.Tests.{lt-ltb, le-ltb}
 use Rattle.finite.specs.Truth.{decided, and-left, and-right, fails, le-or-lt, false-of}
-use Rattle.finite.specs.Members.{_∈_, map-out}
+use Rattle.finite.specs.Members.{map-out}
 use Rattle.finite.specs.Mapped.{Upto}
 use Rattle.theory.specs.Game.{next}
-use Rattle.theory.specs.Required.{requiredAt, Rule}
-use Rattle.theory.specs.Required.Rule.{checkmate, wins, loses, draws, stalemate}
-use Rattle.theory.specs.RuleLaws.{required-rule}
+use Rattle.theory.specs.Required.{requiredAt}
+use Rattle.theory.specs.RuleLaws.{required-rule, byte-before}
 use Rattle.numbered.specs.Numbered.{reads, settles, passByte}
 use Rattle.numbered.specs.Acceptance.{reads-inside, reads-outside}
 use Rattle.numbered.specs.Passing.{settles-in-place}
-use Rattle.symmetry.specs.Symmetry.{Symmetry}
-use Rattle.rules.specs.Rules.{Board, empty, moves, mated}
-use Rattle.rules.specs.Closed.{moved-side}
-use Rattle.rules.specs.Changed.{changed, swapped}
-use Rattle.rules.specs.Chess.{chess, played}
-use Rattle.position.specs.Keyed.{boardOf}
+use Rattle.rules.specs.Rules.{Board, empty, mated}
+use Rattle.rules.specs.Chess.{chess}
 use Rattle.numbering.specs.Number.{numberOf}
-use Rattle.index.specs.Answers.{positionAt}
 use Rattle.endings.specs.Chess.{tableSize, boardAt, legalNumber}
 use Rattle.endings.specs.Ending.{Ending, ending-closed}
-use Rattle.endings.specs.IndexLaws.{image-at, number-of-ending}
-use Rattle.endings.specs.Endings.{ending, has-man, live-at}
+use Rattle.endings.specs.Halves.{side-at, side-next, number-side}
+use Rattle.endings.specs.Endings.{ending, live-at}
 
 -- the byte stands at no number from `from` on, below `to`
 pub record Absent (t : List ℕ) (byte from to : ℕ) : Type 0 where
@@ -41,33 +35,6 @@ pub record Quiet (k : ℕ) (t : List ℕ) (from to : ℕ) : Type 0 where
   pub later : 0 < k
   pub absent : Absent t (1 + k) from to
 
--- a byte above 2 is required only where a successor holds the byte before it
-met : {bs : List ℕ} {r : ℕ} {mate : Bool} → Rule bs r mate → 2 < r → (b : ℕ) × (b ∈ bs) × (r ≡ 1 + b)
-met (checkmate e) h = absurd (omega arith)
-met (wins b m l f e) h = (b, m, e)
-met (loses b m f e) h = (b, m, e)
-met (draws b m d f e) h = absurd (omega arith)
-met (stalemate z e) h = absurd (omega arith)
-
--- ---- a number's half is its side to move
-
-side-at : (man n : ℕ) → boardAt man n .side ≡ n / 64 / 462
-unfolding boardAt boardOf positionAt
-side-at man n = refl
-
-side-changed : (m : Symmetry) (b : Board) → changed m false b .side ≡ b .side
-unfolding changed swapped
-side-changed m b = refl
-
-side-next : (b q : Board) → q ∈ next chess b → q .side ≡ 1 - b .side
-side-next b q i = let w = map-out (played b) q (moves b) i in ap (λ (c : Board). c .side) (w .2) ∙ moved-side b (w .0 .from) (w .0 .to)
-
-number-side : (man : ℕ) (q : Board) → Ending man q → T (not (empty (q .men))) → (numberOf q < tableSize) × (numberOf q / 64 / 462 ≡ q .side)
-number-side man q d i =
-    let l = has-man man q d i in
-    let w = image-at man q (d .legality) l in
-    (number-of-ending man q (d .legality) l .0, sym (side-at man (numberOf q)) ∙ ap (λ (c : Board). c .side) (w .1) ∙ side-changed (w .0) q)
-
 module _ (man k : ℕ) (t : List ℕ) (n : ℕ) (h : n < tableSize) where
   -- a number that pass k settles, k not 0, has a successor in the other half with depth k - 1
   cause : 0 < k → T (settles chess (ending man) k t n) → (m : ℕ) × (m < tableSize) × (m / 64 / 462 ≡ 1 - n / 64 / 462) × (getD t m 0 ≡ 1 + k)
@@ -76,7 +43,7 @@ module _ (man k : ℕ) (t : List ℕ) (n : ℕ) (h : n < tableSize) where
       let byte = requiredAt chess (reads chess (ending man) t) (boardAt man n) in
       let last = and-right (eqb (getD t n 0) 1) (legalNumber man n && eqb byte (2 + k)) s in
       let e = eqb→eq byte (2 + k) (and-right (legalNumber man n) (eqb byte (2 + k)) last) in
-      let b = met (required-rule (mated (boardAt man n)) (map (reads chess (ending man) t) (next chess (boardAt man n)))) (omega (arith, e)) in
+      let b = byte-before (required-rule (mated (boardAt man n)) (map (reads chess (ending man) t) (next chess (boardAt man n)))) (omega (arith, e)) in
       let w = map-out (reads chess (ending man) t) (b .0) (next chess (boardAt man n)) (b .1) in
       let d = ending-closed man (boardAt man n) (w .0) (live-at man n h (and-left (legalNumber man n) (eqb byte (2 + k)) last) .0) (w .1) in
       go (w .0) d (side-next (boardAt man n) (w .0) (w .1)) (sym (w .2) ∙ before (b .0) (sym e ∙ b .2)) (decided (not (empty (w .0 .men))))

@@ -4,7 +4,7 @@ use mathlib.Core.Path.{_≡_, refl, sym, subst}
 use mathlib.Core.Logic.{_⊎_, inl, inr, _↔_}
 use mathlib.Core.Bool.{Bool, true, false, not}
 use mathlib.Core.List.{List, [], _∷_, cons≢nil, List·Memᴰ·head, List·Memᴰ·tail, List·Memᴰ·eq-of-singleton}
-use Prim.Native.Nat.{ℕ, _+_, _≤_, min, max}
+use Prim.Native.Nat.{ℕ, _+_, _≤_, _<_, min, max}
 use native.Mathlib.Omega.{arith}
 use lib.Dec.{T, T-not, leb, leb→le, le→leb}
 use Rattle.finite.specs.Truth.{decided}
@@ -175,3 +175,11 @@ required-pos mate bs = rule-pos (required-rule mate bs)
 -- Only the members count.
 pub required-same : (mate : Bool) (l bs : List ℕ) → SameMembers l bs → required mate l ≡ required mate bs
 required-same mate l bs s = rule-one (rule-same s (required-rule mate l)) (required-rule mate bs)
+
+-- a byte above 2 is required only where a successor holds the byte before it
+pub byte-before : {bs : List ℕ} {r : ℕ} {mate : Bool} → Rule bs r mate → 2 < r → (b : ℕ) × (b ∈ bs) × (r ≡ 1 + b)
+byte-before (checkmate e) h = absurd (omega arith)
+byte-before (wins b m l f e) h = (b, m, e)
+byte-before (loses b m f e) h = (b, m, e)
+byte-before (draws b m d f e) h = absurd (omega arith)
+byte-before (stalemate z e) h = absurd (omega arith)
