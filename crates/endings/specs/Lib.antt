@@ -7,6 +7,7 @@ pub mod Answers
 pub mod Truth
 pub mod Checking
 pub mod LookingUp
+pub mod OneAnswer
 pub mod Desk
 pub mod Games
 pub mod FilledTrue
