@@ -1,3 +1,4 @@
 pub mod Reply
 pub mod TrueSlip
 pub mod Laws
+pub mod OneSlip
