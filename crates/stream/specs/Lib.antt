@@ -1,0 +1,4 @@
+pub mod Stream
+pub mod Streamed
+pub mod Keeping
+pub mod Laws
