@@ -1,23 +1,21 @@
 -- Laws of what the code keeps, in the terms that the code has in hand. Assumes nothing.
 use mathlib.Core.Path.{_≡_, refl, sym, ap, ap₂, subst, _∙_}
-use mathlib.Core.Bool.{Bool, true, false, cond}
+use mathlib.Core.Bool.{Bool, true, false}
 use mathlib.Core.List.{List, [], _∷_, _++_}
-use Prim.Native.Nat.{ℕ, suc, _+_, _≤_, _<_}
+use Prim.Native.Nat.{ℕ, _+_, _≤_, _<_}
 use Prim.Native.Char.{code}
 use native.Mathlib.Numerals.{add-one}
 use native.Mathlib.Omega.{arith}
-use lib.Dec.{ltb, eqb}
-use lib.ListN.{length, set, getD, take, drop, replicate, length-append, length-set, length-take}
+use lib.Dec.{ltb}
+use lib.ListN.{length, set, getD, take, drop, replicate, length-append, length-set}
 use lib.Seq.{drop-cons, drop-length, take-suc, take-suc-set, take-all, take-append-le, length-take-le}
 use borrow.Author.Tests.{lt-ltb, le-ltb, eq-eqb, ne-eqb, ltb-true, ltb-false}
-use Rattle.slips.specs.declared.Slip.{Slip}
-use Rattle.slips.specs.Slip.{padded}
 use Rattle.slips.specs.Padding.{line-of}
 use Rattle.adjudication.specs.declared.Reply.{Reply}
 use Rattle.adjudication.specs.Reply.{Outcome, Gives, replyOf}
 use Rattle.adjudication.specs.TrueSlip.{Answered}
 use Rattle.stream.specs.declared.State.{State}
-use Rattle.stream.specs.Stream.{Session, fresh, ended, longer, took, tookAll, closedBy, closed}
+use Rattle.stream.specs.Stream.{Session, ended, longer, took, tookAll, closedBy, closed}
 use Rattle.stream.specs.Streamed.{parts-same, kept-reply}
 use Rattle.stream.specs.Keeping.{Sheet, put, putAll, Keeps, Holds, Follows, Changes, Starts, Empties}
 

@@ -1,20 +1,19 @@
 -- Cutting and answering byte by byte, in parts of any size, gives the true slips of the text's lines; and 13 bytes of a line are enough. Assumes nothing.
-use mathlib.Core.Path.{_≡_, refl, sym, ap, ap₂, subst, _∙_}
+use mathlib.Core.Path.{_≡_, refl, sym, ap, subst, _∙_}
 use mathlib.Core.Bool.{Bool, true, false, cond}
-use mathlib.Core.Logic.{_⊎_, inl, inr}
 use mathlib.Core.List.{List, [], _∷_, _++_, append-assoc, append-nil}
-use Prim.Native.Nat.{ℕ, _≤_, _<_}
+use Prim.Native.Nat.{ℕ, _<_}
 use Prim.Native.Char.{code}
 use native.Mathlib.Omega.{arith}
 use lib.Dec.{eqb, ltb}
 use lib.ListN.{length, take}
 use borrow.Author.Tests.{ltb-true, ltb-false}
 use lib.Seq.{take-all, length-take-le}
-use Rattle.lines.specs.Grammar.{positionShape, numberShape, hasShape, requestOf}
+use Rattle.lines.specs.Grammar.{positionShape, numberShape, requestOf}
 use Rattle.lines.specs.Shapes.{shape-longer}
 use Rattle.lines.specs.declared.Request.{Request}
 use Rattle.adjudication.specs.Reply.{Outcome, requestReply, replyOf}
-use Rattle.adjudication.specs.TrueSlip.{TrueSlip, Held}
+use Rattle.adjudication.specs.TrueSlip.{Held}
 use Rattle.adjudication.specs.Laws.{reply-right}
 use Rattle.stream.specs.Stream.{Session, fresh, ended, longer, took, tookAll, closedBy, closed, begun, linesOf, answeredAll, AllTrue, told}
 

@@ -110,12 +110,11 @@ fn end_line(state: State, table: &mut [u8], output: &mut [u8]) -> State
     let line = state.line;
     let reply = reply_to(&line, state.len, state.held, &mut *table);
     let waiting = append(reply.slip, state.waiting, &mut *output);
-    State {
-        line,
-        len: 0,
-        held: reply.held,
-        waiting,
-    }
+    let mut next = state;
+    next.len = 0;
+    next.held = reply.held;
+    next.waiting = waiting;
+    next
 }
 
 // Takes one byte.
