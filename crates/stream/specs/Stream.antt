@@ -50,6 +50,18 @@ closedBy (b ∷ bs) s = ended s
 unfoldable pub closed : Session → Session
 closed s = closedBy (s .line) s
 
+-- ---- part by part
+
+-- the parts of the input as one text
+abbrev pub wholeOf : List (List ℕ) → List ℕ
+wholeOf [] = []
+wholeOf (part ∷ parts) = part ++ wholeOf parts
+
+-- what the desk hands out: after each part its slips, and at the end that of the last line where it lacks its newline
+unfoldable pub handedOut : Session → List (List ℕ) → List ℕ
+handedOut s [] = closed s .out
+handedOut s (part ∷ parts) = tookAll s part .out ++ handedOut (quiet (tookAll s part)) parts
+
 -- ---- line by line
 
 -- a byte at the beginning of the first line

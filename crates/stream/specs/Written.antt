@@ -23,7 +23,7 @@ use Rattle.slips.specs.Lengths.{answer-line, placed-line}
 use Rattle.adjudication.specs.Reply.{Outcome, filledReply, lookUpReply, requestReply, replyOf}
 use Rattle.adjudication.specs.TrueSlip.{Held}
 use Rattle.stream.specs.declared.State.{State}
-use Rattle.stream.specs.Stream.{Session, fresh, quiet, ended, longer, took, tookAll, closedBy, closed, linesOf, answeredAll, AllTrue}
+use Rattle.stream.specs.Stream.{Session, fresh, quiet, ended, longer, took, tookAll, closedBy, closed, wholeOf, handedOut, linesOf, answeredAll, AllTrue}
 use Rattle.stream.specs.Streamed.{parts-same, stream-lines, stream-true}
 use Rattle.stream.specs.Keeping.{Sheet, put, putAll, Holds}
 
@@ -106,6 +106,13 @@ all-written s (b ∷ bs) h =
 pub slips-wait : (p : List ℕ) (state : State) (t o : List ℕ) (s : Session) → Holds (record { bytes = p; used = 0 }) state t o s → length (s .out) ≤ length p → take (state .waiting) o ≡ s .out
 slips-wait p state t o s w h = ap written (w .out) ∙ all-written (record { bytes = p; used = 0 }) (s .out) (omega (arith, h))
 
+-- A part's slips where the output has 16 bytes for each byte of the part, and the last line's where it has 16.
+pub part-waits : (p : List ℕ) (state : State) (t o : List ℕ) (s : Session) (part : List ℕ) → Holds (record { bytes = p; used = 0 }) state t o (tookAll (quiet s) part) → 16 * length part ≤ length p → take (state .waiting) o ≡ tookAll (quiet s) part .out
+part-waits p state t o s part w h = let k = part-room (quiet s) part in slips-wait p state t o (tookAll (quiet s) part) w (omega (arith, h, k))
+
+pub close-waits : (p : List ℕ) (state : State) (t o : List ℕ) (s : Session) → Holds (record { bytes = p; used = 0 }) state t o (closed (quiet s)) → 16 ≤ length p → take (state .waiting) o ≡ closed (quiet s) .out
+close-waits p state t o s w h = let k = close-room (quiet s) in slips-wait p state t o (closed (quiet s)) w (omega (arith, h, k))
+
 -- ---- part by part
 
 -- a session with slips put out before
@@ -145,16 +152,6 @@ close-after s = go (s .line)
     go (b ∷ bs) = ap ended (sym (after-quiet s)) ∙ ended-after (s .out) (quiet s)
 
 -- ---- the desk's run
-
--- the parts of the input as one text
-abbrev pub wholeOf : List (List ℕ) → List ℕ
-wholeOf [] = []
-wholeOf (part ∷ parts) = part ++ wholeOf parts
-
--- what the desk hands out: after each part its slips, and at the end that of the last line where it lacks its newline
-unfoldable pub handedOut : Session → List (List ℕ) → List ℕ
-handedOut s [] = closed s .out
-handedOut s (part ∷ parts) = tookAll s part .out ++ handedOut (quiet (tookAll s part)) parts
 
 handed-after : (s : Session) (parts : List (List ℕ)) → s .out ++ handedOut (quiet s) parts ≡ closed (tookAll s (wholeOf parts)) .out
 unfolding handedOut tookAll
