@@ -16,10 +16,13 @@ slice-aggregate-write-all c = search (needs, length-take-le)
 write-all-requires : tie.Need-write-all-requires
 write-all-requires c κs = search needs
 
+flushed-requires : tie.Need-flushed-requires
+flushed-requires c κs = search needs
+
 returns-2 : tie.Need-returns-2
 returns-2 c = search needs
 
 pub flush-spec : {M : Type 1} → statement M
 flush-spec =
     tie.close
-    (tie.spec fresh-requires returns slice-aggregate-write-all write-all-requires returns-2)
+    (tie.spec fresh-requires returns slice-aggregate-write-all write-all-requires flushed-requires returns-2)

@@ -1,8 +1,10 @@
--- `desk::reply_to` is safe: it takes no more of the line than there is. Assumes nothing.
+-- `stream::reply_to` meets its contract: it takes no more of the line than there is. Assumes nothing.
+use native.Mathlib.Omega.{arith}
 use lib.Seq.{length-take-le}
+use Rattle.stream.specs.Laws.{reply-whole}
 use borrow.Author.Needs.{needs}
-use Rattle.desk.proofs.reply_to.Statement.{statement}
-use Rattle.desk.proofs.reply_to.Tie as tie
+use Rattle.stream.proofs.reply_to.Statement.{statement}
+use Rattle.stream.proofs.reply_to.Tie as tie
 
 answer-line-requires : tie.Need-answer-line-requires
 answer-line-requires c κs = search needs
@@ -11,7 +13,7 @@ same-length : tie.Need-same-length
 same-length c = search needs
 
 returns : tie.Need-returns
-returns c = search needs
+returns c = let a = c .before .before .before .before .before .before .before .args in reply-whole (a .line .now) (a .len) _ _ _ _ (omega (arith, c .before .before .before .before .if1 .taken)) (c .before .before .answer-line .ensures)
 
 slice-aggregate-answer-line : tie.Need-slice-aggregate-answer-line
 slice-aggregate-answer-line c = search (needs, length-take-le)
