@@ -2,3 +2,4 @@ pub mod Reply
 pub mod TrueSlip
 pub mod Laws
 pub mod OneSlip
+pub mod Short

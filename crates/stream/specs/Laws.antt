@@ -15,7 +15,7 @@ use Rattle.adjudication.specs.declared.Reply.{Reply}
 use Rattle.adjudication.specs.Reply.{Outcome, Gives, replyOf}
 use Rattle.adjudication.specs.TrueSlip.{Answered}
 use Rattle.stream.specs.declared.State.{State}
-use Rattle.stream.specs.Stream.{Session, ended, longer, took, tookAll, closedBy, closed}
+use Rattle.stream.specs.Stream.{Run, ended, longer, took, tookAll, closedBy, closed}
 use Rattle.stream.specs.Streamed.{parts-same, kept-reply}
 use Rattle.stream.specs.Keeping.{Sheet, put, putAll, Keeps, Holds, Follows, Changes, Starts, Empties}
 
@@ -89,11 +89,11 @@ keeps-full kept line len b k h =
     record { long = k .long; count = k .count ∙ ap length (sym same); bytes = k .bytes ∙ sym same }
 
 module _ (state : State) (b : ℕ) where
-  pub byte-kept : state .len < 13 → Changes (λ (s : Session). longer s b) state (record { line = set (state .line) (state .len) b; len = state .len + 1; held = state .held; waiting = state .waiting })
+  pub byte-kept : state .len < 13 → Changes (λ (s : Run). longer s b) state (record { line = set (state .line) (state .len) b; len = state .len + 1; held = state .held; waiting = state .waiting })
   unfolding longer
   byte-kept h t o base s w = record { keeps = keeps-more _ _ _ b (w .keeps) h; held = w .held; table = w .table; out = w .out }
 
-  pub byte-dropped : 13 ≤ state .len → Changes (λ (s : Session). longer s b) state state
+  pub byte-dropped : 13 ≤ state .len → Changes (λ (s : Run). longer s b) state state
   unfolding longer
   byte-dropped h t o base s w = record { keeps = keeps-full _ _ _ b (w .keeps) h; held = w .held; table = w .table; out = w .out }
 
@@ -126,35 +126,35 @@ line-answered state t o u v r n a e base s w = record { keeps = keeps-none (stat
 -- ---- one byte taken
 
 module _ (b : ℕ) (state r : State) (t o u v : List ℕ) where
-  pub takes-newline : b ≡ code "\n" → Follows ended state t o r u v → Follows (λ (s : Session). took s b) state t o r u v
+  pub takes-newline : b ≡ code "\n" → Follows ended state t o r u v → Follows (λ (s : Run). took s b) state t o r u v
   unfolding took
   takes-newline e f base s w = rw (eq-eqb b (code "\n") e) (f base s w)
 
-pub takes-other : (b : ℕ) (state r : State) (t o : List ℕ) → (b ≡ code "\n" → ⊥) → Changes (λ (s : Session). longer s b) state r → Follows (λ (s : Session). took s b) state t o r t o
+pub takes-other : (b : ℕ) (state r : State) (t o : List ℕ) → (b ≡ code "\n" → ⊥) → Changes (λ (s : Run). longer s b) state r → Follows (λ (s : Run). took s b) state t o r t o
 unfolding took
 takes-other b state r t o e f base s w = rw (ne-eqb b (code "\n") e) (f t o base s w)
 
 -- ---- the bytes that came
 
 abbrev pub Upto : ℕ → List ℕ → State → List ℕ → List ℕ → State → List ℕ → List ℕ → Type 0
-Upto i input = Follows (λ (s : Session). tookAll s (take i input))
+Upto i input = Follows (λ (s : Run). tookAll s (take i input))
 
 pub takes-none : (input : List ℕ) (state : State) (t o : List ℕ) → Upto 0 input state t o state t o
 unfolding tookAll
 takes-none input state t o base s w = w
 
-pub takes-next : (i : ℕ) (input : List ℕ) (a b c : State) (t o t₁ o₁ t₂ o₂ : List ℕ) → i < length input → Upto i input a t o b t₁ o₁ → Follows (λ (s : Session). took s (getD input i 0)) b t₁ o₁ c t₂ o₂ → Upto (i + 1) input a t o c t₂ o₂
+pub takes-next : (i : ℕ) (input : List ℕ) (a b c : State) (t o t₁ o₁ t₂ o₂ : List ℕ) → i < length input → Upto i input a t o b t₁ o₁ → Follows (λ (s : Run). took s (getD input i 0)) b t₁ o₁ c t₂ o₂ → Upto (i + 1) input a t o c t₂ o₂
 unfolding tookAll
 takes-next i input a b c t o t₁ o₁ t₂ o₂ h f g base s w =
     let more : tookAll s (take (i + 1) input) ≡ took (tookAll s (take i input)) (getD input i 0) = rw (add-one i, take-suc input i 0 h) (parts-same s (take i input) (getD input i 0 ∷ [])) in
-    subst (λ (x : Session). Holds base c t₂ o₂ x) (sym more) (g base (tookAll s (take i input)) (f base s w))
+    subst (λ (x : Run). Holds base c t₂ o₂ x) (sym more) (g base (tookAll s (take i input)) (f base s w))
 
-pub takes-all : (i : ℕ) (input : List ℕ) (a b : State) (t o u v : List ℕ) → length input ≤ i → Upto i input a t o b u v → Follows (λ (s : Session). tookAll s input) a t o b u v
-takes-all i input a b t o u v h f = subst (λ (x : List ℕ). Follows (λ (s : Session). tookAll s x) a t o b u v) (take-all i input h) f
+pub takes-all : (i : ℕ) (input : List ℕ) (a b : State) (t o u v : List ℕ) → length input ≤ i → Upto i input a t o b u v → Follows (λ (s : Run). tookAll s input) a t o b u v
+takes-all i input a b t o u v h f = subst (λ (x : List ℕ). Follows (λ (s : Run). tookAll s x) a t o b u v) (take-all i input h) f
 
 -- ---- the end
 
-closed-none : (s : Session) → 0 ≡ length (take 13 (s .line)) → closed s ≡ s
+closed-none : (s : Run) → 0 ≡ length (take 13 (s .line)) → closed s ≡ s
 unfolding closed
 closed-none s e = go (s .line) e
   where
@@ -162,7 +162,7 @@ closed-none s e = go (s .line) e
     go [] z = refl
     go (b ∷ bs) z = absurd (omega (arith, z))
 
-closed-some : (s : Session) → (0 ≡ length (take 13 (s .line)) → ⊥) → closed s ≡ ended s
+closed-some : (s : Run) → (0 ≡ length (take 13 (s .line)) → ⊥) → closed s ≡ ended s
 unfolding closed
 closed-some s e = go (s .line) e
   where
@@ -171,7 +171,7 @@ closed-some s e = go (s .line) e
     go (b ∷ bs) z = refl
 
 pub closes-none : (state : State) (t o : List ℕ) → state .len ≡ 0 → Follows closed state t o state t o
-closes-none state t o z base s w = subst (λ (x : Session). Holds base state t o x) (sym (closed-none s (sym z ∙ w .keeps .count))) w
+closes-none state t o z base s w = subst (λ (x : Run). Holds base state t o x) (sym (closed-none s (sym z ∙ w .keeps .count))) w
 
 pub closes-line : (state r : State) (t o u v : List ℕ) → (state .len ≡ 0 → ⊥) → Follows ended state t o r u v → Follows closed state t o r u v
-closes-line state r t o u v z f base s w = subst (λ (x : Session). Holds base r u v x) (sym (closed-some s (λ e. z (w .keeps .count ∙ sym e)))) (f base s w)
+closes-line state r t o u v z f base s w = subst (λ (x : Run). Holds base r u v x) (sym (closed-some s (λ e. z (w .keeps .count ∙ sym e)))) (f base s w)

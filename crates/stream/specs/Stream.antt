@@ -11,43 +11,43 @@ use Rattle.adjudication.specs.TrueSlip.{TrueSlip}
 -- ---- byte by byte
 
 -- the unfinished line, the man whose table is held, the table, and the slips so far
-pub record Session : Type 0 where
+pub record Run : Type 0 where
   pub line : List ℕ
   pub held : ℕ
   pub table : List ℕ
   pub out : List ℕ
 
 -- no line begun and nothing answered
-abbrev pub fresh : ℕ → List ℕ → Session
+abbrev pub fresh : ℕ → List ℕ → Run
 fresh held t = record { line = []; held = held; table = t; out = [] }
 
--- the same session once its slips are handed out
-abbrev pub quiet : Session → Session
+-- the same run once its slips are handed out
+abbrev pub quiet : Run → Run
 quiet s = record { line = s .line; held = s .held; table = s .table; out = [] }
 
 -- the line that ends here is answered by its slip
-unfoldable pub ended : Session → Session
+unfoldable pub ended : Run → Run
 ended s =
     let o : Outcome = replyOf (s .line) (s .held) (s .table) in
     record { line = []; held = o .held; table = o .table; out = s .out ++ o .slip }
 
 -- "a newline ends the line": any other byte belongs to it, CR and NUL too
-unfoldable pub longer : Session → ℕ → Session
+unfoldable pub longer : Run → ℕ → Run
 longer s b = record { line = s .line ++ b ∷ []; held = s .held; table = s .table; out = s .out }
 
-unfoldable pub took : Session → ℕ → Session
+unfoldable pub took : Run → ℕ → Run
 took s b = cond (eqb b (code "\n")) (ended s) (longer s b)
 
-unfoldable pub tookAll : Session → List ℕ → Session
+unfoldable pub tookAll : Run → List ℕ → Run
 tookAll s [] = s
 tookAll s (b ∷ bs) = tookAll (took s b) bs
 
 -- "(the last may lack it)": at the end an unfinished line is answered, and an empty one is none; "Empty input writes nothing"
-abbrev pub closedBy : List ℕ → Session → Session
+abbrev pub closedBy : List ℕ → Run → Run
 closedBy [] s = s
 closedBy (b ∷ bs) s = ended s
 
-unfoldable pub closed : Session → Session
+unfoldable pub closed : Run → Run
 closed s = closedBy (s .line) s
 
 -- ---- part by part
@@ -58,7 +58,7 @@ wholeOf [] = []
 wholeOf (part ∷ parts) = part ++ wholeOf parts
 
 -- what the desk hands out: after each part its slips, and at the end that of the last line where it lacks its newline
-unfoldable pub handedOut : Session → List (List ℕ) → List ℕ
+unfoldable pub handedOut : Run → List (List ℕ) → List ℕ
 handedOut s [] = closed s .out
 handedOut s (part ∷ parts) = tookAll s part .out ++ handedOut (quiet (tookAll s part)) parts
 
@@ -87,6 +87,6 @@ pub data AllTrue : List (List ℕ) → List ℕ → Type 0 where
   none : AllTrue [] []
   more : (line slip : List ℕ) (lines : List (List ℕ)) (out : List ℕ) → TrueSlip line slip → AllTrue lines out → AllTrue (line ∷ lines) (slip ++ out)
 
--- a session's outcome
-abbrev pub told : Session → Outcome
+-- a run's outcome
+abbrev pub told : Run → Outcome
 told s = record { slip = s .out; held = s .held; table = s .table }

@@ -15,11 +15,11 @@ use Rattle.lines.specs.declared.Request.{Request}
 use Rattle.adjudication.specs.Reply.{Outcome, requestReply, replyOf}
 use Rattle.adjudication.specs.TrueSlip.{Held}
 use Rattle.adjudication.specs.Laws.{reply-right}
-use Rattle.stream.specs.Stream.{Session, fresh, ended, longer, took, tookAll, closedBy, closed, begun, linesOf, answeredAll, AllTrue, told}
+use Rattle.stream.specs.Stream.{Run, fresh, ended, longer, took, tookAll, closedBy, closed, begun, linesOf, answeredAll, AllTrue, told}
 
 -- ---- parts of any size
 
-pub parts-same : (s : Session) (xs ys : List ℕ) → tookAll s (xs ++ ys) ≡ tookAll (tookAll s xs) ys
+pub parts-same : (s : Run) (xs ys : List ℕ) → tookAll s (xs ++ ys) ≡ tookAll (tookAll s xs) ys
 unfolding tookAll
 parts-same s [] ys = refl
 parts-same s (x ∷ xs) ys = parts-same (took s x) xs ys
@@ -55,12 +55,12 @@ after-both : (xs ys : List ℕ) (o : Outcome) → after (xs ++ ys) o ≡ after x
 after-both xs ys o = ap (λ (x : List ℕ). record { slip = x; held = o .held; table = o .table }) (append-assoc xs ys (o .slip))
 
 -- a line answered before the others
-answered-first : (s : Session) (ls : List (List ℕ)) → after (ended s .out) (answeredAll (ended s .held) (ended s .table) ls) ≡ after (s .out) (answeredAll (s .held) (s .table) (s .line ∷ ls))
+answered-first : (s : Run) (ls : List (List ℕ)) → after (ended s .out) (answeredAll (ended s .held) (ended s .table) ls) ≡ after (s .out) (answeredAll (s .held) (s .table) (s .line ∷ ls))
 unfolding ended answeredAll
 answered-first s ls = after-both (s .out) (replyOf (s .line) (s .held) (s .table) .slip) (answeredAll (ended s .held) (ended s .table) ls)
 
 -- at the end of the text
-ends : (s : Session) → told (closed s) ≡ after (s .out) (answeredAll (s .held) (s .table) (alone (s .line)))
+ends : (s : Run) → told (closed s) ≡ after (s .out) (answeredAll (s .held) (s .table) (alone (s .line)))
 unfolding closed answeredAll ended
 ends s = go (s .line) refl
   where
@@ -70,12 +70,12 @@ ends s = go (s .line) refl
         ap (λ (x : List ℕ). record { slip = s .out ++ replyOf x (s .held) (s .table) .slip; held = replyOf x (s .held) (s .table) .held; table = replyOf x (s .held) (s .table) .table }) e
         ∙ ap (λ (x : List ℕ). record { slip = s .out ++ x; held = replyOf (b ∷ bs) (s .held) (s .table) .held; table = replyOf (b ∷ bs) (s .held) (s .table) .table }) (sym (append-nil (replyOf (b ∷ bs) (s .held) (s .table) .slip)))
 
--- what is told of a session that takes these bytes: it answers the lines that its unfinished line and they make
-abbrev GoesOn : Session → List ℕ → Type 0
+-- what is told of a run that takes these bytes: it answers the lines that its unfinished line and they make
+abbrev GoesOn : Run → List ℕ → Type 0
 GoesOn s bs = told (closed (tookAll s bs)) ≡ after (s .out) (answeredAll (s .held) (s .table) (joined (s .line) (linesOf bs)))
 
 -- one byte more, by whether it ends the line
-one-more : (s : Session) (b : ℕ) (bs : List ℕ) → GoesOn (ended s) bs → GoesOn (longer s b) bs → GoesOn s (b ∷ bs)
+one-more : (s : Run) (b : ℕ) (bs : List ℕ) → GoesOn (ended s) bs → GoesOn (longer s b) bs → GoesOn s (b ∷ bs)
 unfolding tookAll linesOf took longer ended
 one-more s b bs h k = go (eqb b (code "\n"))
   where
@@ -90,7 +90,7 @@ one-more s b bs h k = go (eqb b (code "\n"))
     go true = line-ends
     go false = k ∙ ap (λ (ls : List (List ℕ)). after (s .out) (answeredAll (s .held) (s .table) ls)) (joined-more (s .line) b (linesOf bs))
 
-goes-on : (s : Session) (bs : List ℕ) → GoesOn s bs
+goes-on : (s : Run) (bs : List ℕ) → GoesOn s bs
 unfolding tookAll linesOf
 goes-on s [] = ends s
 goes-on s (b ∷ bs) = one-more s b bs (goes-on (ended s) bs) (goes-on (longer s b) bs)

@@ -1,6 +1,6 @@
 -- What waits in the output is the slips: 16 bytes for each byte taken are room enough, and slips handed out part by part are those of the whole. Assumes nothing.
 use mathlib.Core.Path.{_≡_, refl, sym, ap, subst, _∙_}
-use mathlib.Core.Bool.{Bool, true, false, cond, not}
+use mathlib.Core.Bool.{Bool, true, false, cond}
 use mathlib.Core.List.{List, [], _∷_, _++_, append-assoc, append-nil}
 use Prim.Native.Nat.{ℕ, _+_, _*_, _≤_, _<_}
 use Prim.Native.Char.{code}
@@ -10,56 +10,22 @@ use lib.Dec.{eqb}
 use lib.ListN.{length, set, take, length-append, length-set}
 use lib.Seq.{take-suc-set}
 use borrow.Author.Tests.{lt-ltb}
-use Rattle.answers.specs.declared.Answer.{Answer}
-use Rattle.answers.specs.declared.Filled.{Filled}
-use Rattle.position.specs.declared.Position.{Position}
-use Rattle.position.specs.Keyed.{standing}
-use Rattle.index.specs.Answers.{placedAt}
 use Rattle.endings.specs.Chess.{tableSize}
-use Rattle.endings.specs.Answers.{fillOf, lookUpOf}
-use Rattle.lines.specs.declared.Request.{Request}
-use Rattle.lines.specs.Grammar.{requestOf}
-use Rattle.slips.specs.Lengths.{answer-line, placed-line}
-use Rattle.adjudication.specs.Reply.{Outcome, filledReply, lookUpReply, requestReply, replyOf}
+use Rattle.adjudication.specs.Reply.{Outcome, replyOf}
 use Rattle.adjudication.specs.TrueSlip.{Held}
+use Rattle.adjudication.specs.Short.{reply-short}
 use Rattle.stream.specs.declared.State.{State}
-use Rattle.stream.specs.Stream.{Session, fresh, quiet, ended, longer, took, tookAll, closedBy, closed, wholeOf, handedOut, linesOf, answeredAll, AllTrue}
+use Rattle.stream.specs.Stream.{Run, fresh, quiet, ended, longer, took, tookAll, closedBy, closed, wholeOf, handedOut, linesOf, answeredAll, AllTrue}
 use Rattle.stream.specs.Streamed.{parts-same, stream-lines, stream-true}
 use Rattle.stream.specs.Keeping.{Sheet, put, putAll, Holds}
 
 -- ---- room
 
--- a slip is at most 16 bytes
-abbrev Short : Outcome → Type 0
-Short o = length (o .slip) ≤ 16
-
-short-either : (q : Bool) (x y : Outcome) → Short x → Short y → Short (cond q x y)
-short-either true x y h k = h
-short-either false x y h k = k
-
-filled-short : (p : Position) (f : Filled) (t : List ℕ) → Short (filledReply p f t)
-filled-short p (Filled.Greatest n) t = answer-line (lookUpOf t p) .most
-filled-short p Filled.NoneDecided t = answer-line (lookUpOf t p) .most
-filled-short p (Filled.Refused n) t = answer-line (Answer.Refused n) .most
-
-look-up-short : (p : Position) (held : ℕ) (t : List ℕ) → Short (lookUpReply p held t)
-unfolding lookUpReply
-look-up-short p held t = short-either (not (eqb (standing p) 0)) _ _ (answer-line (Answer.Refused (standing p)) .most) (short-either (eqb (p .man) held) _ _ (answer-line (lookUpOf t p) .most) (filled-short p (fillOf (p .man) t .answer) (fillOf (p .man) t .bytes)))
-
-reply-short : (l : List ℕ) (held : ℕ) (t : List ℕ) → Short (replyOf l held t)
-unfolding replyOf
-reply-short l held t = go (requestOf l)
-  where
-    go : (r : Request) → Short (requestReply r held t)
-    go (Request.LookUp p) = look-up-short p held t
-    go (Request.Back man n) = placed-line (placedAt man n) .most
-    go (Request.Refused n) = answer-line (Answer.Refused n) .most
-
-ended-room : (s : Session) → length (ended s .out) ≤ length (s .out) + 16
+ended-room : (s : Run) → length (ended s .out) ≤ length (s .out) + 16
 unfolding ended
 ended-room s = let h = reply-short (s .line) (s .held) (s .table) in let e = length-append (s .out) (replyOf (s .line) (s .held) (s .table) .slip) in omega (arith, h, e)
 
-took-room : (s : Session) (b : ℕ) → length (took s b .out) ≤ length (s .out) + 16
+took-room : (s : Run) (b : ℕ) → length (took s b .out) ≤ length (s .out) + 16
 unfolding took longer
 took-room s b = go (eqb b (code "\n"))
   where
@@ -68,12 +34,12 @@ took-room s b = go (eqb b (code "\n"))
     go false = omega arith
 
 -- A part of n bytes is answered by at most 16 n bytes, and the last line by 16.
-pub part-room : (s : Session) (input : List ℕ) → length (tookAll s input .out) ≤ length (s .out) + 16 * length input
+pub part-room : (s : Run) (input : List ℕ) → length (tookAll s input .out) ≤ length (s .out) + 16 * length input
 unfolding tookAll
 part-room s [] = omega arith
 part-room s (b ∷ bs) = let h = took-room s b in let k = part-room (took s b) bs in omega (arith, h, k)
 
-pub close-room : (s : Session) → length (closed s .out) ≤ length (s .out) + 16
+pub close-room : (s : Run) → length (closed s .out) ≤ length (s .out) + 16
 unfolding closed
 close-room s = go (s .line)
   where
@@ -103,27 +69,27 @@ all-written s (b ∷ bs) h =
     ∙ append-assoc (written s) (b ∷ []) bs
 
 -- Where an output begun anew has room for the slips, what waits in it is the slips.
-pub slips-wait : (p : List ℕ) (state : State) (t o : List ℕ) (s : Session) → Holds (record { bytes = p; used = 0 }) state t o s → length (s .out) ≤ length p → take (state .waiting) o ≡ s .out
+pub slips-wait : (p : List ℕ) (state : State) (t o : List ℕ) (s : Run) → Holds (record { bytes = p; used = 0 }) state t o s → length (s .out) ≤ length p → take (state .waiting) o ≡ s .out
 slips-wait p state t o s w h = ap written (w .out) ∙ all-written (record { bytes = p; used = 0 }) (s .out) (omega (arith, h))
 
 -- A part's slips where the output has 16 bytes for each byte of the part, and the last line's where it has 16.
-pub part-waits : (p : List ℕ) (state : State) (t o : List ℕ) (s : Session) (part : List ℕ) → Holds (record { bytes = p; used = 0 }) state t o (tookAll (quiet s) part) → 16 * length part ≤ length p → take (state .waiting) o ≡ tookAll (quiet s) part .out
+pub part-waits : (p : List ℕ) (state : State) (t o : List ℕ) (s : Run) (part : List ℕ) → Holds (record { bytes = p; used = 0 }) state t o (tookAll (quiet s) part) → 16 * length part ≤ length p → take (state .waiting) o ≡ tookAll (quiet s) part .out
 part-waits p state t o s part w h = let k = part-room (quiet s) part in slips-wait p state t o (tookAll (quiet s) part) w (omega (arith, h, k))
 
-pub close-waits : (p : List ℕ) (state : State) (t o : List ℕ) (s : Session) → Holds (record { bytes = p; used = 0 }) state t o (closed (quiet s)) → 16 ≤ length p → take (state .waiting) o ≡ closed (quiet s) .out
+pub close-waits : (p : List ℕ) (state : State) (t o : List ℕ) (s : Run) → Holds (record { bytes = p; used = 0 }) state t o (closed (quiet s)) → 16 ≤ length p → take (state .waiting) o ≡ closed (quiet s) .out
 close-waits p state t o s w h = let k = close-room (quiet s) in slips-wait p state t o (closed (quiet s)) w (omega (arith, h, k))
 
 -- ---- part by part
 
--- a session with slips put out before
-abbrev pub after : List ℕ → Session → Session
+-- a run with slips put out before
+abbrev pub after : List ℕ → Run → Run
 after out s = record { line = s .line; held = s .held; table = s .table; out = out ++ s .out }
 
-ended-after : (out : List ℕ) (s : Session) → ended (after out s) ≡ after out (ended s)
+ended-after : (out : List ℕ) (s : Run) → ended (after out s) ≡ after out (ended s)
 unfolding ended
 ended-after out s = ap (λ (x : List ℕ). record { line = []; held = replyOf (s .line) (s .held) (s .table) .held; table = replyOf (s .line) (s .held) (s .table) .table; out = x }) (append-assoc out (s .out) (replyOf (s .line) (s .held) (s .table) .slip))
 
-took-after : (out : List ℕ) (s : Session) (b : ℕ) → took (after out s) b ≡ after out (took s b)
+took-after : (out : List ℕ) (s : Run) (b : ℕ) → took (after out s) b ≡ after out (took s b)
 unfolding took longer
 took-after out s b = go (eqb b (code "\n"))
   where
@@ -131,19 +97,19 @@ took-after out s b = go (eqb b (code "\n"))
     go true = ended-after out s
     go false = refl
 
-took-all-after : (out : List ℕ) (s : Session) (input : List ℕ) → tookAll (after out s) input ≡ after out (tookAll s input)
+took-all-after : (out : List ℕ) (s : Run) (input : List ℕ) → tookAll (after out s) input ≡ after out (tookAll s input)
 unfolding tookAll
 took-all-after out s [] = refl
-took-all-after out s (b ∷ bs) = ap (λ (x : Session). tookAll x bs) (took-after out s b) ∙ took-all-after out (took s b) bs
+took-all-after out s (b ∷ bs) = ap (λ (x : Run). tookAll x bs) (took-after out s b) ∙ took-all-after out (took s b) bs
 
-after-quiet : (s : Session) → after (s .out) (quiet s) ≡ s
+after-quiet : (s : Run) → after (s .out) (quiet s) ≡ s
 after-quiet s = ap (λ (x : List ℕ). record { line = s .line; held = s .held; table = s .table; out = x }) (append-nil (s .out))
 
 -- What comes after slips were handed out is what would have come after them.
-pub part-after : (s : Session) (input : List ℕ) → tookAll s input ≡ after (s .out) (tookAll (quiet s) input)
-part-after s input = ap (λ (x : Session). tookAll x input) (sym (after-quiet s)) ∙ took-all-after (s .out) (quiet s) input
+pub part-after : (s : Run) (input : List ℕ) → tookAll s input ≡ after (s .out) (tookAll (quiet s) input)
+part-after s input = ap (λ (x : Run). tookAll x input) (sym (after-quiet s)) ∙ took-all-after (s .out) (quiet s) input
 
-pub close-after : (s : Session) → closed s ≡ after (s .out) (closed (quiet s))
+pub close-after : (s : Run) → closed s ≡ after (s .out) (closed (quiet s))
 unfolding closed
 close-after s = go (s .line)
   where
@@ -153,15 +119,15 @@ close-after s = go (s .line)
 
 -- ---- the desk's run
 
-handed-after : (s : Session) (parts : List (List ℕ)) → s .out ++ handedOut (quiet s) parts ≡ closed (tookAll s (wholeOf parts)) .out
+handed-after : (s : Run) (parts : List (List ℕ)) → s .out ++ handedOut (quiet s) parts ≡ closed (tookAll s (wholeOf parts)) .out
 unfolding handedOut tookAll
-handed-after s [] = ap (λ (x : Session). x .out) (sym (close-after s))
+handed-after s [] = ap (λ (x : Run). x .out) (sym (close-after s))
 handed-after s (part ∷ parts) =
     let e : tookAll s part ≡ after (s .out) (tookAll (quiet s) part) = part-after s part in
     sym (append-assoc (s .out) (tookAll (quiet s) part .out) (handedOut (quiet (tookAll (quiet s) part)) parts))
-    ∙ ap (λ (x : Session). x .out ++ handedOut (quiet x) parts) (sym e)
+    ∙ ap (λ (x : Run). x .out ++ handedOut (quiet x) parts) (sym e)
     ∙ handed-after (tookAll s part) parts
-    ∙ ap (λ (x : Session). closed x .out) (sym (parts-same s part (wholeOf parts)))
+    ∙ ap (λ (x : Run). closed x .out) (sym (parts-same s part (wholeOf parts)))
 
 -- In whatever parts the input comes, the desk hands out the slips of the whole text's lines.
 pub run-lines : (held : ℕ) (t : List ℕ) (parts : List (List ℕ)) → handedOut (fresh held t) parts ≡ answeredAll held t (linesOf (wholeOf parts)) .slip

@@ -5,7 +5,7 @@ use slips::Slip;
 ghost use mathlib.Core.Path.{_≡_};
 ghost use lib.ListN.{take};
 ghost use Rattle.adjudication.specs.TrueSlip.{Answered};
-ghost use Rattle.stream.specs.Stream.{Session, ended, longer, took, tookAll, closed};
+ghost use Rattle.stream.specs.Stream.{Run, ended, longer, took, tookAll, closed};
 ghost use Rattle.stream.specs.Keeping.{Follows, Changes, Starts, Empties, put, putAll};
 
 // What is kept from byte to byte: the unfinished line, the man whose table is held, and how much of the output waits.
@@ -44,7 +44,7 @@ pub fn flushed(state: State) -> State
 
 // The state with one byte more of its line.
 fn with_byte(state: State, b: u8) -> State
-    ensures { λ r. ⌜ Changes (λ (s : Session). longer s b) state r ⌝ }
+    ensures { λ r. ⌜ Changes (λ (s : Run). longer s b) state r ⌝ }
 {
     let at = state.len;
     if at >= 13 {
@@ -119,7 +119,7 @@ fn end_line(state: State, table: &mut [u8], output: &mut [u8]) -> State
 
 // Takes one byte.
 fn take_byte(b: u8, state: State, table: &mut [u8], output: &mut [u8]) -> State
-    ensures { λ r. ⌜ Follows (λ (s : Session). took s b) state (now (table .entry)) (now (output .entry)) r (now (table .exit)) (now (output .exit)) ⌝ }
+    ensures { λ r. ⌜ Follows (λ (s : Run). took s b) state (now (table .entry)) (now (output .entry)) r (now (table .exit)) (now (output .exit)) ⌝ }
 {
     if b == b'\n' {
         return end_line(state, &mut *table, &mut *output);
@@ -129,7 +129,7 @@ fn take_byte(b: u8, state: State, table: &mut [u8], output: &mut [u8]) -> State
 
 // Takes the bytes that came.
 pub fn take_all(input: &[u8], start: State, table: &mut [u8], output: &mut [u8]) -> State
-    ensures { λ r. ⌜ Follows (λ (s : Session). tookAll s (now (input .entry))) start (now (table .entry)) (now (output .entry)) r (now (table .exit)) (now (output .exit)) ⌝ }
+    ensures { λ r. ⌜ Follows (λ (s : Run). tookAll s (now (input .entry))) start (now (table .entry)) (now (output .entry)) r (now (table .exit)) (now (output .exit)) ⌝ }
 {
     let mut state = start;
     let mut i = 0;
