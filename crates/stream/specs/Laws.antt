@@ -175,3 +175,14 @@ closes-none state t o z base s w = subst (λ (x : Run). Holds base state t o x) 
 
 pub closes-line : (state r : State) (t o u v : List ℕ) → (state .len ≡ 0 → ⊥) → Follows ended state t o r u v → Follows closed state t o r u v
 closes-line state r t o u v z f base s w = subst (λ (x : Run). Holds base r u v x) (sym (closed-some s (λ e. z (w .keeps .count ∙ sym e)))) (f base s w)
+
+-- ---- no state is left out
+
+-- Every state that counts at most 13 kept bytes holds a run, over any table and output: what is promised of a run is promised of it.
+pub any-state : (state : State) (t o : List ℕ) → length (state .line) ≡ 13 → state .len ≤ 13
+    → Holds (sheet o (state .waiting)) state t o (record { line = take (state .len) (state .line); held = state .held; table = t; out = [] })
+unfolding putAll
+any-state state t o e h =
+    let l : length (take (state .len) (state .line)) ≡ state .len = length-take-le (state .len) (state .line) (omega arith) in
+    let k = take-all 13 (take (state .len) (state .line)) (omega arith) in
+    record { keeps = record { long = e; count = sym (ap length k ∙ l); bytes = sym k }; held = refl; table = refl; out = refl }
