@@ -1,0 +1,52 @@
+-- Writing a number with its check: refusals 8 and 9 for any man alike, and what is written is right. Assumes nothing.
+use mathlib.Core.Path.{_≡_, refl, ap, sym, _∙_}
+use mathlib.Core.Bool.{Bool, true, false, cond}
+use mathlib.Core.List.{List}
+use Prim.Native.Nat.{ℕ, _<_, _≤_}
+use lib.Dec.{leb, lit<}
+use lib.ListN.{replicate}
+use borrow.Author.Tests.{lt-leb}
+use Rattle.position.specs.declared.Position.{Position}
+use Rattle.index.specs.declared.Placed.{Placed}
+use Rattle.index.specs.Answers.{placedAt, positionAt, unused}
+use Rattle.index.specs.AnswerLaws.{placed-above, placed-unused, placed-used}
+use Rattle.check_digits.specs.declared.Written.{Written}
+use Rattle.check_digits.specs.Check.{withCheck, digitBytes}
+use Rattle.check_digits.specs.Writing.{writtenBy, writtenOf}
+
+-- by what numbering back answers, as code finds it
+pub writes-at : (n : ℕ) (p : Position) → Placed.At p ≡ placedAt 0 n → (bs : List ℕ) → bs ≡ digitBytes 7 (withCheck n)
+    → _≡_ {A = Written} (record { refusal = 0; digits = bs }) (writtenOf n)
+unfolding writtenOf writtenBy
+writes-at n p e bs d = rw (← e, d)
+
+pub writes-refused : (n k : ℕ) → Placed.Refused k ≡ placedAt 0 n → _≡_ {A = Written} (record { refusal = k; digits = replicate 7 0 }) (writtenOf n)
+unfolding writtenOf writtenBy
+writes-refused n k e = rw (← e)
+
+-- 59,136 and above is refused 8
+pub writes-8 : (n : ℕ) → 59136 ≤ n → writtenOf n ≡ record { refusal = 8; digits = replicate 7 0 }
+unfolding writtenOf writtenBy
+writes-8 n h = rw (placed-above 0 n (lit< tt) h)
+
+-- an unused number is refused 9
+pub writes-9 : (n : ℕ) → n < 59136 → unused (positionAt 0 n) ≡ true → writtenOf n ≡ record { refusal = 9; digits = replicate 7 0 }
+unfolding writtenOf writtenBy
+writes-9 n h u = rw (placed-unused 0 n (lit< tt) h u)
+
+-- any other is written with its check
+pub writes-used : (n : ℕ) → n < 59136 → unused (positionAt 0 n) ≡ false → writtenOf n ≡ record { refusal = 0; digits = digitBytes 7 (withCheck n) }
+unfolding writtenOf writtenBy
+writes-used n h u = rw (placed-used 0 n (lit< tt) h u)
+
+either : (n : ℕ) (a u : Bool) (p q : Position)
+    → writtenBy n (cond a (Placed.Refused 8) (cond u (Placed.Refused 9) (Placed.At p))) ≡ writtenBy n (cond a (Placed.Refused 8) (cond u (Placed.Refused 9) (Placed.At q)))
+unfolding writtenBy
+either n true u p q = refl
+either n false true p q = refl
+either n false false p q = refl
+
+-- what a number is written as does not depend on the man
+pub same-for-all : (man n : ℕ) → man < 4 → writtenBy n (placedAt man n) ≡ writtenOf n
+unfolding writtenOf placedAt unused positionAt
+same-for-all man n h = rw (lt-leb 4 man h) (either n (leb 59136 n) (unused (positionAt 0 n)) (positionAt man n) (positionAt 0 n))
