@@ -78,7 +78,7 @@ letter-fits : (letter : ℕ) → (letter ≡ code " " → ⊥) → T (fitsPlace 
 unfolding fitsPlace
 letter-fits letter h = rw (ne-eqb letter (code " ") h) tt
 
-no-space : (letter : ℕ) → manOf letter < 4 → letter ≡ code " " → ⊥
+pub no-space : (letter : ℕ) → manOf letter < 4 → letter ≡ code " " → ⊥
 unfolding manOf
 no-space letter h e = let f : manOf (code " ") < 4 = subst (λ (b : ℕ). manOf b < 4) e h in omega arith
 

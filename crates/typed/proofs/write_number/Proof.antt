@@ -1,9 +1,9 @@
--- `check_digits::write_number` meets its contract, arm by arm. Assumes nothing.
+-- `typed::write_number` meets its contract, arm by arm. Assumes nothing.
 use mathlib.Core.Path.{sym, _∙_}
 use borrow.Author.Needs.{needs}
-use Rattle.check_digits.specs.WritingLaws.{writes-at, writes-refused}
-use Rattle.check_digits.proofs.write_number.Statement.{statement}
-use Rattle.check_digits.proofs.write_number.Tie as tie
+use Rattle.typed.specs.WritingLaws.{writes-at, writes-refused}
+use Rattle.typed.proofs.write_number.Statement.{statement}
+use Rattle.typed.proofs.write_number.Tie as tie
 
 position-of-requires : tie.Need-position-of-requires
 position-of-requires c κs = search needs
