@@ -71,6 +71,11 @@ typed-right line e t = subst (λ (n : ℕ). T (rightNumber n)) (seven-reads line
 
 -- ---- a number line by its check
 
+-- "The old nine-byte line becomes refusal 12", as any other length does
+pub other-length : (line : List ℕ) → (length line ≡ 11 → ⊥) → (length line ≡ 12 → ⊥) → requestOf line ≡ Request.Refused 12
+unfolding requestOf
+other-length line a b = rw (shape-longer positionShape line (λ e. b (sym e)), shape-longer numberShape line (λ e. a (sym e)))
+
 pub request-12 : (line : List ℕ) → length line ≡ 11 → (T (hasShape numberShape line) → ⊥) → requestOf line ≡ Request.Refused 12
 unfolding requestOf
 request-12 line e w = rw (shape-longer positionShape line (λ d. absurd (omega (arith, d))), fails (hasShape numberShape line) w)
