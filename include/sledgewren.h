@@ -41,6 +41,9 @@ extern "C" {
 #define SLEDGEWREN_MOVES_BYTES 70
 #define SLEDGEWREN_SLIP_BYTES 16
 
+/* Digits of a typed number, its check included. */
+#define SLEDGEWREN_TYPED_DIGITS 7
+
 /* No position has more legal moves. */
 #define SLEDGEWREN_MOST_MOVES 35
 
@@ -74,7 +77,7 @@ enum sledgewren_value {
     SLEDGEWREN_DRAW = 3
 };
 
-/* Where several apply the lowest counts, except that a line's shape comes first. */
+/* Where several apply the lowest counts, except that a line's shape comes first, then its check. */
 enum sledgewren_refusal {
     SLEDGEWREN_NOT_REFUSED = 0,
     SLEDGEWREN_BAD_MAN = 1,          /* material code above 3 */
@@ -88,7 +91,8 @@ enum sledgewren_refusal {
     SLEDGEWREN_NUMBER_UNUSED = 9,    /* number unused */
     SLEDGEWREN_TOO_DEEP = 10,        /* a legal position's true depth exceeds 253 */
     SLEDGEWREN_INCONSISTENT = 11,    /* the byte is not what the successors' bytes require */
-    SLEDGEWREN_BAD_LINE = 12         /* line of the wrong shape */
+    SLEDGEWREN_BAD_LINE = 12,        /* line of the wrong shape */
+    SLEDGEWREN_BAD_CHECK = 13        /* check digits of a typed number wrong */
 };
 
 /*
@@ -103,6 +107,14 @@ uint32_t sledgewren_number(uint8_t man, uint8_t side, uint8_t white, uint8_t squ
  *   bits 0-7 refusal, 8-15 side, 16-23 white king, 24-31 man's square, 32-39 black king
  */
 uint64_t sledgewren_position(uint8_t man, uint32_t number);
+
+/*
+ * A number as a clerk types it: its five digits and two check digits (ISO 7064 MOD 97-10), so that
+ * a line of the desk with one digit altered, or two unequal neighbours exchanged, is refused 13.
+ * Refusals 8, 9.
+ *   bits 0-7 refusal, 8-15 the first digit as a character, and so on to 56-63, the seventh
+ */
+uint64_t sledgewren_write_number(uint32_t number);
 
 /*
  * How many legal moves a position has. Refusals 1 to 6.

@@ -1,6 +1,6 @@
 /*
- * Fills the queen's table, has it checked, and looks three positions up. From the repository's
- * root:
+ * Fills the queen's table, has it checked, looks three positions up, and writes a number with its
+ * check digits. From the repository's root:
  *
  *   cc -std=c99 -Iinclude host/c/example.c target/staticlib/libhost.a -o target/c-example
  */
@@ -39,6 +39,21 @@ static void look_up(uint8_t side, uint8_t queen)
     printf("\n");
 }
 
+static void write_number(uint32_t number)
+{
+    uint64_t answer = sledgewren_write_number(number);
+    int place;
+
+    printf("number %lu: ", (unsigned long)number);
+    if (SLEDGEWREN_BITS(answer, 0) != SLEDGEWREN_NOT_REFUSED) {
+        printf("refused %d\n", SLEDGEWREN_BITS(answer, 0));
+        return;
+    }
+    for (place = 0; place < SLEDGEWREN_TYPED_DIGITS; place++)
+        putchar(SLEDGEWREN_BITS(answer, 8 + 8 * place));
+    printf("\n");
+}
+
 int main(void)
 {
     uint32_t filled = sledgewren_fill(SLEDGEWREN_QUEEN, table, sizeof table);
@@ -52,5 +67,7 @@ int main(void)
     look_up(SLEDGEWREN_WHITE, 15);
     look_up(SLEDGEWREN_BLACK, 9);
     look_up(SLEDGEWREN_WHITE, 9);
+    write_number(2049);
+    write_number(2056);
     return 0;
 }

@@ -58,7 +58,8 @@ fn adjudicate() -> Result<(), Box<dyn Error>> {
     let words: Vec<String> = env::args().skip(1).collect();
     let words = if words.is_empty() { DEFAULT.map(String::from).to_vec() } else { words };
     let position = read(&words)?;
-    println!("{position} is number {}, {} moves", position.number()?, position.count()?);
+    let (typed, count) = (position.typed()?, position.count()?);
+    println!("{position} is number {}, typed {typed}, {count} moves", typed.number());
     let mut table = Table::zeroed();
     match table.fill(position.man)? {
         Some(depth) => println!("{}: greatest depth {depth}", position.man),

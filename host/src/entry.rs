@@ -1,11 +1,13 @@
-//! The library's eight entry points, one function each, on any bytes and any lengths.
+//! The library's entry points, one function each, on any bytes and any lengths.
 //!
 //! A position is given as [`Keyed`], five bytes of any values, or as a
 //! [`Position`]; a man as his code, any byte, or as a [`Man`]. The methods of the crate's types
 //! rest on these functions.
 
 use crate::ffi;
-use crate::{Answer, Checked, Keyed, Man, Move, Moves, Position, Refusal, Side, Slip, Square};
+use crate::{
+    Answer, Checked, Keyed, Man, Move, Moves, Position, Refusal, Side, Slip, Square, Typed,
+};
 use crate::{MOST_MOVES, SLIP_BYTES};
 
 /// The linked library is not the one this crate is written for.
@@ -61,6 +63,15 @@ pub fn position(man: impl Into<u8>, number: u32) -> Result<Position, Refusal> {
         }),
         None => broken("position", answer),
     }
+}
+
+/// A number with its check digits, as a clerk types it. Refusals 8, 9.
+pub fn write_number(number: u32) -> Result<Typed, Refusal> {
+    // SAFETY: no pointers.
+    let answer = unsafe { ffi::sledgewren_write_number(number) };
+    unless_refused("write_number", answer)?;
+    let typed = Typed::new(number, (answer >> 8).to_le_bytes());
+    Ok(typed.unwrap_or_else(|| broken("write_number", answer)))
 }
 
 /// How many legal moves a position has, at most 35. Refusals 1 to 6.

@@ -11,6 +11,9 @@ extern "C" {
     /// Bits 0-7 refusal, 8-15 side, 16-23 white king, 24-31 man's square, 32-39 black king.
     pub fn sledgewren_position(man: u8, number: u32) -> u64;
 
+    /// Bits 0-7 refusal, 8-15 the first digit as a character, and so on to 56-63, the seventh.
+    pub fn sledgewren_write_number(number: u32) -> u64;
+
     /// Bits 0-7 refusal, 8-15 count of legal moves.
     pub fn sledgewren_count(man: u8, side: u8, white: u8, square: u8, black: u8) -> u32;
 

@@ -28,6 +28,7 @@
 //! |---|---|---|
 //! | `sledgewren_number` | [`entry::number`] | [`Position::number`] |
 //! | `sledgewren_position` | [`entry::position`] | [`Position::from_number`] |
+//! | `sledgewren_write_number` | [`entry::write_number`] | [`Typed::of`], [`Position::typed`] |
 //! | `sledgewren_count` | [`entry::count`] | [`Position::count`] |
 //! | `sledgewren_moves` | [`entry::moves`] | [`Position::moves`] |
 //! | `sledgewren_fill` | [`entry::fill`] | [`Table::fill`], [`Table::filled`] |
@@ -47,6 +48,7 @@ mod position;
 mod refusal;
 mod square;
 mod table;
+mod typed;
 
 pub use answer::{Answer, Checked, Value};
 pub use desk::{Desk, Slip, SLIP_BYTES};
@@ -56,3 +58,4 @@ pub use position::{Keyed, Position};
 pub use refusal::Refusal;
 pub use square::{NoSquare, Square};
 pub use table::{Accepted, Table, TABLE_BYTES};
+pub use typed::{Typed, TYPED_DIGITS};

@@ -3,7 +3,7 @@
 use std::fmt;
 
 /// Why an entry point gives no answer. Where several apply the lowest counts, except that a
-/// line's shape comes first.
+/// line's shape comes first, then its check.
 #[derive(Clone, Copy, PartialEq, Eq, Hash, Debug)]
 pub enum Refusal {
     /// 1: material code above 3.
@@ -30,11 +30,13 @@ pub enum Refusal {
     Inconsistent = 11,
     /// 12: line of the wrong shape.
     BadLine = 12,
+    /// 13: check digits of a typed number wrong.
+    BadCheck = 13,
 }
 
 impl Refusal {
-    /// All twelve, in order.
-    pub const ALL: [Refusal; 12] = [
+    /// All thirteen, in order.
+    pub const ALL: [Refusal; 13] = [
         Refusal::BadMan,
         Refusal::BadSide,
         Refusal::BadSquare,
@@ -47,14 +49,15 @@ impl Refusal {
         Refusal::TooDeep,
         Refusal::Inconsistent,
         Refusal::BadLine,
+        Refusal::BadCheck,
     ];
 
-    /// The refusal with this number, or none but for 1 to 12.
+    /// The refusal with this number, or none but for 1 to 13.
     pub fn from_code(code: u8) -> Option<Refusal> {
         Refusal::ALL.into_iter().find(|refusal| refusal.code() == code)
     }
 
-    /// Its number, 1 to 12.
+    /// Its number, 1 to 13.
     pub fn code(self) -> u8 {
         self as u8
     }
@@ -74,6 +77,7 @@ impl Refusal {
             Refusal::TooDeep => "a legal position's true depth exceeds 253",
             Refusal::Inconsistent => "the byte is not what the successors' bytes require",
             Refusal::BadLine => "line of the wrong shape",
+            Refusal::BadCheck => "check digits of a typed number wrong",
         }
     }
 }
@@ -94,7 +98,7 @@ mod tests {
     #[test]
     fn numbers_come_back() {
         for code in 0..=255 {
-            let expected = (1..=12).contains(&code).then_some(code);
+            let expected = (1..=13).contains(&code).then_some(code);
             assert_eq!(Refusal::from_code(code).map(Refusal::code), expected);
         }
     }

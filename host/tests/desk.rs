@@ -1,4 +1,4 @@
-//! The desk: the scope paper's run, the table it holds, and whole inputs.
+//! The desk: the scope paper's run with check digits, the table it holds, and whole inputs.
 
 use sledgewren::{Desk, Man};
 
@@ -10,7 +10,7 @@ Q b h8 b2 a1
 Q w b3 b2 a1
 P w b3 h2 a1
 Q w b3 h2
-Q # 02049
+Q # 0204962
 ";
 
 const OUTPUT: &str = "\
@@ -52,7 +52,7 @@ fn the_table_held_follows_the_lines() {
     assert_eq!(desk.held(), None);
     assert_eq!(desk.answer(b"R b a3 h1 a1").text(), "loss 0");
     assert_eq!(desk.held(), Some(Man::Rook));
-    assert_eq!(desk.answer(b"Q # 02049").text(), "w a1 b1 h8");
+    assert_eq!(desk.answer(b"Q # 0204962").text(), "w a1 b1 h8");
     assert_eq!(desk.held(), Some(Man::Rook));
     assert_eq!(desk.answer(b"Q b b3 b2 a1").text(), "loss 0");
     assert_eq!(desk.held(), Some(Man::Queen));
@@ -65,18 +65,18 @@ fn the_last_newline() {
     assert_eq!(run(b""), "");
     assert_eq!(run(b"\n"), "refused 12\n");
     assert_eq!(run(b"\n\n"), "refused 12\nrefused 12\n");
-    assert_eq!(run(b"Q # 02049"), "w a1 b1 h8\n");
-    assert_eq!(run(b"Q # 02049\n"), "w a1 b1 h8\n");
-    assert_eq!(run(b"Q # 02049\r\n"), "refused 12\n");
+    assert_eq!(run(b"Q # 0204962"), "w a1 b1 h8\n");
+    assert_eq!(run(b"Q # 0204962\n"), "w a1 b1 h8\n");
+    assert_eq!(run(b"Q # 0204962\r\n"), "refused 12\n");
     assert_eq!(run(b"\nx"), "refused 12\nrefused 12\n");
 }
 
 #[test]
 fn long_lines() {
-    let mut input = b"Q # 02049".to_vec();
+    let mut input = b"Q # 0204962".to_vec();
     input.resize(1 << 20, b'0');
     input.push(b'\n');
-    input.extend_from_slice(b"Q # 02049\n");
+    input.extend_from_slice(b"Q # 0204962\n");
     assert_eq!(run(&input), "refused 12\nw a1 b1 h8\n");
     let mut desk = Desk::new();
     assert_eq!(desk.answer(&input).text(), "refused 12");

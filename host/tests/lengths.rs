@@ -61,7 +61,7 @@ fn slips() {
     let mut table = vec![DIRT; TABLE_BYTES];
     for len in [0, 1, 11, 15, 17, 32] {
         let mut slip = vec![DIRT; len];
-        for line in [&b"Q w b3 h2 a1"[..], b"Q # 02049", b""] {
+        for line in [&b"Q w b3 h2 a1"[..], b"Q # 0204962", b""] {
             assert_eq!(answer_line(line, 4, &mut table, &mut slip), 0xFFFF, "{len} bytes");
             assert!(untouched(&slip) && untouched(&table), "{len} bytes");
         }

@@ -119,10 +119,40 @@ fn eleven_on_damaged_bytes() {
 fn twelve_at_the_desk() {
     let mut desk = Desk::new();
     let lines =
-        ["", " ", "Q", "Q w b3 h2", "Q w b3 h2 a1 ", "Q  w b3 h2a1", "Q # 0204", "Q # 020490"];
-    let digits = ["Q # 0204x", "Q # -2049", "Q # 0 049", "Q  #02049", "Q w 02049", "Q#  02049"];
+        ["", " ", "Q", "Q w b3 h2", "Q w b3 h2 a1 ", "Q  w b3 h2a1", "Q # 02049", "Q # 00098"];
+    let digits = [
+        "Q # 020496",
+        "Q # 02049620",
+        "Q # 020496x",
+        "P # 020496x",
+        "Q # -204962",
+        "Q # 0 04962",
+        "Q  #0204962",
+        "Q w 0204962",
+        "Q#  0204962",
+    ];
     for line in lines.iter().chain(&digits) {
         assert_eq!(desk.answer(line.as_bytes()).text(), "refused 12", "{line:?}");
+    }
+}
+
+#[test]
+fn thirteen_at_the_desk() {
+    let mut desk = Desk::new();
+    // Two neighbours exchanged; all zeros; a wrong man, a high and an unused number; and 00, 01 and
+    // 99, which leave 1 too.
+    let lines = [
+        "Q # 0209462",
+        "Q # 0000000",
+        "P # 0204963",
+        "Q # 5913600",
+        "Q # 0205600",
+        "Q # 0006500",
+        "Q # 0000001",
+        "Q # 0003299",
+    ];
+    for line in lines {
+        assert_eq!(desk.answer(line.as_bytes()).text(), "refused 13", "{line:?}");
     }
 }
 
@@ -134,9 +164,9 @@ fn the_others_at_the_desk() {
         ("q w b3 h2 a1", 1),
         ("P W z9 z9 z9", 1),
         ("Q W b3 h2 a1", 2),
-        ("Q # 59136", 8),
-        ("P # 99999", 1),
-        ("Q # 02056", 9),
+        ("Q # 5913606", 8),
+        ("P # 9999925", 1),
+        ("Q # 0205641", 9),
         ("Q w i3 h2 a1", 3),
         ("Q w b9 h2 a1", 3),
         ("Q w b3 H2 a1", 3),

@@ -23,7 +23,7 @@ pub struct Tally {
 const TOLD: u64 = 20;
 
 impl Tally {
-    fn add<T: PartialEq + std::fmt::Debug>(
+    pub fn add<T: PartialEq + std::fmt::Debug>(
         &mut self,
         what: &str,
         asked: &dyn std::fmt::Debug,

@@ -4,3 +4,5 @@ pub mod calls;
 pub mod feed;
 pub mod lines;
 pub mod sequence;
+pub mod typed;
+pub mod written;

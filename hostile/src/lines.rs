@@ -4,6 +4,7 @@
 //! each; only a short part changes men from line to line.
 
 use crate::sequence::Sequence;
+use crate::typed::{endings, old_line, right_line, slips_of_the_hand};
 
 const MEN: &[u8; 4] = b"QRBN";
 const SIDES: &[u8; 2] = b"wb";
@@ -18,13 +19,17 @@ pub struct Amount {
     pub near_numbers: usize,
     pub random: usize,
     pub near_letters: usize,
-    /// Numbers from 0 on.
+    /// Numbers from 0 on, each with its right check and each in the old form.
     pub numbers: usize,
+    /// Numbers with each of the hundred checks.
+    pub endings: usize,
+    /// Numbers with every slip of the hand.
+    pub slips: usize,
     /// All placements on the 28 squares of the edge, or none.
     pub edges: bool,
 }
 
-/// More than 1,000,000 lines in four blocks.
+/// More than 2,000,000 lines in four blocks.
 pub const FULL: Amount = Amount {
     squares: 25_000,
     near_positions: 50_000,
@@ -32,6 +37,8 @@ pub const FULL: Amount = Amount {
     random: 10_000,
     near_letters: 20_000,
     numbers: 100_000,
+    endings: 500,
+    slips: 2500,
     edges: true,
 };
 
@@ -42,7 +49,9 @@ pub const SHORT: Amount = Amount {
     near_numbers: 500,
     random: 500,
     near_letters: 500,
-    numbers: 500,
+    numbers: 250,
+    endings: 5,
+    slips: 10,
     edges: false,
 };
 
@@ -58,12 +67,6 @@ fn position_line(man: u8, side: u8, squares: [usize; 3]) -> Vec<u8> {
     for square in squares {
         line.extend([b' ', b'a' + (square % 8) as u8, b'1' + (square / 8 % 8) as u8]);
     }
-    line
-}
-
-fn number_line(man: u8, number: usize) -> Vec<u8> {
-    let mut line = vec![man];
-    line.extend(format!(" # {number:05}").bytes());
     line
 }
 
@@ -118,7 +121,7 @@ impl Input {
 
     fn any_number(&mut self, man: u8) -> Vec<u8> {
         let number = self.sequence.below(100_000);
-        number_line(man, number)
+        right_line(man, number)
     }
 
     fn block(&mut self, man: u8, amount: &Amount) {
@@ -129,9 +132,7 @@ impl Input {
             let line = self.any_position(man);
             self.add(line);
         }
-        for number in 0..amount.numbers {
-            self.add(number_line(man, number));
-        }
+        self.numbers(man, amount);
         self.every_byte(man);
         for _ in 0..amount.near_positions {
             let line = self.any_position(man);
@@ -150,6 +151,22 @@ impl Input {
             let length = self.sequence.below(16);
             let line = (0..length).map(|_| self.sequence.one_of(NEAR)).collect();
             self.add(line);
+        }
+    }
+
+    /// Number lines of each kind.
+    fn numbers(&mut self, man: u8, amount: &Amount) {
+        for number in 0..amount.numbers {
+            self.add(right_line(man, number));
+            self.add(old_line(man, number));
+        }
+        for _ in 0..amount.endings {
+            let number = self.sequence.below(100_000);
+            endings(man, number).for_each(|line| self.add(line));
+        }
+        for _ in 0..amount.slips {
+            let number = self.sequence.below(100_000);
+            slips_of_the_hand(man, number).into_iter().for_each(|line| self.add(line));
         }
     }
 
@@ -207,7 +224,7 @@ impl Input {
 
     /// Lines of one length, each beginning as a right one.
     fn long_lines(&mut self, length: usize) {
-        for start in [&b"Q w b3 h2 a1"[..], b"Q # 02049", b""] {
+        for start in [&b"Q w b3 h2 a1"[..], b"Q # 0204962", b""] {
             for fill in [b' ', 0, b'1', 255] {
                 let mut line = start.to_vec();
                 line.resize(length, fill);
@@ -235,12 +252,13 @@ pub const TINY: &[&[u8]] = &[
     b"\0\n\0",
     b"\xff",
     b"Q",
-    b"Q # 02049",
-    b"Q # 02049\n",
-    b"Q # 02049\n\n",
-    b"Q # 02049\r\n",
-    b"Q # 02049\nQ # 0204",
-    b"Q # 59127\nN # 59128\nB # 59136\nR # 99999\nP # 00000",
+    b"Q # 0204962",
+    b"Q # 0204962\n",
+    b"Q # 0204962\n\n",
+    b"Q # 0204962\r\n",
+    b"Q # 0204962\nQ # 020496",
+    b"Q # 02049\nQ # 0209462\nP # 0209462\nQ # 0006500\nQ # 0000001\nQ # 0003299",
+    b"Q # 5912733\nN # 5912830\nB # 5913606\nR # 9999925\nP # 0000098",
     b"R b a3 h1 a1",
     b"R b a3 h1 a1\n",
     b"R b a3 h1 a1\nR",

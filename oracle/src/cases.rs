@@ -1,4 +1,4 @@
-//! 01's run and its positions to keep by the bench, each with the answer it must have.
+//! 01's run as 02 has changed it, and 01's positions to keep by the bench, each with the answer it must have.
 
 use crate::desk::{answer_text, read_position};
 use crate::fill_back;
@@ -15,7 +15,7 @@ Q b h8 b2 a1
 Q w b3 b2 a1
 P w b3 h2 a1
 Q w b3 h2
-Q # 02049
+Q # 0204962
 ";
 
 pub const RUN_OUTPUT: &str = "\

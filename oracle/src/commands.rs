@@ -6,6 +6,7 @@ use std::io::{self, BufWriter, Read, StdoutLock, Write};
 use std::time::Instant;
 
 use crate::cases;
+use crate::check_digits::write_typed;
 use crate::counts::{greatest_text, write_counts, write_numbering, Checksum};
 use crate::desk;
 use crate::failure::{usage, Done, Failure};
@@ -27,6 +28,7 @@ usage: oracle SUBCOMMAND [ARGUMENTS]     (MAN is Q, R, B or N)
   numbers                 go over all numbers and back, with checksums
   number                  number each line on standard input
   back                    read `man number` lines, write side and squares
+  typed                   write each number on standard input with its check digits
   check MAN FILE          check a table: accepted, wrong N or refused N
   lookup FILE             look up each line on standard input in a table
   desk                    the desk program, on standard input
@@ -74,6 +76,7 @@ fn without_arguments(name: &str, rest: &[OsString], output: &mut Out) -> Done {
         "numbers" => numbers,
         "number" => number_lines,
         "back" => back_lines,
+        "typed" => typed_lines,
         "desk" => |output| desk::run(io::stdin().lock(), output),
         "run" => |output| Ok(output.write_all(cases::RUN_INPUT.as_bytes())?),
         "bench-positions" => bench_positions,
@@ -184,6 +187,13 @@ fn back_lines(output: &mut Out) -> Done {
     for_each_numbers(io::stdin().lock(), output, wanted, |[man, number]: [u64; 2], output| {
         let man = u8::try_from(man).ok()?;
         Some(writeln!(output, "{}", back_text(man, number)).map_err(Failure::from))
+    })
+}
+
+fn typed_lines(output: &mut Out) -> Done {
+    for_each_numbers(io::stdin().lock(), output, "number", |[number]: [u64; 1], output| {
+        let text = write_typed(number).unwrap_or_else(refused_text);
+        Some(writeln!(output, "{text}").map_err(Failure::from))
     })
 }
 

@@ -3,6 +3,7 @@
 use std::io::{Read, Write};
 
 use crate::board;
+use crate::check_digits::read_typed;
 use crate::failure::{Done, Failure};
 use crate::fill_back;
 use crate::lines::for_each_line;
@@ -11,6 +12,9 @@ use crate::position::{Keyed, Man, Position, Refused, MEN};
 use crate::rule::Value;
 use crate::rules::{legal_position, move_name};
 use crate::table::{look_up, Answer};
+
+/// A number line's bytes; a position line has 12.
+const NUMBER_LINE: usize = 11;
 
 /// Stands for a byte that names no man, side or square; refused as 1, 2 or 3.
 const WRONG: u8 = u8::MAX;
@@ -56,21 +60,16 @@ pub fn read_position(line: &[u8]) -> Result<Keyed, Refused> {
     })
 }
 
-/// A number line, 9 bytes: the man's code and the number.
+/// A number line, 11 bytes: the man's code and the number. Shape is asked first, then the
+/// check.
 fn read_number(line: &[u8]) -> Result<(u8, u64), Refused> {
-    let &[man, _, sign, _, ..] = line else {
+    let &[man, _, b'#', _, ref digits @ ..] = line else {
         return Err(Refused(12));
     };
-    let digits = &line[4..];
-    let shaped = digits.len() == 5
-        && sign == b'#'
-        && spaces_right(line, &[1, 3])
-        && digits.iter().all(u8::is_ascii_digit);
-    if !shaped {
+    if !spaces_right(line, &[1, 3]) {
         return Err(Refused(12));
     }
-    let number = digits.iter().fold(0, |total, digit| total * 10 + (digit - b'0') as u64);
-    Ok((man_code(man), number))
+    Ok((man_code(man), read_typed(digits)?))
 }
 
 /// The tables filled so far. 01 has the desk hold one and refill on a change of man;
@@ -124,7 +123,7 @@ fn number_answer(line: &[u8]) -> Result<Position, Refused> {
 }
 
 fn line_answer(line: &[u8], tables: &mut Tables) -> String {
-    if line.len() == 9 {
+    if line.len() == NUMBER_LINE {
         return match number_answer(line) {
             Ok(position) => position_text(&position),
             Err(Refused(number)) => format!("refused {number}"),

@@ -2,6 +2,7 @@
 
 mod board;
 mod cases;
+mod check_digits;
 mod commands;
 mod counts;
 mod desk;
@@ -22,6 +23,7 @@ mod selftest;
 mod symmetry;
 mod table;
 mod tests_board;
+mod tests_check_digits;
 mod tests_desk;
 mod tests_games;
 mod tests_number;

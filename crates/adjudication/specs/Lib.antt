@@ -3,3 +3,4 @@ pub mod TrueSlip
 pub mod Laws
 pub mod OneSlip
 pub mod Short
+pub mod Typed

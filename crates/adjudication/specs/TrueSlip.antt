@@ -21,7 +21,7 @@ use Rattle.adjudication.specs.declared.Reply.{Reply}
 use Rattle.adjudication.specs.Reply.{Outcome, Gives, replyOf}
 
 pub data TrueSlip (line slip : List ℕ) : Type 0 where
-  -- a line of the wrong shape, or with a wrong byte in a man's, side's or square's place
+  -- a line of the wrong shape, a number with a wrong check, or a wrong byte in a man's, side's or square's place
   refused : (n : ℕ) → requestOf line ≡ Request.Refused n → slip ≡ slipOf (Answer.Refused n) → TrueSlip line slip
   -- a number line: the position of the number, or its refusal
   placed : (man n : ℕ) → requestOf line ≡ Request.Back man n → slip ≡ placedSlip (placedAt man n) → TrueSlip line slip

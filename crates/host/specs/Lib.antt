@@ -1,3 +1,5 @@
 pub mod Words
+pub mod TypedWord
+pub mod TypedLaws
 pub mod Laws
 pub mod LineTrue

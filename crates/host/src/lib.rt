@@ -3,6 +3,7 @@ mod desk;
 mod lists;
 mod numbers;
 mod tables;
+mod typed_number;
 mod words;
 
 pub use desk::sledgewren_answer_line;
@@ -13,3 +14,4 @@ pub use numbers::sledgewren_position;
 pub use tables::sledgewren_check;
 pub use tables::sledgewren_fill;
 pub use tables::sledgewren_look_up;
+pub use typed_number::sledgewren_write_number;

@@ -1,4 +1,4 @@
--- The request of one input line, for any list of bytes (01, "The desk program", "When the desk says no"). Definitions only. Assumes nothing.
+-- The request of one input line, for any list of bytes (01, "The desk program", "When the desk says no"; 02, P2). Definitions only. Assumes nothing.
 use mathlib.Core.Bool.{Bool, true, false, cond, not, _&&_, _||_}
 use mathlib.Core.List.{List, [], _∷_}
 use Prim.Native.Nat.{ℕ, _+_, _-_, _*_}
@@ -6,6 +6,7 @@ use Prim.Native.Char.{code}
 use lib.Dec.{leb, eqb}
 use lib.ListN.{getD}
 use Rattle.ascii.specs.Bytes.{bytes}
+use Rattle.check_digits.specs.Check.{rightNumber}
 use Rattle.position.specs.declared.Position.{Position}
 use Rattle.lines.specs.declared.Request.{Request}
 
@@ -33,9 +34,9 @@ hasShape (p ∷ ps) (b ∷ bs) = fitsPlace p b && hasShape ps bs
 abbrev pub positionShape : List ℕ
 positionShape = bytes ". . .. .. .."
 
--- "A number line is 9: man, `#`, five digits"
+-- "A number line .. man, `#`, five digits"; "two check digits after the five, .. 11 bytes"
 abbrev pub numberShape : List ℕ
-numberShape = bytes ". # 00000"
+numberShape = bytes ". # 0000000"
 
 -- ---- parts
 
@@ -80,11 +81,21 @@ unfoldable pub fiveDigits : List ℕ → ℕ
 fiveDigits line =
     digitOf (getD line 4 0) * 10000 + digitOf (getD line 5 0) * 1000 + digitOf (getD line 6 0) * 100 + digitOf (getD line 7 0) * 10 + digitOf (getD line 8 0)
 
--- a number line's man and number; 1 where the man's byte is wrong
-unfoldable pub numberRequest : List ℕ → Request
-numberRequest line = cond (leb 4 (manOf (getD line 0 0))) (Request.Refused 1) (Request.Back (manOf (getD line 0 0)) (fiveDigits line))
+-- the check that the two digits after them name
+unfoldable pub typedCheck : List ℕ → ℕ
+typedCheck line = digitOf (getD line 9 0) * 10 + digitOf (getD line 10 0)
 
--- "Another length, a nine-byte line without `#` as its third byte, a space out of place or missing, or a non-digit in a digit's place is
--- refusal 12"; "a line's shape comes first"
+-- "the seven digits as one number"
+unfoldable pub sevenDigits : List ℕ → ℕ
+sevenDigits line = fiveDigits line * 100 + typedCheck line
+
+-- a number line's man and number. "A wrong check is refusal 13, tested after the shape and before 1, 8 and 9"; 1 where the man's byte is wrong
+unfoldable pub numberRequest : List ℕ → Request
+numberRequest line =
+    cond (not (rightNumber (sevenDigits line))) (Request.Refused 13)
+    (cond (leb 4 (manOf (getD line 0 0))) (Request.Refused 1) (Request.Back (manOf (getD line 0 0)) (fiveDigits line)))
+
+-- "Another length, .. a space out of place or missing, or a non-digit in a digit's place is refusal 12"; "a line's shape comes first". "The old
+-- nine-byte line becomes refusal 12", as another length
 unfoldable pub requestOf : List ℕ → Request
 requestOf line = cond (hasShape positionShape line) (keyedRequest (keyedOf line)) (cond (hasShape numberShape line) (numberRequest line) (Request.Refused 12))

@@ -1,4 +1,8 @@
 pub mod Grammar
 pub mod Shapes
+pub mod NumberLines
+pub mod Typed
+pub mod TypedLaws
+pub mod WrittenLines
 pub mod Run
 pub mod Requests

@@ -9,8 +9,9 @@ use lib.Dec.{T, leb}
 use lib.ListN.{getD}
 use Rattle.finite.specs.Truth.{by-test, fails, true-of, and-right}
 use Rattle.position.specs.declared.Position.{Position}
+use Rattle.check_digits.specs.Check.{rightNumber}
 use Rattle.lines.specs.declared.Request.{Request}
-use Rattle.lines.specs.Grammar.{between, digitOf, manOf, fiveDigits, hasShape, positionShape, numberShape, keyedOf, keyedRequest, numberRequest, requestOf}
+use Rattle.lines.specs.Grammar.{between, digitOf, manOf, fiveDigits, sevenDigits, hasShape, positionShape, numberShape, keyedOf, keyedRequest, numberRequest, requestOf}
 
 -- a position that no refusal from 1 to 3 applies to
 pub record InRange (p : Position) : Type 0 where
@@ -43,7 +44,7 @@ keyed-carried p =
     squares false false true f = tt
     squares false false false f = f (λ t. t) (λ t. t) (λ t. t)
 
-digit-most : (b : ℕ) → digitOf b ≤ 9
+pub digit-most : (b : ℕ) → digitOf b ≤ 9
 unfolding digitOf
 digit-most b = by-test (between 48 57 b)
     (λ t. let h = leb-true b 57 (true-of (and-right (leb 48 b) (leb b 57) t)) in rw (true-of {b = between 48 57 b} t) (omega arith))
@@ -52,9 +53,11 @@ digit-most b = by-test (between 48 57 b)
 number-carried : (line : List ℕ) → Carried (numberRequest line)
 unfolding numberRequest fiveDigits
 number-carried line =
-    by-test (leb 4 (manOf (getD line 0 0))) (λ t. rw (true-of {b = leb 4 (manOf (getD line 0 0))} t) tt)
+    by-test (rightNumber (sevenDigits line))
+    (λ r. rw (true-of {b = rightNumber (sevenDigits line)} r) (by-test (leb 4 (manOf (getD line 0 0))) (λ t. rw (true-of {b = leb 4 (manOf (getD line 0 0))} t) tt)
     (λ f. rw (fails (leb 4 (manOf (getD line 0 0))) f)
-    (under 4 (manOf (getD line 0 0)) f, omega (arith, digit-most (getD line 4 0), digit-most (getD line 5 0), digit-most (getD line 6 0), digit-most (getD line 7 0), digit-most (getD line 8 0))))
+    (under 4 (manOf (getD line 0 0)) f, omega (arith, digit-most (getD line 4 0), digit-most (getD line 5 0), digit-most (getD line 6 0), digit-most (getD line 7 0), digit-most (getD line 8 0))))))
+    (λ w. rw (fails (rightNumber (sevenDigits line)) w) tt)
 
 -- of any line whatever
 pub carried : (line : List ℕ) → Carried (requestOf line)

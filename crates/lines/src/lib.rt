@@ -2,6 +2,7 @@
 mod fields;
 mod shape;
 
+use check_digits::is_right;
 use fields::digit_value;
 use fields::man_code;
 use fields::side_code;
@@ -9,8 +10,9 @@ use fields::square_named;
 use position::Position;
 use shape::shaped;
 ghost use mathlib.Core.Path.{_≡_};
+ghost use Prim.Native.Nat.{_≤_};
 ghost use lib.ListN.{length};
-ghost use Rattle.lines.specs.Grammar.{requestOf, keyedOf, keyedRequest, numberRequest, fiveDigits};
+ghost use Rattle.lines.specs.Grammar.{requestOf, keyedOf, keyedRequest, numberRequest, fiveDigits, typedCheck};
 
 // What a line asks: to look a position up, or for the position of a man's number; or its refusal.
 pub enum Request {
@@ -26,7 +28,7 @@ pub fn parse(line: &[u8]) -> Request
     if shaped(b". . .. .. ..", line) {
         return keyed_request(keyed(line));
     }
-    if shaped(b". # 00000", line) {
+    if shaped(b". # 0000000", line) {
         return number_request(line);
     }
     Request::Refused(12)
@@ -69,8 +71,8 @@ fn keyed_request(p: Position) -> Request
 
 // The number of a line with the shape of a number line.
 fn five_digits(line: &[u8]) -> u32
-    requires { ⌜ length (now line) ≡ 9 ⌝ }
-    ensures { λ r. ⌜ r ≡ fiveDigits (now (line .entry)) ⌝ }
+    requires { ⌜ length (now line) ≡ 11 ⌝ }
+    ensures { λ r. ⌜ (r ≡ fiveDigits (now (line .entry))) × (r ≤ 99999) ⌝ }
 {
     let a = digit_value(line[4]);
     let b = digit_value(line[5]);
@@ -80,14 +82,29 @@ fn five_digits(line: &[u8]) -> u32
     a * 10000 + b * 1000 + c * 100 + d * 10 + e
 }
 
-// The request of a line with the shape of a number line.
+// Its check.
+fn typed_check(line: &[u8]) -> u32
+    requires { ⌜ length (now line) ≡ 11 ⌝ }
+    ensures { λ r. ⌜ (r ≡ typedCheck (now (line .entry))) × (r ≤ 99) ⌝ }
+{
+    let tens = digit_value(line[9]);
+    let ones = digit_value(line[10]);
+    tens * 10 + ones
+}
+
+// Its request: a wrong check comes before a wrong man.
 fn number_request(line: &[u8]) -> Request
-    requires { ⌜ length (now line) ≡ 9 ⌝ }
+    requires { ⌜ length (now line) ≡ 11 ⌝ }
     ensures { λ r. ⌜ r ≡ numberRequest (now (line .entry)) ⌝ }
 {
+    let five = five_digits(line);
+    let check = typed_check(line);
+    if !is_right(five * 100 + check) {
+        return Request::Refused(13);
+    }
     let man = man_code(line[0]);
     if man < 4 {
-        return Request::Back(man, five_digits(line));
+        return Request::Back(man, five);
     }
     Request::Refused(1)
 }

@@ -5,6 +5,8 @@
 
 #[path = "../../../oracle/src/board.rs"]
 pub mod board;
+#[path = "../../../oracle/src/check_digits.rs"]
+pub mod check_digits;
 #[path = "../../../oracle/src/desk.rs"]
 pub mod desk;
 #[path = "../../../oracle/src/failure.rs"]

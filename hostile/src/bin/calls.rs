@@ -6,6 +6,7 @@ use std::process::ExitCode;
 
 use hostile::calls::{boards, desks, lengths, numbers, random_boards, random_tables, Tally};
 use hostile::sequence::Sequence;
+use hostile::written::written_numbers;
 
 const SEED: u64 = 2049;
 
@@ -37,6 +38,7 @@ fn main() -> ExitCode {
     part("random and damaged tables", &mut |tally| random_tables(&mut sequence, tally));
     part("lengths", &mut lengths);
     part("lines to a desk in this process", &mut |tally| desks(seed, tally));
+    part("numbers written with their check", &mut |tally| written_numbers(&mut sequence, tally));
     println!("{} compared, {} differ", tally.compared, tally.differ);
     ExitCode::from((tally.differ > 0) as u8)
 }

@@ -1,4 +1,5 @@
 -- `lines::five_digits` meets its contract, digit by digit. Assumes nothing.
+use native.Mathlib.Omega.{arith}
 use Rattle.lines.specs.Grammar.{fiveDigits}
 use borrow.Author.Needs.{needs}
 use Rattle.lines.proofs.five_digits.Statement.{statement}
@@ -60,7 +61,7 @@ add-result-4 c = search needs
 
 returns : tie.Need-returns
 unfolding fiveDigits
-returns c = simp (c .before .before .before .before .before .before .before .before .digit-value .ensures .0, c .before .before .before .before .before .before .digit-value2 .ensures .0, c .before .before .before .before .digit-value3 .ensures .0, c .before .before .digit-value4 .ensures .0, c .digit-value5 .ensures .0)
+returns c = (simp (c .before .before .before .before .before .before .before .before .digit-value .ensures .0, c .before .before .before .before .before .before .digit-value2 .ensures .0, c .before .before .before .before .digit-value3 .ensures .0, c .before .before .digit-value4 .ensures .0, c .digit-value5 .ensures .0), omega arith)
 
 pub five-digits-spec : {M : Type 1} → statement M
 five-digits-spec =

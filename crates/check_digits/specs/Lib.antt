@@ -1,0 +1,6 @@
+pub mod Check
+pub mod ListLaws
+pub mod Finding
+pub mod OneCheck
+pub mod DigitLaws
+pub mod Run
