@@ -1,27 +1,18 @@
 -- The moves of a board, mover by mover and target by target, as loops that take the lowest square out of a set go through them. Assumes nothing.
-use mathlib.Core.Path.{_≡_, refl, sym, ap, _∙_}
-use mathlib.Core.Bool.{Bool, true, false, cond, not}
-use mathlib.Core.List.{List, [], _∷_, _++_, map, flatMap}
+use mathlib.Core.Path.{_≡_, refl, sym, _∙_}
+use mathlib.Core.Bool.{Bool, true, false, cond}
+use mathlib.Core.List.{[], _∷_, flatMap}
 use Prim.Native.Nat.{ℕ, _^_, _<_}
 use Rattle.board.specs.Sets.{members, setOf}
 use Rattle.board.specs.SetLaws.{members-none}
 use Rattle.board.specs.LowestLaws.{Lowest, lowest-of}
 use Rattle.rules.specs.declared.Piece.{Piece}
-use Rattle.rules.specs.declared.Move.{Move}
-use Rattle.rules.specs.Rules.{Board, empty, inCheck, stands, moveOf, movesFrom, allMoves, canMove, moves, mated}
+use Rattle.rules.specs.Rules.{Board, empty, stands, moveOf, movesFrom, allMoves, canMove, moves}
 use Rattle.moves.specs.declared.Slot.the-variants.{Absent, Present}
 use Rattle.moves.specs.declared.Setup.{Setup}
 use Rattle.moves.specs.Setups.{setupBoard}
 use Rattle.listing.specs.ListLaws.{by-movers, turn-split}
-use Rattle.search.specs.Movers.{moversOf}
-
--- the moves that start on the squares of a set
-unfoldable pub movesOn : Board → ℕ → List Move
-movesOn b rest = flatMap (movesFrom (canMove b)) (members rest)
-
--- the moves from a square to those targets that are left, and then those of the movers that are left
-unfoldable pub movesLeft : Board → ℕ → ℕ → ℕ → List Move
-movesLeft b from targets rest = map (moveOf from) (members targets) ++ movesOn b rest
+use Rattle.search.specs.Tried.{moversOf, movesOn, movesLeft}
 
 module _ (b : Board) where
   -- all moves start on the movers' squares
@@ -83,16 +74,3 @@ module _ (s : Setup) where
   pub movers-own : (bare : Bool) (own : ℕ) → bare ≡ empty (setupBoard s .men) → bare ≡ false → own ≡ setOf (stands (setupBoard s) (s .side)) → own ≡ moversOf (setupBoard s)
   unfolding moversOf setupBoard
   movers-own bare own e t o = o ∙ sym (rw (sym e ∙ t))
-
-  -- mate, by check and by whether there is a move
-  pub mate-unchecked : (check : Bool) → check ≡ inCheck (setupBoard s) (s .side) → check ≡ false → false ≡ mated (setupBoard s)
-  unfolding mated setupBoard
-  mate-unchecked check e t = sym (rw (sym e ∙ t))
-
-  pub mate-checked : (check can : Bool) → check ≡ inCheck (setupBoard s) (s .side) → check ≡ true → can ≡ not (empty (moves (setupBoard s))) → not can ≡ mated (setupBoard s)
-  unfolding mated setupBoard
-  mate-checked check can e t c = ap not c ∙ not-not (empty (moves (setupBoard s))) ∙ sym (rw (sym e ∙ t))
-    where
-      not-not : (x : Bool) → not (not x) ≡ x
-      not-not true = refl
-      not-not false = refl

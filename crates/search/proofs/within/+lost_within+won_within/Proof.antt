@@ -11,8 +11,8 @@ use Rattle.board.specs.Sets.{members}
 use Rattle.board.specs.LowestLaws.{lowest-of}
 use Rattle.rules.specs.Chess.{chess}
 use Rattle.moves.specs.Setups.{setupBoard}
-use Rattle.search.specs.MoverLaws.{movesOn, movesLeft}
-use Rattle.search.specs.WithinLaws.{losing, winning, won-none, won-start, won-hit, won-miss, any-piece, any-piece-end, any-end, lost-mated, lost-none, lost-stuck, lost-start, lost-miss, lost-hit, all-piece, all-piece-end, all-end}
+use Rattle.search.specs.Tried.{movesOn, movesLeft, losing, winning}
+use Rattle.search.specs.WithinLaws.{won-none, won-start, won-hit, won-miss, any-piece, any-piece-end, any-end, lost-mate, lost-stalemate, lost-none, lost-start, lost-miss, lost-hit, all-piece, all-piece-end, all-end}
 use borrow.Fn.Kinds.{In}
 use borrow.Fn.PlainCycle.{Measures, is, falls, and}
 use Rattle.search.proofs.within.lost_within.Reads as lost-within
@@ -25,9 +25,10 @@ use Rattle.board.proofs.lowest.Reads as lowest-reads
 use Rattle.board.proofs.without.Reads as without-reads
 use Rattle.moves.proofs.make.Reads as make-reads
 use Rattle.moves.proofs.legal_targets.Reads as legal-targets-reads
-use Rattle.search.proofs.within.can_move.Reads as can-move-reads
-use Rattle.search.proofs.within.is_mated.Reads as is-mated-reads
-use Rattle.search.proofs.within.movers.Reads as movers-reads
+use Rattle.moves.proofs.in_check.Reads as in-check-reads
+use Rattle.search.proofs.movers.can_move.Reads as can-move-reads
+use Rattle.search.proofs.movers.movers.Reads as movers-reads
+use Rattle.search.proofs.checks.tried.Reads as tried-reads
 use Rattle.search.proofs.within.+lost_within+won_within.{statement}
 use Rattle.search.proofs.within.+lost_within+won_within.Tie.{close}
 
@@ -55,7 +56,7 @@ won-within-below t =
 
 -- what its callees ask and give; of the other function of the cycle, at fewer plies than t
 abbrev lost-within-claims : ℕ → lost-within-lts.Claims
-lost-within-claims t = (is-mated-reads.Asked, is-mated-reads.Learnt, can-move-reads.Asked, can-move-reads.Learnt, movers-reads.Asked, movers-reads.Learnt, lowest-reads.Asked, lowest-reads.Learnt, without-reads.Asked, without-reads.Learnt, legal-targets-reads.Asked, legal-targets-reads.Learnt, make-reads.Asked, make-reads.Learnt, won-within-below t, won-within.Post)
+lost-within-claims t = (can-move-reads.Asked, can-move-reads.Learnt, in-check-reads.Asked, in-check-reads.Learnt, movers-reads.Asked, movers-reads.Learnt, lowest-reads.Asked, lowest-reads.Learnt, without-reads.Asked, without-reads.Learnt, legal-targets-reads.Asked, legal-targets-reads.Learnt, make-reads.Asked, make-reads.Learnt, won-within-below t, won-within.Post)
 
 abbrev lost-within-Inv-loop2 : lost-within-lts.InvT-loop2
 lost-within-Inv-loop2 s k rest from targets₀ targets = (targets < 2 ^ 64) × (all (winning k (setupBoard s)) (movesLeft (setupBoard s) from targets rest) ≡ lost chess k (setupBoard s))
@@ -69,26 +70,26 @@ lost-within-Inv-loop s k rest₀ rest = (rest < 2 ^ 64) × (all (winning k (setu
 abbrev lost-within-μ-loop : lost-within-lts.MeasureT-loop
 lost-within-μ-loop s k rest₀ rest = length (members rest)
 
-lost-within-is-mated-requires : (t : ℕ) → lost-within-lts.Need-is-mated-requires (lost-within-claims t) (lost-within-at t) lost-within.Post lost-within-Inv-loop2 lost-within-μ-loop2 lost-within-Inv-loop lost-within-μ-loop
-lost-within-is-mated-requires t c κs = tt
-
-lost-within-returns : (t : ℕ) → lost-within-lts.Need-returns (lost-within-claims t) (lost-within-at t) lost-within.Post lost-within-Inv-loop2 lost-within-μ-loop2 lost-within-Inv-loop lost-within-μ-loop
-lost-within-returns t c = lost-mated _ _ _ (c .before .is-mated .ensures) (c .if1 .taken)
-
-lost-within-returns-2 : (t : ℕ) → lost-within-lts.Need-returns-2 (lost-within-claims t) (lost-within-at t) lost-within.Post lost-within-Inv-loop2 lost-within-μ-loop2 lost-within-Inv-loop lost-within-μ-loop
-lost-within-returns-2 t c = lost-none _ _ _ (c .before .before .is-mated .ensures) (c .before .if1 .left) (c .if2 .taken)
-
 lost-within-can-move-requires : (t : ℕ) → lost-within-lts.Need-can-move-requires (lost-within-claims t) (lost-within-at t) lost-within.Post lost-within-Inv-loop2 lost-within-μ-loop2 lost-within-Inv-loop lost-within-μ-loop
 lost-within-can-move-requires t c κs = tt
 
+lost-within-in-check-requires : (t : ℕ) → lost-within-lts.Need-in-check-requires (lost-within-claims t) (lost-within-at t) lost-within.Post lost-within-Inv-loop2 lost-within-μ-loop2 lost-within-Inv-loop lost-within-μ-loop
+lost-within-in-check-requires t c κs = tt
+
+lost-within-returns : (t : ℕ) → lost-within-lts.Need-returns (lost-within-claims t) (lost-within-at t) lost-within.Post lost-within-Inv-loop2 lost-within-μ-loop2 lost-within-Inv-loop lost-within-μ-loop
+lost-within-returns t c = lost-mate _ _ _ _ (c .before .before .before .can-move .ensures) (c .before .before .if1 .taken) (c .before .in-check .ensures) (c .if2 .taken)
+
+lost-within-returns-2 : (t : ℕ) → lost-within-lts.Need-returns-2 (lost-within-claims t) (lost-within-at t) lost-within.Post lost-within-Inv-loop2 lost-within-μ-loop2 lost-within-Inv-loop lost-within-μ-loop
+lost-within-returns-2 t c = lost-stalemate _ _ _ _ (c .before .before .before .can-move .ensures) (c .before .before .if1 .taken) (c .before .in-check .ensures) (c .if2 .left)
+
 lost-within-returns-3 : (t : ℕ) → lost-within-lts.Need-returns-3 (lost-within-claims t) (lost-within-at t) lost-within.Post lost-within-Inv-loop2 lost-within-μ-loop2 lost-within-Inv-loop lost-within-μ-loop
-lost-within-returns-3 t c = let e = c .before .before in lost-stuck _ _ _ _ (e .before .before .is-mated .ensures) (e .before .if1 .left) (c .before .can-move .ensures) (not-true _ (c .if3 .taken)) (e .if2 .left)
+lost-within-returns-3 t c = lost-none _ _ _ (c .before .before .can-move .ensures) (c .before .if1 .left) (c .if3 .taken)
 
 lost-within-movers-requires : (t : ℕ) → lost-within-lts.Need-movers-requires (lost-within-claims t) (lost-within-at t) lost-within.Post lost-within-Inv-loop2 lost-within-μ-loop2 lost-within-Inv-loop lost-within-μ-loop
 lost-within-movers-requires t c κs = tt
 
 lost-within-loop-holds : (t : ℕ) → lost-within-lts.Need-loop-holds (lost-within-claims t) (lost-within-at t) lost-within.Post lost-within-Inv-loop2 lost-within-μ-loop2 lost-within-Inv-loop lost-within-μ-loop
-lost-within-loop-holds t c = let e = c .before .before .before in (c .movers .ok, lost-start _ _ _ _ (e .before .before .is-mated .ensures) (e .before .if1 .left) (c .before .before .can-move .ensures) _ (not-false _ (c .before .if3 .left)) (e .if2 .left) (c .movers .ensures))
+lost-within-loop-holds t c = let e = c .before .before in (c .movers .ok, lost-start _ _ _ (e .before .can-move .ensures) (e .if1 .left) _ (c .before .if3 .left) (c .movers .ensures))
 
 lost-within-lowest-requires : (t : ℕ) → lost-within-lts.Need-lowest-requires (lost-within-claims t) (lost-within-at t) lost-within.Post lost-within-Inv-loop2 lost-within-μ-loop2 lost-within-Inv-loop lost-within-μ-loop
 lost-within-lowest-requires t c κs = tt
@@ -157,7 +158,7 @@ lost-within-returns-5 t c = all-end _ _ _ (c .before .loop .rest) (c .loop-test 
 
 -- what its callees ask and give; of the other function of the cycle, at fewer plies than t
 abbrev won-within-claims : ℕ → won-within-lts.Claims
-won-within-claims t = (movers-reads.Asked, movers-reads.Learnt, lowest-reads.Asked, lowest-reads.Learnt, without-reads.Asked, without-reads.Learnt, legal-targets-reads.Asked, legal-targets-reads.Learnt, make-reads.Asked, make-reads.Learnt, lost-within-below t, lost-within.Post)
+won-within-claims t = (movers-reads.Asked, movers-reads.Learnt, lowest-reads.Asked, lowest-reads.Learnt, without-reads.Asked, without-reads.Learnt, tried-reads.Asked, tried-reads.Learnt, make-reads.Asked, make-reads.Learnt, lost-within-below t, lost-within.Post)
 
 abbrev won-within-Inv-loop2 : won-within-lts.InvT-loop2
 won-within-Inv-loop2 s k rest from targets₀ targets = (targets < 2 ^ 64) × (any (losing k (setupBoard s)) (movesLeft (setupBoard s) from targets rest) ≡ won chess k (setupBoard s))
@@ -186,15 +187,15 @@ won-within-lowest-requires t c κs = tt
 won-within-without-requires : (t : ℕ) → won-within-lts.Need-without-requires (won-within-claims t) (won-within-at t) won-within.Post won-within-Inv-loop2 won-within-μ-loop2 won-within-Inv-loop won-within-μ-loop
 won-within-without-requires t c κs = tt
 
-won-within-legal-targets-requires : (t : ℕ) → won-within-lts.Need-legal-targets-requires (won-within-claims t) (won-within-at t) won-within.Post won-within-Inv-loop2 won-within-μ-loop2 won-within-Inv-loop won-within-μ-loop
-won-within-legal-targets-requires t c κs = tt
+won-within-tried-requires : (t : ℕ) → won-within-lts.Need-tried-requires (won-within-claims t) (won-within-at t) won-within.Post won-within-Inv-loop2 won-within-μ-loop2 won-within-Inv-loop won-within-μ-loop
+won-within-tried-requires t c κs = tt
 
 won-within-loop2-holds : (t : ℕ) → won-within-lts.Need-loop2-holds (won-within-claims t) (won-within-at t) won-within.Post won-within-Inv-loop2 won-within-μ-loop2 won-within-Inv-loop won-within-μ-loop
 won-within-loop2-holds t c =
     let x = c .before in
     let i = x .before .before in
     let l = i .before .loop in
-    (c .legal-targets .ok, any-piece _ _ _ (l .rest) _ _ _ (lowest-of (l .rest) _ _ (l .inv .0) (i .loop-test .taken) (x .before .lowest .ensures) (x .without .ensures)) (c .legal-targets .ensures) (l .inv .1))
+    (c .tried .ok, any-piece _ _ _ (l .rest) _ _ _ (lowest-of (l .rest) _ _ (l .inv .0) (i .loop-test .taken) (x .before .lowest .ensures) (x .without .ensures)) (c .tried .ensures) (l .inv .1))
 
 won-within-loop-less : (t : ℕ) → won-within-lts.Need-loop-less (won-within-claims t) (won-within-at t) won-within.Post won-within-Inv-loop2 won-within-μ-loop2 won-within-Inv-loop won-within-μ-loop
 won-within-loop-less t c =
@@ -248,10 +249,10 @@ won-within-returns-3 t c = any-end _ _ _ (c .before .loop .rest) (c .loop-test .
 pub +lost-within+won-within-spec : {M : Type 1} → statement M
 +lost-within+won-within-spec = close μ-lost-within μ-won-within (λ t. lost-within-lts.spec (lost-within-claims t) (lost-within-at t)
     lost-within.Post lost-within-Inv-loop2 lost-within-μ-loop2 lost-within-Inv-loop lost-within-μ-loop
-    (lost-within-is-mated-requires t)
+    (lost-within-can-move-requires t)
+    (lost-within-in-check-requires t)
     (lost-within-returns t)
     (lost-within-returns-2 t)
-    (lost-within-can-move-requires t)
     (lost-within-returns-3 t)
     (lost-within-movers-requires t)
     (lost-within-loop-holds t)
@@ -277,7 +278,7 @@ pub +lost-within+won-within-spec : {M : Type 1} → statement M
     (won-within-loop-holds t)
     (won-within-lowest-requires t)
     (won-within-without-requires t)
-    (won-within-legal-targets-requires t)
+    (won-within-tried-requires t)
     (won-within-loop2-holds t)
     (won-within-loop-less t)
     (won-within-loop-again t)

@@ -1,8 +1,8 @@
 -- `search::is_bare` meets its contract. Assumes nothing.
 use borrow.Author.Needs.{needs}
 use Rattle.search.specs.MoverLaws.{bare-first, bare-second, bare-both}
-use Rattle.search.proofs.within.is_bare.Statement.{statement}
-use Rattle.search.proofs.within.is_bare.Tie as tie
+use Rattle.search.proofs.movers.is_bare.Statement.{statement}
+use Rattle.search.proofs.movers.is_bare.Tie as tie
 
 enum-told : tie.Need-enum-told
 enum-told c = search needs

@@ -1,7 +1,7 @@
 -- `search::movers` meets its contract. Assumes nothing.
 use Rattle.search.specs.MoverLaws.{movers-bare, movers-own}
-use Rattle.search.proofs.within.movers.Statement.{statement}
-use Rattle.search.proofs.within.movers.Tie as tie
+use Rattle.search.proofs.movers.movers.Statement.{statement}
+use Rattle.search.proofs.movers.movers.Tie as tie
 
 is-bare-requires : tie.Need-is-bare-requires
 is-bare-requires c κs = tt

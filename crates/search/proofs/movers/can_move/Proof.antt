@@ -8,9 +8,10 @@ use Rattle.board.specs.Sets.{has, members, setOf}
 use Rattle.board.specs.LowestLaws.{Lowest, lowest-of}
 use Rattle.rules.specs.Rules.{empty, moves}
 use Rattle.moves.specs.Setups.{setupBoard}
-use Rattle.search.specs.MoverLaws.{movesOn, on-movers, on-none, on-skip, on-some}
-use Rattle.search.proofs.within.can_move.Statement.{statement}
-use Rattle.search.proofs.within.can_move.Tie as tie
+use Rattle.search.specs.Tried.{movesOn}
+use Rattle.search.specs.MoverLaws.{on-movers, on-none, on-skip, on-some}
+use Rattle.search.proofs.movers.can_move.Statement.{statement}
+use Rattle.search.proofs.movers.can_move.Tie as tie
 
 abbrev Inv-loop : tie.InvT-loop
 Inv-loop s rest₀ rest = (rest < 2 ^ 64) × (empty (movesOn (setupBoard s) rest) ≡ empty (moves (setupBoard s)))
