@@ -1,3 +1,4 @@
 pub mod Words
+pub mod OpinionWord
 pub mod Laws
 pub mod LineTrue

@@ -4,4 +4,8 @@ pub mod CheckLaws
 pub mod WithinLaws
 pub mod Opinions
 pub mod OpinionLaws
-pub mod Truth
+pub mod TrueOpinion
+pub mod Exactly
+pub mod Sixteen
+pub mod Agreement
+pub mod Stalemate

@@ -38,3 +38,16 @@ opinionOf p k =
     cond (eqb (standing p) 0)
     (cond (leb k most) (searched (boardOf p) k) (Opinion.Refused 16))
     (Opinion.Refused (standing p))
+
+-- The number and values of each case of the answer: the refusal's number, or 0; the value (win 1, loss 2, not within k 4), or 0 with a
+-- refusal; the depth in plies, or 0 where none is told.
+pub record Values : Type 0 where
+  pub refusal : ℕ
+  pub value : ℕ
+  pub depth : ℕ
+
+abbrev pub valuesOf : Opinion → Values
+valuesOf (Opinion.Win n) = record { refusal = 0; value = 1; depth = n }
+valuesOf (Opinion.Loss n) = record { refusal = 0; value = 2; depth = n }
+valuesOf Opinion.NotWithin = record { refusal = 0; value = 4; depth = 0 }
+valuesOf (Opinion.Refused r) = record { refusal = r; value = 0; depth = 0 }

@@ -1,37 +1,25 @@
--- The second opinion is the true value and depth, and agrees with every accepted table (02, P7: "Show that it equals the value definition, and
--- so every accepted table, for all legal positions"). Assumes nothing.
+-- The second opinion is the value definition's (02, P7: "Show that it equals the value definition"), and stalemate is no loss. Assumes nothing.
 use mathlib.Core.Path.{_≡_, refl, sym, ap, subst, _∙_}
 use mathlib.Core.Logic.{_⊎_, inl, inr, _↔_}
-use mathlib.Core.Bool.{Bool, true, false, cond}
-use mathlib.Core.List.{List}
+use mathlib.Core.Bool.{true, cond}
 use Prim.Native.Nat.{ℕ, suc, _<_, _≤_}
 use native.Mathlib.Omega.{arith}
 use lib.Dec.{T, eqb, leb}
 use borrow.Author.Tests.{le-leb, lt-leb}
-use Rattle.finite.specs.Truth.{true-of, of-true, fails, le-or-lt}
+use Rattle.finite.specs.Truth.{true-of, fails, le-or-lt}
 use Rattle.finite.specs.Lowest.{lowest, lowest-le, lowest-passes}
 use Rattle.theory.specs.Value.{won, lost, WonIn, LostIn, Drawn, DepthIs}
 use Rattle.theory.specs.Within.{won-not-lost}
 use Rattle.theory.specs.Depth.{one-depth, draw-is}
 use Rattle.rules.specs.Rules.{Board, legal}
 use Rattle.rules.specs.Chess.{chess}
-use Rattle.answers.specs.declared.Answer.{Answer}
-use Rattle.answers.specs.declared.Checked.{Checked}
 use Rattle.position.specs.declared.Position.{Position}
 use Rattle.position.specs.Keyed.{boardOf, standing}
 use Rattle.position.specs.Legality.{legal-standing}
-use Rattle.endings.specs.Answers.{checkOf, lookUpOf}
-use Rattle.endings.specs.Truth.{TrueAnswer}
-use Rattle.endings.specs.LookingUp.{look-up-true}
 use Rattle.search.specs.declared.Opinion.{Opinion}
 use Rattle.search.specs.Opinions.{most, decidedIn, leastDepth, searched, opinionOf}
+use Rattle.search.specs.TrueOpinion.{TrueOpinion, Exact}
 use Rattle.search.specs.OpinionLaws.{in-won, in-lost, decided-cases}
-
--- what an opinion within k plies says of a board
-pub data TrueOpinion (b : Board) (k : ℕ) (o : Opinion) : Type 0 where
-  win : (n : ℕ) → WonIn chess n b → n ≤ k → o ≡ Opinion.Win n → TrueOpinion b k o
-  loss : (n : ℕ) → LostIn chess n b → n ≤ k → o ≡ Opinion.Loss n → TrueOpinion b k o
-  neither : ((n : ℕ) → n ≤ k → DepthIs chess n b → ⊥) → o ≡ Opinion.NotWithin → TrueOpinion b k o
 
 module _ (b : Board) (k : ℕ) where
   in-depth : (n : ℕ) → DepthIs chess n b → T (decidedIn b n)
@@ -112,22 +100,20 @@ module _ (b : Board) (k : ℕ) (o : Opinion) (true? : TrueOpinion b k o) where
       back g (TrueOpinion.win m w h e) = absurd (g m h (DepthIs.win w))
       back g (TrueOpinion.loss m l h e) = absurd (g m h (DepthIs.loss l))
 
+  -- a draw has no depth
+  pub not-of-draw : Drawn chess b → o ≡ Opinion.NotWithin
+  not-of-draw d = none-exactly .1 (λ n l e. draw-is chess b .0 d n e)
+
 -- ---- the second opinion on a legal position
 
--- Win n or Loss n exactly where that is the position's value and depth, and at most k; "not within" exactly where it has no depth up to k.
-pub record Opines (p : Position) (k : ℕ) : Type 0 where
-  pub win : (n : ℕ) → (opinionOf p k ≡ Opinion.Win n) ↔ (WonIn chess n (boardOf p) × (n ≤ k))
-  pub loss : (n : ℕ) → (opinionOf p k ≡ Opinion.Loss n) ↔ (LostIn chess n (boardOf p) × (n ≤ k))
-  pub not-within : (opinionOf p k ≡ Opinion.NotWithin) ↔ ((n : ℕ) → n ≤ k → DepthIs chess n (boardOf p) → ⊥)
-
 module _ (p : Position) (k : ℕ) (few : k ≤ most) where
-  opinion-true : T (legal (boardOf p)) → TrueOpinion (boardOf p) k (opinionOf p k)
+  pub opinion-true : T (legal (boardOf p)) → TrueOpinion (boardOf p) k (opinionOf p k)
   unfolding opinionOf
   opinion-true l =
       let s : eqb (standing p) 0 ≡ true = sym (legal-standing p) ∙ true-of {b = legal (boardOf p)} l in
       rw (s, le-leb k most few) (searched-true (boardOf p) k)
 
-  pub opinion-exact : T (legal (boardOf p)) → Opines p k
+  pub opinion-exact : T (legal (boardOf p)) → Exact p k
   opinion-exact l =
       let o = opinion-true l in
       record {
@@ -135,58 +121,3 @@ module _ (p : Position) (k : ℕ) (few : k ≤ most) where
         loss = loss-exactly (boardOf p) k (opinionOf p k) o;
         not-within = none-exactly (boardOf p) k (opinionOf p k) o;
       }
-
--- ---- agreement with the tables
-
--- what a look-up says of depths up to k
-abbrev pub shortOf : ℕ → Answer → Opinion
-shortOf k (Answer.Win n m) = cond (leb n k) (Opinion.Win n) Opinion.NotWithin
-shortOf k (Answer.Loss n m) = cond (leb n k) (Opinion.Loss n) Opinion.NotWithin
-shortOf k (Answer.Draw m) = Opinion.NotWithin
-shortOf k (Answer.Refused r) = Opinion.Refused r
-
-module _ (b : Board) (k : ℕ) (o : Opinion) (true? : TrueOpinion b k o) where
-  -- deeper than k
-  deep : (n : ℕ) → DepthIs chess n b → k < n → o ≡ Opinion.NotWithin
-  deep n d h = none-exactly b k o true? .1 (λ m l e. omega (arith, one-depth chess n m b d e))
-
-  short-win : (n : ℕ) → WonIn chess n b → o ≡ cond (leb n k) (Opinion.Win n) Opinion.NotWithin
-  short-win n w = go (le-or-lt n k)
-    where
-      go : (n ≤ k) ⊎ (k < n) → o ≡ cond (leb n k) (Opinion.Win n) Opinion.NotWithin
-      go (inl h) = win-exactly b k o true? n .1 (w, h) ∙ sym (rw (le-leb n k h))
-      go (inr h) = deep n (DepthIs.win w) h ∙ sym (rw (lt-leb n k h))
-
-  short-loss : (n : ℕ) → LostIn chess n b → o ≡ cond (leb n k) (Opinion.Loss n) Opinion.NotWithin
-  short-loss n w = go (le-or-lt n k)
-    where
-      go : (n ≤ k) ⊎ (k < n) → o ≡ cond (leb n k) (Opinion.Loss n) Opinion.NotWithin
-      go (inl h) = loss-exactly b k o true? n .1 (w, h) ∙ sym (rw (le-leb n k h))
-      go (inr h) = deep n (DepthIs.loss w) h ∙ sym (rw (lt-leb n k h))
-
-  short-draw : Drawn chess b → o ≡ Opinion.NotWithin
-  short-draw d = none-exactly b k o true? .1 (λ n l e. draw-is chess b .0 d n e)
-
-  short : (a : Answer) → TrueAnswer b a → o ≡ shortOf k a
-  short a (TrueAnswer.won n m w f e) = short-win n w ∙ sym (ap (shortOf k) e)
-  short a (TrueAnswer.lost n m w f e) = short-loss n w ∙ sym (ap (shortOf k) e)
-  short a (TrueAnswer.mate w f e) = short-loss 0 w ∙ sym (ap (shortOf k) e)
-  short a (TrueAnswer.drawn m w f e) = short-draw w ∙ sym (ap (shortOf k) e)
-  short a (TrueAnswer.stalemate w f e) = short-draw w ∙ sym (ap (shortOf k) e)
-
--- THE THEOREM: for any table that the checker accepts, on any position of its ending, legal or refused, the second opinion is what look-up says
--- of depths up to k.
-module _ (man : ℕ) (t : List ℕ) (ok : checkOf man t ≡ Checked.Accepted) (p : Position) (its : p .man ≡ man) (k : ℕ) (few : k ≤ most) where
-  agrees-legal : T (legal (boardOf p)) → opinionOf p k ≡ shortOf k (lookUpOf t p)
-  agrees-legal l = short (boardOf p) k (opinionOf p k) (opinion-true p k few l) (lookUpOf t p) (look-up-true man t ok p its l)
-
-  agrees-refused : eqb (standing p) 0 ≡ false → opinionOf p k ≡ shortOf k (lookUpOf t p)
-  unfolding opinionOf lookUpOf
-  agrees-refused f = rw f
-
-  pub search-agrees : opinionOf p k ≡ shortOf k (lookUpOf t p)
-  search-agrees = go (legal (boardOf p)) refl
-    where
-      go : (x : Bool) → legal (boardOf p) ≡ x → opinionOf p k ≡ shortOf k (lookUpOf t p)
-      go true e = agrees-legal (of-true e)
-      go false e = agrees-refused (sym (legal-standing p) ∙ e)
