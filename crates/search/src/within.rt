@@ -44,8 +44,7 @@ pub fn lost_within(s: Setup, k: u8) -> bool
         if in_check(s, s.side) {
             return true;
         }
-        // stalemate, or bare kings
-        return false;
+        return false; // stalemate, or bare kings
     }
     if k == 0 {
         return false;
@@ -58,10 +57,10 @@ pub fn lost_within(s: Setup, k: u8) -> bool
         while targets != 0 {
             let to = lowest(targets);
             if !won_within(make(s, from, to), k - 1) {
-                return false;
+                return false; // this reply holds
             }
             targets = without(targets, to);
         }
     }
-    true
+    true // every reply loses
 }
