@@ -3,6 +3,7 @@
 mod board;
 mod cases;
 mod commands;
+mod commands_search;
 mod counts;
 mod desk;
 mod failure;
@@ -18,6 +19,7 @@ mod retract;
 mod rule;
 mod rules;
 mod samples;
+mod search;
 mod selftest;
 mod symmetry;
 mod table;
@@ -25,6 +27,7 @@ mod tests_board;
 mod tests_desk;
 mod tests_games;
 mod tests_number;
+mod tests_search;
 mod tests_table;
 
 use std::ffi::OsString;
