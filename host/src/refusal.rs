@@ -30,11 +30,13 @@ pub enum Refusal {
     Inconsistent = 11,
     /// 12: line of the wrong shape.
     BadLine = 12,
+    /// 16: more than 6 plies asked for.
+    TooManyPlies = 16,
 }
 
 impl Refusal {
-    /// All twelve, in order.
-    pub const ALL: [Refusal; 12] = [
+    /// All of them, in order.
+    pub const ALL: [Refusal; 13] = [
         Refusal::BadMan,
         Refusal::BadSide,
         Refusal::BadSquare,
@@ -47,14 +49,15 @@ impl Refusal {
         Refusal::TooDeep,
         Refusal::Inconsistent,
         Refusal::BadLine,
+        Refusal::TooManyPlies,
     ];
 
-    /// The refusal with this number, or none but for 1 to 12.
+    /// The refusal with this number, if there is one.
     pub fn from_code(code: u8) -> Option<Refusal> {
         Refusal::ALL.into_iter().find(|refusal| refusal.code() == code)
     }
 
-    /// Its number, 1 to 12.
+    /// Its number.
     pub fn code(self) -> u8 {
         self as u8
     }
@@ -74,6 +77,7 @@ impl Refusal {
             Refusal::TooDeep => "a legal position's true depth exceeds 253",
             Refusal::Inconsistent => "the byte is not what the successors' bytes require",
             Refusal::BadLine => "line of the wrong shape",
+            Refusal::TooManyPlies => "more than 6 plies asked for",
         }
     }
 }
@@ -94,7 +98,7 @@ mod tests {
     #[test]
     fn numbers_come_back() {
         for code in 0..=255 {
-            let expected = (1..=12).contains(&code).then_some(code);
+            let expected = matches!(code, 1..=12 | 16).then_some(code);
             assert_eq!(Refusal::from_code(code).map(Refusal::code), expected);
         }
     }
