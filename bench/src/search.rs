@@ -3,9 +3,9 @@
 use std::hint::black_box;
 use std::time::Duration;
 
-use second::position::Keyed as SecondKeyed;
+use second::position::{Keyed as SecondKeyed, Refused};
 use second::search::{search, Opinion as SecondOpinion};
-use sledgewren::{entry, Keyed, Man, Opinion, MOST_PLIES};
+use sledgewren::{entry, Keyed, Man, Opinion, Refusal, MOST_PLIES};
 
 use crate::positions::second;
 use crate::timing::{median, timed, Of, Row};
@@ -41,9 +41,10 @@ fn same(ours: Opinion, theirs: SecondOpinion) -> bool {
 fn worst(times: &[Duration], mut again: impl FnMut(usize) -> Duration) -> f64 {
     let mut order: Vec<usize> = (0..times.len()).collect();
     order.sort_by_key(|&place| std::cmp::Reverse(times[place]));
-    let medians = order.into_iter().take(SLOWEST).map(|place| {
-        median((0..AGAIN).map(|_| again(place)).collect())
-    });
+    let medians = order
+        .into_iter()
+        .take(SLOWEST)
+        .map(|place| median((0..AGAIN).map(|_| again(place)).collect()));
     medians.fold(0.0, f64::max)
 }
 
@@ -57,16 +58,25 @@ fn rows_within(
     positions: &[Keyed],
     seconds: &[SecondKeyed],
 ) -> Result<[Row; 2], String> {
-    let library = |place: usize| timed(|| drop(black_box(entry::second_opinion(positions[place], plies))));
-    let oracle = |place: usize| timed(|| drop(black_box(search(&seconds[place], plies))));
+    let library = |place: usize| {
+        let mut answer = Err(Refusal::TooManyPlies);
+        let time = timed(|| answer = black_box(entry::second_opinion(positions[place], plies)));
+        (time, answer)
+    };
+    let oracle = |place: usize| {
+        let mut answer = Err(Refused(0));
+        let time = timed(|| answer = black_box(search(&seconds[place], plies)));
+        (time, answer)
+    };
     let (mut ours, mut theirs) = (Vec::new(), Vec::new());
     for place in 0..positions.len() {
-        match (entry::second_opinion(positions[place], plies), search(&seconds[place], plies)) {
-            (Ok(one), Ok(other)) if same(one, other) => {}
+        let ((one, found), (other, second_found)) = (library(place), oracle(place));
+        match (found, second_found) {
+            (Ok(found), Ok(second_found)) if same(found, second_found) => {}
             answers => return Err(format!("{:?} within {plies}: {answers:?}", positions[place])),
         }
-        ours.push(library(place));
-        theirs.push(oracle(place));
+        ours.push(one);
+        theirs.push(other);
     }
     let row = |what: &str, library: f64, other: f64, of: Of| Row {
         what: format!("second opinion, queen, {plies} plies, {what}"),
@@ -78,7 +88,12 @@ fn rows_within(
     };
     Ok([
         row("mean", total(&ours), total(&theirs), Of::Each(positions.len())),
-        row("worst", worst(&ours, library), worst(&theirs, oracle), Of::Whole),
+        row(
+            "worst",
+            worst(&ours, |place| library(place).0),
+            worst(&theirs, |place| oracle(place).0),
+            Of::Whole,
+        ),
     ])
 }
 

@@ -6,11 +6,15 @@ use common::position;
 use sledgewren::{second_opinion, Keyed, Man, Opinion, Refusal, Table, MOST_PLIES};
 
 /// A position, and its second opinion within 6 plies.
-const CASES: [(&str, Opinion); 9] = [
+const CASES: [(&str, Opinion); 13] = [
     ("Q b b3 b2 a1", Opinion::Loss(0)),
     ("Q w b3 h2 a1", Opinion::Win(1)),
-    ("Q b e6 g7 e8", Opinion::Loss(2)),
-    ("Q w b3 g6 d1", Opinion::NotWithin),
+    ("Q b c1 d7 a1", Opinion::Loss(2)),
+    ("Q w e3 d8 f1", Opinion::Win(3)),
+    ("Q b d1 b6 b1", Opinion::Loss(4)),
+    ("Q w g4 f8 g6", Opinion::Win(5)),
+    ("Q b c7 b1 a3", Opinion::Loss(6)),
+    ("Q w g4 g6 f2", Opinion::NotWithin),
     ("R b a3 h1 a1", Opinion::Loss(0)),
     // stalemates, and a man that is taken
     ("Q b e5 b3 a1", Opinion::NotWithin),

@@ -74,15 +74,21 @@ fn show_position(p: Position) {
     show_number(p.black);
 }
 
-// One number of plies more than may be asked.
+fn answer_within(p: Position, k: u8) {
+    show_position(p);
+    io::write_all(1, b" within ");
+    show_number(k);
+    io::write_all(1, b": ");
+    show_opinion(second_opinion(p, k), k);
+    io::write_all(1, b"\n");
+}
+
+// Up to one ply more than may be asked for.
 fn answer(p: Position) {
-    for k in 0..8u8 {
-        show_position(p);
-        io::write_all(1, b" within ");
-        show_number(k);
-        io::write_all(1, b": ");
-        show_opinion(second_opinion(p, k), k);
-        io::write_all(1, b"\n");
+    let mut k: u8 = 0;
+    while k < 8 {
+        answer_within(p, k);
+        k += 1;
     }
 }
 
