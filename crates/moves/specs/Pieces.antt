@@ -1,5 +1,5 @@
 -- The pieces of a setup one by one, as code goes through them: a test over a board's pieces is a test of each of the four. Assumes nothing.
-use mathlib.Core.Path.{_≡_, refl, sym, ap}
+use mathlib.Core.Path.{_≡_, sym, ap}
 use mathlib.Core.Bool.{Bool, false, _&&_, _||_, or-false, and-false}
 use mathlib.Core.Logic.{inl}
 use Prim.Native.Nat.{ℕ, _^_, _<_}

@@ -1,38 +1,29 @@
 -- Which moves may give check, on any board: those after which another piece attacks the king once the mover's square is clear, and those
--- that bring the mover to a square from which it attacks him. Mate is check, so no other move mates. Assumes nothing.
-use mathlib.Core.Path.{_≡_, refl, sym, ap, subst, _∙_}
-use mathlib.Core.Bool.{Bool, false, not, _&&_, or-false}
+-- that bring the mover to a square from which it attacks him. Assumes nothing.
+use mathlib.Core.Path.{_≡_, sym, ap, subst, _∙_}
+use mathlib.Core.Bool.{Bool, false, not, _&&_}
 use mathlib.Core.Logic.{_⊎_, inl, inr}
-use mathlib.Core.List.{map}
 use Prim.Native.Nat.{ℕ, _-_, _<_}
 use native.Mathlib.Omega.{arith}
-use lib.Bits.{bitAnd, bitOr}
-use lib.Dec.{T, eqb, eqb→eq, eqb-refl}
-use borrow.Author.Tests.{eq-eqb, ne-eqb}
+use lib.Dec.{T, eqb, eqb-refl}
+use borrow.Author.Tests.{ne-eqb}
 use Rattle.finite.specs.Truth.{and-left, and-right, and-both, by-test, true-of, refuted}
 use Rattle.finite.specs.Members.{_∈_, any, any-in, any-out, any-same}
-use Rattle.finite.specs.Filter.{filter, filter-same}
-use Rattle.finite.specs.Tests.{any-map, any-append, any-kept}
-use Rattle.theory.specs.Value.{lost}
 use Rattle.board.specs.Reach.{reaches}
 use Rattle.board.specs.ReachLaws.{reaches-same}
 use Rattle.board.specs.Blocking.{reaches-fewer}
-use Rattle.board.specs.Sets.{has, squares, members, setOf}
-use Rattle.board.specs.SetLaws.{has-none, has-not, has-or, has-and, set-has, squares-out, members-setOf}
+use Rattle.board.specs.Sets.{has, setOf}
+use Rattle.board.specs.SetLaws.{has-none, has-not, set-has}
 use Rattle.symmetry.specs.Opposite.{reaches-sym}
 use Rattle.rules.specs.declared.Piece.{Piece}
-use Rattle.rules.specs.Rules.{Board, pieceOf, pieces, occupied, attacks, attacked, king, inCheck, stands, goes, empty, carried, carriedPiece, moved, moveOf, canMove, moves, mated}
-use Rattle.rules.specs.CanMove.{can-facts, can-on}
-use Rattle.rules.specs.Closed.{moved-side}
-use Rattle.rules.specs.Chess.{chess, played}
-use Rattle.moves.specs.declared.Slot.{Slot}
-use Rattle.moves.specs.declared.Slot.the-variants.{Absent, Present}
+use Rattle.rules.specs.Rules.{Board, pieces, occupied, attacks, attacked, king, inCheck, stands, goes, carried, carriedPiece, moved, canMove}
+use Rattle.rules.specs.CanMove.{can-on}
 use Rattle.moves.specs.declared.Setup.{Setup}
-use Rattle.moves.specs.Setups.{slotMen, setupBoard}
+use Rattle.moves.specs.Setups.{setupBoard}
 use Rattle.moves.specs.Over.{strikes, attackedOver, lifted, attacked-same}
 use Rattle.moves.specs.Carried.{carried-still, piece-before, Goer, goer, still-occupied}
 use Rattle.moves.specs.Lifted.{check-after}
-use Rattle.search.specs.Tried.{losing, aims, HoldsChecks}
+use Rattle.search.specs.Tried.{aims, HoldsChecks}
 
 -- ---- a board
 
@@ -109,56 +100,3 @@ module _ (s : Setup) (from foe at back occ rest : ℕ) (ef : foe ≡ 1 - s .side
       go (inr a) =
           let e : any (aims (lifted (occupied (setupBoard s)) from) from (king (setupBoard s) foe) t) (pieces (setupBoard s)) ≡ any (aims (has rest) from at t) (pieces (setupBoard s)) = rw (← ek) (aims-lifted t) in
           subst T (e ∙ sym (ea t (can-on (setupBoard s) from t c .1))) a
-
--- ---- aim, piece by piece
-
-module _ (occ : ℕ → Bool) (from at t : ℕ) where
-  pub aims-elsewhere : (m : Piece) → (m .square ≡ from → ⊥) → aims occ from at t m ≡ false
-  aims-elsewhere m h = rw (ne-eqb (m .square) from h)
-
-  pub aims-here : (m : Piece) → m .square ≡ from → aims occ from at t m ≡ reaches occ (m .kind) at t
-  aims-here m e = rw (eq-eqb (m .square) from e)
-
-  pub aims-absent : (slot : Slot) → slot ≡ Absent → any (aims occ from at t) (slotMen slot) ≡ false
-  unfolding any
-  aims-absent slot e = rw e
-
-  pub aims-present : (slot : Slot) (m : Piece) → slot ≡ Present m → any (aims occ from at t) (slotMen slot) ≡ aims occ from at t m
-  unfolding any
-  aims-present slot m e = rw e (or-false (aims occ from at t m))
-
-  pub aims-all : (s : Setup) (w b f g : ℕ) → has w t ≡ aims occ from at t (pieceOf 5 0 (s .white)) → has b t ≡ aims occ from at t (pieceOf 5 1 (s .black))
-      → has f t ≡ any (aims occ from at t) (slotMen (s .first)) → has g t ≡ any (aims occ from at t) (slotMen (s .second))
-      → has (bitOr w (bitOr b (bitOr f g))) t ≡ any (aims occ from at t) (pieces (setupBoard s))
-  unfolding any setupBoard
-  aims-all s w b f g ew eb ef eg = rw (has-or w (bitOr b (bitOr f g)) t, has-or b (bitOr f g) t, has-or f g t, ew, eb, ef, eg, any-append (aims occ from at t) (slotMen (s .first)) (slotMen (s .second)))
-
--- ---- the targets to try
-
-module _ (s : Setup) (from k targets : ℕ) (e : targets ≡ setOf (canMove (setupBoard s) from)) where
-  abbrev b : Board
-  b = setupBoard s
-
-  pub tried-every : any (losing k b) (map (moveOf from) (members targets)) ≡ any (losing k b) (map (moveOf from) (members (setOf (canMove b from))))
-  tried-every = ap (λ (z : ℕ). any (losing k b) (map (moveOf from) (members z))) e
-
-  -- with one ply left a move must mate, and mate is check
-  mates-check : k ≡ 1 → (t : ℕ) → T (losing k b (moveOf from t)) → T (inCheck (moved b from t) (1 - s .side))
-  unfolding lost mated setupBoard
-  mates-check z t h =
-      let q = moved b from t in
-      let m : T (mated q) = subst (λ (j : ℕ). T (lost chess (j - 1) q)) z h in
-      subst (λ (x : ℕ). T (inCheck q x)) (moved-side b from t) (and-left (inCheck q (q .side)) (empty (moves q)) m)
-
-  pub tried-checks : k ≡ 1 → (r : ℕ) → HoldsChecks s from r
-      → any (losing k b) (map (moveOf from) (members (bitAnd targets r))) ≡ any (losing k b) (map (moveOf from) (members (setOf (canMove b from))))
-  unfolding members
-  tried-checks z r h =
-      any-map (losing k b) (moveOf from) (members (bitAnd targets r))
-      ∙ ap (any wins) (filter-same (has (bitAnd targets r)) (λ t. canMove b from t && has r t) squares (λ t m. has-and targets r t ∙ ap (λ (x : Bool). x && has r t) (set-has _ e t (squares-out t m))))
-      ∙ any-kept wins (canMove b from) (has r) squares (λ t m c l. h t c (mates-check z t l))
-      ∙ ap (any wins) (sym (members-setOf (canMove b from)))
-      ∙ sym (any-map (losing k b) (moveOf from) (members (setOf (canMove b from))))
-    where
-      wins : ℕ → Bool
-      wins t = losing k b (moveOf from t)

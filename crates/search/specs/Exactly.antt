@@ -1,5 +1,5 @@
 -- The second opinion is the value definition's (02, P7: "Show that it equals the value definition"), and stalemate is no loss. Assumes nothing.
-use mathlib.Core.Path.{_≡_, refl, sym, ap, subst, _∙_}
+use mathlib.Core.Path.{_≡_, sym, ap, subst, _∙_}
 use mathlib.Core.Logic.{_⊎_, inl, inr, _↔_}
 use mathlib.Core.Bool.{true, cond}
 use Prim.Native.Nat.{ℕ, suc, _<_, _≤_}

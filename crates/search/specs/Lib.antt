@@ -1,6 +1,7 @@
 pub mod Tried
 pub mod MoverLaws
 pub mod CheckLaws
+pub mod TriedLaws
 pub mod WithinLaws
 pub mod Opinions
 pub mod OpinionLaws

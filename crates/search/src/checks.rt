@@ -1,4 +1,4 @@
-// Moves that may give check: before the last ply only these are tried, since mate is check.
+// Moves that may give check: for the last ply only these are tried, since mate is check.
 use board::targets;
 use board::without;
 use moves::Setup;

@@ -1,5 +1,5 @@
 //! Holds second opinions to the oracle's search and to both programs' tables: every legal position
-//! within 0 to 4 plies, and a sample within 5 and 6.
+//! within 0 to 4 plies, and a sample within 5 and 6. Bytes of all kinds are held to the oracle's.
 //!
 //! usage: search [SAMPLE [SEED]]
 
@@ -15,6 +15,7 @@ use sledgewren::{entry, Keyed, Man, Opinion, Refusal, Table, TABLE_BYTES};
 
 const SEED: u64 = 2049;
 const SAMPLE: usize = 20_000;
+const RANDOM: usize = 1_000_000;
 
 /// Plies asked of every legal position, and of the sample.
 const SHALLOW: std::ops::RangeInclusive<u8> = 0..=4;
@@ -82,10 +83,14 @@ fn oracle(keyed: Keyed, plies: u8) -> Answer {
 }
 
 impl Sum {
+    /// All four on a position of the tables' ending.
     fn add(&mut self, tables: &Tables, keyed: Keyed, plies: u8) {
-        let ours = library(keyed, plies);
         let [table, second_table] = tables.say(keyed, plies);
-        let others = [oracle(keyed, plies), table, second_table];
+        self.hold(keyed, plies, &[oracle(keyed, plies), table, second_table]);
+    }
+
+    fn hold(&mut self, keyed: Keyed, plies: u8, others: &[Answer]) {
+        let ours = library(keyed, plies);
         self.compared += 1;
         self.found += ours.is_ok_and(|opinion| opinion != Opinion::NotWithin) as usize;
         if others.iter().any(|&answer| answer != ours) {
@@ -94,6 +99,20 @@ impl Sum {
                 println!("{keyed:?} within {plies}: library {ours:?}; oracle, tables {others:?}");
             }
         }
+    }
+}
+
+/// Bytes of all kinds, about half of them in range, with few plies or too many.
+fn random(sequence: &mut Sequence, sum: &mut Sum) {
+    for _ in 0..RANDOM {
+        let mut byte = |end: u8| match sequence.below(16) {
+            0 => sequence.byte(),
+            _ => sequence.byte() % end,
+        };
+        let keyed = Keyed::from([byte(4), byte(2), byte(64), byte(64), byte(64)]);
+        let plies = byte(8);
+        let plies = if (4..=6).contains(&plies) { plies - 4 } else { plies };
+        sum.hold(keyed, plies, &[oracle(keyed, plies)]);
     }
 }
 
@@ -134,6 +153,8 @@ fn compare(words: &[String]) -> Result<Sum, String> {
         }
         println!("{man}: {} compared so far, {} differ", sum.compared, sum.differ);
     }
+    random(&mut sequence, &mut sum);
+    println!("random bytes: {} compared so far, {} differ", sum.compared, sum.differ);
     println!("{} of them name a depth", sum.found);
     Ok(sum)
 }

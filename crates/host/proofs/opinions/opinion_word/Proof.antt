@@ -1,6 +1,5 @@
 -- `host::opinion_word` meets its contract. Each arm by the case it is. Assumes nothing.
-use mathlib.Core.Path.{_≡_, ap, sym, _∙_}
-use Prim.Native.Nat.{_+_, _*_}
+use mathlib.Core.Path.{ap, sym, _∙_}
 use native.Mathlib.Nat.{add-zero}
 use borrow.Author.Needs.{needs}
 use Rattle.host.specs.OpinionWord.{opinionWord}

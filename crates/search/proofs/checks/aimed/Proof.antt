@@ -2,7 +2,7 @@
 use mathlib.Core.Path.{sym, _∙_}
 use Rattle.board.specs.Sets.{has}
 use Rattle.board.specs.SetLaws.{has-none, set-has}
-use Rattle.search.specs.CheckLaws.{aims-elsewhere, aims-here}
+use Rattle.search.specs.TriedLaws.{aims-elsewhere, aims-here}
 use Rattle.search.proofs.checks.aimed.Statement.{statement}
 use Rattle.search.proofs.checks.aimed.Tie as tie
 

@@ -3,7 +3,7 @@ use mathlib.Core.Path.{sym, _∙_}
 use borrow.Author.Needs.{needs}
 use Rattle.board.specs.Sets.{has}
 use Rattle.board.specs.SetLaws.{has-none}
-use Rattle.search.specs.CheckLaws.{aims-absent, aims-present}
+use Rattle.search.specs.TriedLaws.{aims-absent, aims-present}
 use Rattle.search.proofs.checks.aimed_slot.Statement.{statement}
 use Rattle.search.proofs.checks.aimed_slot.Tie as tie
 

@@ -1,8 +1,7 @@
 -- `search::tried` meets its contract. Assumes nothing.
-use Rattle.search.specs.CheckLaws.{tried-every, tried-checks}
+use Rattle.search.specs.TriedLaws.{tried-every, tried-checks}
 use Rattle.search.proofs.checks.tried.Statement.{statement}
 use Rattle.search.proofs.checks.tried.Tie as tie
-use borrow.Author.Needs.{needs}
 
 legal-targets-requires : tie.Need-legal-targets-requires
 legal-targets-requires c κs = tt
