@@ -1,11 +1,10 @@
 //! The second opinion on every legal queen position, one of each class, beside the oracle's search.
 
 use std::hint::black_box;
-use std::time::Duration;
 
-use second::position::{Keyed as SecondKeyed, Refused};
+use second::position::Keyed as SecondKeyed;
 use second::search::{search, Opinion as SecondOpinion};
-use sledgewren::{entry, Keyed, Man, Opinion, Refusal, MOST_PLIES};
+use sledgewren::{entry, Keyed, Man, Opinion, MOST_PLIES};
 
 use crate::positions::second;
 use crate::timing::{median, timed, Of, Row};
@@ -13,8 +12,17 @@ use crate::timing::{median, timed, Of, Row};
 /// The greatest ratio wanted.
 const GOAL: f64 = 1.5;
 
-/// The slowest positions of one pass, and how often each is timed again: one time alone may hold an
-/// interrupt of the machine.
+/// How often a position is timed: one time alone may hold an interrupt of the machine, which counts
+/// for little where a search takes long.
+fn repeats(plies: u8) -> usize {
+    if plies <= 4 {
+        5
+    } else {
+        1
+    }
+}
+
+/// The slowest positions of a pass, and how often each is timed again.
 const SLOWEST: usize = 20;
 const AGAIN: usize = 9;
 
@@ -37,19 +45,18 @@ fn same(ours: Opinion, theirs: SecondOpinion) -> bool {
     }
 }
 
-/// The median of the slowest position, of those that were slowest in the pass.
-fn worst(times: &[Duration], mut again: impl FnMut(usize) -> Duration) -> f64 {
-    let mut order: Vec<usize> = (0..times.len()).collect();
-    order.sort_by_key(|&place| std::cmp::Reverse(times[place]));
-    let medians = order
-        .into_iter()
-        .take(SLOWEST)
-        .map(|place| median((0..AGAIN).map(|_| again(place)).collect()));
-    medians.fold(0.0, f64::max)
+/// Seconds of one position, and its answer.
+fn measured<T>(repeats: usize, mut work: impl FnMut() -> T) -> (f64, Option<T>) {
+    let mut answer = None;
+    let times = (0..repeats).map(|_| timed(|| answer = Some(black_box(work())))).collect();
+    (median(times), answer)
 }
 
-fn total(times: &[Duration]) -> f64 {
-    times.iter().sum::<Duration>().as_secs_f64()
+/// The greatest median of those positions that were slowest in the pass.
+fn worst(times: &[f64], mut again: impl FnMut(usize) -> f64) -> f64 {
+    let mut order: Vec<usize> = (0..times.len()).collect();
+    order.sort_by(|&one, &other| times[other].total_cmp(&times[one]));
+    order.into_iter().take(SLOWEST).map(|place| again(place)).fold(0.0, f64::max)
 }
 
 /// Mean and worst time with so many plies.
@@ -58,42 +65,34 @@ fn rows_within(
     positions: &[Keyed],
     seconds: &[SecondKeyed],
 ) -> Result<[Row; 2], String> {
-    let library = |place: usize| {
-        let mut answer = Err(Refusal::TooManyPlies);
-        let time = timed(|| answer = black_box(entry::second_opinion(positions[place], plies)));
-        (time, answer)
+    let library = |place: usize, repeats: usize| {
+        measured(repeats, || entry::second_opinion(positions[place], plies))
     };
-    let oracle = |place: usize| {
-        let mut answer = Err(Refused(0));
-        let time = timed(|| answer = black_box(search(&seconds[place], plies)));
-        (time, answer)
-    };
+    let oracle =
+        |place: usize, repeats: usize| measured(repeats, || search(&seconds[place], plies));
     let (mut ours, mut theirs) = (Vec::new(), Vec::new());
     for place in 0..positions.len() {
-        let ((one, found), (other, second_found)) = (library(place), oracle(place));
-        match (found, second_found) {
-            (Ok(found), Ok(second_found)) if same(found, second_found) => {}
+        let (one, other) = (library(place, repeats(plies)), oracle(place, repeats(plies)));
+        match (one.1, other.1) {
+            (Some(Ok(found)), Some(Ok(second_found))) if same(found, second_found) => {}
             answers => return Err(format!("{:?} within {plies}: {answers:?}", positions[place])),
         }
-        ours.push(one);
-        theirs.push(other);
+        ours.push(one.0);
+        theirs.push(other.0);
     }
     let row = |what: &str, library: f64, other: f64, of: Of| Row {
-        what: format!("second opinion, queen, {plies} plies, {what}"),
+        what: format!("second opinion, queen, within {plies}, {what}"),
         library,
         beside: "oracle's search",
         other,
         of,
         goal: Some(GOAL),
     };
+    let worst_of_ours = worst(&ours, |place| library(place, AGAIN).0);
+    let worst_of_theirs = worst(&theirs, |place| oracle(place, AGAIN).0);
     Ok([
-        row("mean", total(&ours), total(&theirs), Of::Each(positions.len())),
-        row(
-            "worst",
-            worst(&ours, |place| library(place).0),
-            worst(&theirs, |place| oracle(place).0),
-            Of::Whole,
-        ),
+        row("mean", ours.iter().sum(), theirs.iter().sum(), Of::Each(positions.len())),
+        row("worst", worst_of_ours, worst_of_theirs, Of::Whole),
     ])
 }
 
