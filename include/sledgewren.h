@@ -1,6 +1,6 @@
 /*
  * Sledgewren: two kings and one white man. Positions are numbered, their tables filled and
- * checked, positions looked up, and a desk's lines answered.
+ * checked, positions looked up, searched without a table, and a desk's lines answered.
  *
  * Link with target/staticlib/libhost.a (x86-64). C99; C++ may include it.
  *
@@ -47,6 +47,9 @@ extern "C" {
 /* No position has more legal moves. */
 #define SLEDGEWREN_MOST_MOVES 35
 
+/* The most plies that a second opinion may be asked for. */
+#define SLEDGEWREN_MOST_PLIES 6
+
 /* Set in sledgewren_number's answer where it is a refusal. */
 #define SLEDGEWREN_NUMBER_REFUSED 0x80000000u
 
@@ -74,7 +77,9 @@ enum sledgewren_side {
 enum sledgewren_value {
     SLEDGEWREN_WIN = 1,
     SLEDGEWREN_LOSS = 2,
-    SLEDGEWREN_DRAW = 3
+    SLEDGEWREN_DRAW = 3,
+    /* sledgewren_second_opinion: neither a win nor a loss within the plies asked */
+    SLEDGEWREN_NOT_WITHIN = 4
 };
 
 /* Where several apply the lowest counts, except that a line's shape comes first, then its check. */
@@ -92,7 +97,8 @@ enum sledgewren_refusal {
     SLEDGEWREN_TOO_DEEP = 10,        /* a legal position's true depth exceeds 253 */
     SLEDGEWREN_INCONSISTENT = 11,    /* the byte is not what the successors' bytes require */
     SLEDGEWREN_BAD_LINE = 12,        /* line of the wrong shape */
-    SLEDGEWREN_BAD_CHECK = 13        /* check digits of a typed number wrong */
+    SLEDGEWREN_BAD_CHECK = 13,       /* check digits of a typed number wrong */
+    SLEDGEWREN_TOO_MANY_PLIES = 16   /* more than 6 plies asked for */
 };
 
 /*
@@ -153,6 +159,17 @@ uint64_t sledgewren_check(uint8_t man, const uint8_t *table, size_t len);
  */
 uint64_t sledgewren_look_up(const uint8_t *table, size_t len, uint8_t man, uint8_t side,
                             uint8_t white, uint8_t square, uint8_t black);
+
+/*
+ * A second opinion without a table: a search straight from the rules, which takes up to a few
+ * milliseconds at 6 plies. The value and the exact depth if that is at most `plies`, else
+ * SLEDGEWREN_NOT_WITHIN, with depth 0. It is what sledgewren_look_up says of depths up to
+ * `plies`, with every table that sledgewren_check accepts. Refusals 1 to 6, and 16 for more than
+ * SLEDGEWREN_MOST_PLIES.
+ *   bits 0-7 refusal, 8-15 value, 16-23 depth
+ */
+uint32_t sledgewren_second_opinion(uint8_t man, uint8_t side, uint8_t white, uint8_t square,
+                                   uint8_t black, uint8_t plies);
 
 /*
  * Answers one line of the desk, given without its newline, with a slip. The lent table holds the

@@ -6,6 +6,7 @@ mod desk;
 mod look_ups;
 mod moves;
 mod positions;
+mod search;
 mod tables;
 mod timing;
 
@@ -69,6 +70,7 @@ fn measure(oracle: &str, program: &str, gaviota: &str, folder: &Path) -> Result<
             rows.extend(moves::rows(man, side, MANY)?);
         }
     }
+    rows.extend(search::rows()?);
     Ok(rows)
 }
 

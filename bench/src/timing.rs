@@ -57,7 +57,7 @@ pub fn timed_program(work: impl FnOnce()) -> Duration {
     children_time() - start
 }
 
-fn median(mut times: Vec<Duration>) -> f64 {
+pub fn median(mut times: Vec<Duration>) -> f64 {
     times.sort();
     let middle = times.len() / 2;
     match times.len() % 2 {

@@ -1,4 +1,5 @@
-//! Adjudicates a position and plays it out with the table's moves on both sides.
+//! Adjudicates a position, by its table and by a search without one, and plays it out with the
+//! table's moves on both sides.
 //!
 //!     cargo run --example adjudicate -- R w e3 h1 e5
 
@@ -6,7 +7,8 @@ use std::env;
 use std::error::Error;
 use std::process::ExitCode;
 
-use sledgewren::{Accepted, Man, Move, Position, Side, Table};
+use sledgewren::MOST_PLIES;
+use sledgewren::{second_opinion, Accepted, Man, Move, Opinion, Position, Side, Table};
 
 const DEFAULT: [&str; 5] = ["Q", "w", "b3", "g6", "d1"];
 
@@ -38,6 +40,14 @@ fn played(position: Position, chosen: Move) -> Option<Position> {
     Some(next)
 }
 
+/// The second opinion, as deep as it may be asked for.
+fn searched(position: Position) -> Result<String, Box<dyn Error>> {
+    match second_opinion(position, MOST_PLIES)? {
+        Opinion::NotWithin => Ok(format!("not within {MOST_PLIES} plies")),
+        found => Ok(found.to_string()),
+    }
+}
+
 /// The moves that the table gives, up to mate, stalemate, bare kings or so many plies.
 fn line(table: &Accepted, mut position: Position, plies: usize) -> Result<String, Box<dyn Error>> {
     let mut text = String::new();
@@ -66,7 +76,8 @@ fn adjudicate() -> Result<(), Box<dyn Error>> {
         None => println!("{}: no position is decided", position.man),
     }
     let table = table.accept(position.man).map_err(|(_, number)| format!("wrong at {number}"))?;
-    println!("{position}: {}", table.table().look_up(position)?);
+    let answer = table.table().look_up(position)?;
+    println!("{position}: {answer}; without a table: {}", searched(position)?);
     println!("play: {}", line(&table, position, 40)?);
     Ok(())
 }

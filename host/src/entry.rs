@@ -5,10 +5,8 @@
 //! rest on these functions.
 
 use crate::ffi;
-use crate::{
-    Answer, Checked, Keyed, Man, Move, Moves, Position, Refusal, Side, Slip, Square, Typed,
-};
-use crate::{MOST_MOVES, SLIP_BYTES};
+use crate::{Answer, Checked, Keyed, Man, Move, Moves, Opinion, Position, Refusal, Side, Slip};
+use crate::{Square, Typed, MOST_MOVES, SLIP_BYTES};
 
 /// The linked library is not the one this crate is written for.
 #[cold]
@@ -135,6 +133,23 @@ pub fn look_up(table: &[u8], keyed: impl Into<Keyed>) -> Result<Answer, Refusal>
         2 => Ok(Answer::Loss { depth, best }),
         3 => Ok(Answer::Draw { best }),
         _ => broken("look_up", answer),
+    }
+}
+
+/// The value and exact depth if that is at most so many plies, by a search without tables.
+/// Refusals 1 to 6 and 16.
+pub fn second_opinion(keyed: impl Into<Keyed>, plies: u8) -> Result<Opinion, Refusal> {
+    let Keyed { man, side, white_king, man_square, black_king } = keyed.into();
+    // SAFETY: no pointers.
+    let answer = unsafe {
+        ffi::sledgewren_second_opinion(man, side, white_king, man_square, black_king, plies)
+    };
+    let answer = unless_refused("second_opinion", answer as u64)?;
+    match bits(answer, 8) {
+        1 => Ok(Opinion::Win(bits(answer, 16))),
+        2 => Ok(Opinion::Loss(bits(answer, 16))),
+        4 => Ok(Opinion::NotWithin),
+        _ => broken("second_opinion", answer),
     }
 }
 

@@ -47,6 +47,16 @@ extern "C" {
         black: u8,
     ) -> u64;
 
+    /// Bits 0-7 refusal, 8-15 value (1 win, 2 loss, 4 not within so many plies), 16-23 depth.
+    pub fn sledgewren_second_opinion(
+        man: u8,
+        side: u8,
+        white: u8,
+        square: u8,
+        black: u8,
+        plies: u8,
+    ) -> u32;
+
     /// Bits 0-7 length of the slip, 8-15 the man held afterwards. Where `slip_len` is 16 it writes
     /// the slip; with any other `slip_len` it writes nothing and answers 0xFFFF.
     pub fn sledgewren_answer_line(

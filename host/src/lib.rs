@@ -34,6 +34,7 @@
 //! | `sledgewren_fill` | [`entry::fill`] | [`Table::fill`], [`Table::filled`] |
 //! | `sledgewren_check` | [`entry::check`] | [`Table::check`], [`Table::accept`] |
 //! | `sledgewren_look_up` | [`entry::look_up`] | [`Table::look_up`], [`Accepted::look_up`] |
+//! | `sledgewren_second_opinion` | [`entry::second_opinion`] | [`second_opinion`] |
 //! | `sledgewren_answer_line` | [`entry::answer_line`] | [`Desk::answer`], [`Desk::run`] |
 
 #![deny(missing_docs)]
@@ -44,6 +45,7 @@ pub mod entry;
 pub mod ffi;
 mod man;
 mod moves;
+mod opinion;
 mod position;
 mod refusal;
 mod square;
@@ -54,6 +56,7 @@ pub use answer::{Answer, Checked, Value};
 pub use desk::{Desk, Slip, SLIP_BYTES};
 pub use man::{Man, Side};
 pub use moves::{Move, Moves, MOST_MOVES};
+pub use opinion::{second_opinion, Opinion, MOST_PLIES};
 pub use position::{Keyed, Position};
 pub use refusal::Refusal;
 pub use square::{NoSquare, Square};

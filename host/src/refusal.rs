@@ -32,11 +32,13 @@ pub enum Refusal {
     BadLine = 12,
     /// 13: check digits of a typed number wrong.
     BadCheck = 13,
+    /// 16: more than 6 plies asked for.
+    TooManyPlies = 16,
 }
 
 impl Refusal {
-    /// All thirteen, in order.
-    pub const ALL: [Refusal; 13] = [
+    /// All of them, in order.
+    pub const ALL: [Refusal; 14] = [
         Refusal::BadMan,
         Refusal::BadSide,
         Refusal::BadSquare,
@@ -50,14 +52,15 @@ impl Refusal {
         Refusal::Inconsistent,
         Refusal::BadLine,
         Refusal::BadCheck,
+        Refusal::TooManyPlies,
     ];
 
-    /// The refusal with this number, or none but for 1 to 13.
+    /// The refusal with this number, if there is one.
     pub fn from_code(code: u8) -> Option<Refusal> {
         Refusal::ALL.into_iter().find(|refusal| refusal.code() == code)
     }
 
-    /// Its number, 1 to 13.
+    /// Its number.
     pub fn code(self) -> u8 {
         self as u8
     }
@@ -78,6 +81,7 @@ impl Refusal {
             Refusal::Inconsistent => "the byte is not what the successors' bytes require",
             Refusal::BadLine => "line of the wrong shape",
             Refusal::BadCheck => "check digits of a typed number wrong",
+            Refusal::TooManyPlies => "more than 6 plies asked for",
         }
     }
 }
@@ -98,7 +102,7 @@ mod tests {
     #[test]
     fn numbers_come_back() {
         for code in 0..=255 {
-            let expected = (1..=13).contains(&code).then_some(code);
+            let expected = matches!(code, 1..=13 | 16).then_some(code);
             assert_eq!(Refusal::from_code(code).map(Refusal::code), expected);
         }
     }

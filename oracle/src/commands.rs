@@ -16,7 +16,7 @@ use crate::number::{back, number, NUMBERS};
 use crate::position::{Keyed, Man, Refused, MEN};
 use crate::rules::{legal_position, move_name, moves};
 use crate::table::{check, look_up, Checked};
-use crate::{fill_back, fill_every, samples, selftest};
+use crate::{commands_search, fill_back, fill_every, samples, selftest};
 
 pub const USAGE: &str = "\
 usage: oracle SUBCOMMAND [ARGUMENTS]     (MAN is Q, R, B or N)
@@ -31,6 +31,9 @@ usage: oracle SUBCOMMAND [ARGUMENTS]     (MAN is Q, R, B or N)
   typed                   write each number on standard input with its check digits
   check MAN FILE          check a table: accepted, wrong N or refused N
   lookup FILE             look up each line on standard input in a table
+  search K                search each line on standard input K plies deep
+  search-positions        write the search's sample of input lines
+  search-cases            answer the sample for every K up to 7
   desk                    the desk program, on standard input
   run                     write the input of the example run
   bench-positions         answer the positions to keep by the bench
@@ -39,13 +42,13 @@ usage: oracle SUBCOMMAND [ARGUMENTS]     (MAN is Q, R, B or N)
   selftest                hold the program to outside truth
   --help                  write this text
 
-Lines for moves, number and lookup hold five decimal numbers from 0 to 255:
+Lines for moves, number, lookup and search hold five decimal numbers from 0 to 255:
 man side whiteking mansquare blackking (queen 0, rook 1, bishop 2, knight 3;
 White 0, Black 1; square = 8 x rank + file, a1 = 0, h8 = 63).
 Exit status: 0 done, 1 failed self test or stream, 2 bad usage or malformed line.
 ";
 
-type Out<'a> = BufWriter<StdoutLock<'a>>;
+pub type Out<'a> = BufWriter<StdoutLock<'a>>;
 
 pub fn run(arguments: &[OsString]) -> Done {
     let Some((first, rest)) = arguments.split_first() else {
@@ -65,6 +68,7 @@ fn dispatch(name: &str, rest: &[OsString], output: &mut Out) -> Done {
         "fill-back" => timed("fill-back", fill_back::fill, rest, output),
         "check" => check_file(rest, output),
         "lookup" => lookup(rest, output),
+        "search" => commands_search::search_lines(rest, output),
         _ => without_arguments(name, rest, output),
     }
 }
@@ -77,6 +81,8 @@ fn without_arguments(name: &str, rest: &[OsString], output: &mut Out) -> Done {
         "number" => number_lines,
         "back" => back_lines,
         "typed" => typed_lines,
+        "search-positions" => commands_search::sample_lines,
+        "search-cases" => commands_search::sample_answers,
         "desk" => |output| desk::run(io::stdin().lock(), output),
         "run" => |output| Ok(output.write_all(cases::RUN_INPUT.as_bytes())?),
         "bench-positions" => bench_positions,
@@ -98,7 +104,7 @@ fn man_named(word: &OsStr) -> Result<Man, Failure> {
     found.map_or_else(|| usage(format!("no man {word:?}: give Q, R, B or N")), Ok)
 }
 
-fn refused_text(Refused(number): Refused) -> String {
+pub fn refused_text(Refused(number): Refused) -> String {
     format!("refused {number}")
 }
 
@@ -150,10 +156,15 @@ fn list_moves(output: &mut Out) -> Done {
     })
 }
 
+/// An input line.
+pub fn keyed_text(keyed: &Keyed) -> String {
+    let Keyed { man, side, white_king, man_square, black_king } = keyed;
+    format!("{man} {side} {white_king} {man_square} {black_king}")
+}
+
 fn positions(output: &mut Out) -> Done {
     for keyed in samples::lines() {
-        let Keyed { man, side, white_king, man_square, black_king } = keyed;
-        writeln!(output, "{man} {side} {white_king} {man_square} {black_king}")?;
+        writeln!(output, "{}", keyed_text(&keyed))?;
     }
     Ok(())
 }

@@ -7,7 +7,8 @@ use crate::fill::Filled;
 use crate::fill_every;
 use crate::number::NUMBERS;
 use crate::position::{Keyed, Man, MEN};
-use crate::{tests_board, tests_check_digits, tests_desk, tests_games, tests_number, tests_table};
+use crate::{tests_board, tests_check_digits, tests_desk, tests_games, tests_number};
+use crate::{tests_search, tests_table};
 
 /// The four tables by the plain fill, made once for all tests.
 pub struct Truth {
@@ -62,6 +63,7 @@ pub fn run(output: &mut impl Write) -> Done {
         tests_table::TESTS,
         tests_games::TESTS,
         tests_check_digits::TESTS,
+        tests_search::TESTS,
         tests_desk::TESTS,
     ];
     for &(name, test) in lists.into_iter().flatten() {

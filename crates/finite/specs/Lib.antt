@@ -1,6 +1,7 @@
 pub mod Truth
 pub mod Members
 pub mod Filter
+pub mod Tests
 pub mod Numbers
 pub mod Below
 pub mod Lowest

@@ -1,5 +1,6 @@
 pub mod Words
 pub mod TypedWord
 pub mod TypedLaws
+pub mod OpinionWord
 pub mod Laws
 pub mod LineTrue

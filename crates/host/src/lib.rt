@@ -2,6 +2,7 @@
 mod desk;
 mod lists;
 mod numbers;
+mod opinions;
 mod tables;
 mod typed_number;
 mod words;
@@ -11,6 +12,7 @@ pub use lists::sledgewren_moves;
 pub use numbers::sledgewren_count;
 pub use numbers::sledgewren_number;
 pub use numbers::sledgewren_position;
+pub use opinions::sledgewren_second_opinion;
 pub use tables::sledgewren_check;
 pub use tables::sledgewren_fill;
 pub use tables::sledgewren_look_up;

@@ -69,7 +69,7 @@ king-carried b from to side = go (eqb side 0)
     go true = refl
     go false = refl
 
-check-after : (b : Board) (from to side : ℕ) → inCheck (moved b from to) side ≡ attacked (moved b from to) (1 - side) (carried from to (king b side))
+pub check-after : (b : Board) (from to side : ℕ) → inCheck (moved b from to) side ≡ attacked (moved b from to) (1 - side) (carried from to (king b side))
 unfolding inCheck
 check-after b from to side = ap (attacked (moved b from to) (1 - side)) (king-carried b from to side)
 

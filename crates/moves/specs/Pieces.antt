@@ -1,14 +1,14 @@
 -- The pieces of a setup one by one, as code goes through them: a test over a board's pieces is a test of each of the four. Assumes nothing.
-use mathlib.Core.Path.{_≡_, refl, sym, ap}
-use mathlib.Core.Bool.{Bool, false, _&&_, _||_, or-assoc, or-false, and-false}
+use mathlib.Core.Path.{_≡_, sym, ap}
+use mathlib.Core.Bool.{Bool, false, _&&_, _||_, or-false, and-false}
 use mathlib.Core.Logic.{inl}
-use mathlib.Core.List.{List, [], _∷_, _++_}
 use Prim.Native.Nat.{ℕ, _^_, _<_}
 use native.Mathlib.Omega.{arith}
 use lib.Dec.{eqb}
 use lib.Bits.{bitOr, or-lt}
 use borrow.Author.Tests.{ne-eqb, eq-eqb}
 use Rattle.finite.specs.Members.{any}
+use Rattle.finite.specs.Tests.{any-append}
 use Rattle.board.specs.Sets.{has}
 use Rattle.board.specs.SetLaws.{has-or}
 use Rattle.board.specs.ReachLaws.{reaches-off}
@@ -45,11 +45,6 @@ abbrev pub ownOn : ℕ → ℕ → Piece → Bool
 ownOn colour t m = eqb (m .colour) colour && eqb (m .square) t
 
 -- ---- a test that nobody passes
-
-any-append : (f : Piece → Bool) (k l : List Piece) → any f (k ++ l) ≡ (any f k || any f l)
-unfolding any
-any-append f [] l = refl
-any-append f (a ∷ k) l = rw (any-append f k l) (sym (or-assoc (f a) (any f k) (any f l)))
 
 module _ (f : Piece → Bool) (none : f nobody ≡ false) where
   slot-any : (s : Slot) → any f (slotMen s) ≡ f (manOf s)

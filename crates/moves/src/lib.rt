@@ -6,7 +6,9 @@ mod making;
 mod occupancy;
 mod targets;
 
+pub use attack::attacked_over;
 pub use attack::in_check;
+pub use attack::king_square;
 pub use making::carried;
 pub use making::make;
 pub use making::other;

@@ -31,6 +31,8 @@ pub mod retract;
 pub mod rule;
 #[path = "../../../oracle/src/rules.rs"]
 pub mod rules;
+#[path = "../../../oracle/src/search.rs"]
+pub mod search;
 #[path = "../../../oracle/src/symmetry.rs"]
 pub mod symmetry;
 #[path = "../../../oracle/src/table.rs"]

@@ -1,0 +1,19 @@
+-- `search::tried` meets its contract. Assumes nothing.
+use Rattle.search.specs.TriedLaws.{tried-every, tried-checks}
+use Rattle.search.proofs.checks.tried.Statement.{statement}
+use Rattle.search.proofs.checks.tried.Tie as tie
+
+legal-targets-requires : tie.Need-legal-targets-requires
+legal-targets-requires c κs = tt
+
+returns : tie.Need-returns
+returns c = tried-every _ _ _ _ (c .before .legal-targets .ensures)
+
+checking-requires : tie.Need-checking-requires
+checking-requires c κs = tt
+
+returns-2 : tie.Need-returns-2
+returns-2 c = tried-checks _ _ _ _ (c .before .before .legal-targets .ensures) (c .before .if1 .left) _ (c .checking .ensures)
+
+pub tried-spec : {M : Type 1} → statement M
+tried-spec = tie.close (tie.spec legal-targets-requires returns checking-requires returns-2)

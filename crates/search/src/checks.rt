@@ -1,0 +1,92 @@
+// Moves that may give check: for the last ply only these are tried, since mate is check.
+use board::targets;
+use board::without;
+use moves::Setup;
+use moves::Slot;
+use moves::attacked_over;
+use moves::king_square;
+use moves::legal_targets;
+use moves::occupied;
+use moves::other;
+use rules::Piece;
+ghost use mathlib.Core.Path.{_≡_};
+ghost use mathlib.Core.List.{map};
+ghost use Prim.Native.Nat.{ℕ, _<_};
+ghost use Rattle.finite.specs.Members.{any};
+ghost use Rattle.board.specs.Sets.{has, members, setOf};
+ghost use Rattle.rules.specs.Rules.{pieces, moveOf, canMove};
+ghost use Rattle.moves.specs.Setups.{slotMen, setupBoard};
+ghost use Rattle.search.specs.Tried.{losing, aims, HoldsChecks};
+
+const KING: u8 = 5;
+
+const EVERYWHERE: u64 = 18446744073709551615;
+
+// The squares from which a piece would attack `at`, if it stands on `from`.
+fn aimed(occ: u64, from: u8, at: u8, m: Piece) -> u64
+    ensures { λ r. ⌜ ((t : ℕ) → t < 64 → has r t ≡ aims (has occ) from at t m) ⌝ }
+{
+    if m.square != from {
+        return 0;
+    }
+    targets(occ, m.kind, at)
+}
+
+// The same of a piece that may be absent.
+fn aimed_slot(occ: u64, from: u8, at: u8, slot: Slot) -> u64
+    ensures { λ r. ⌜ ((t : ℕ) → t < 64 → has r t ≡ any (aims (has occ) from at t) (slotMen slot)) ⌝ }
+{
+    match slot {
+        Slot::Absent => 0,
+        Slot::Present(m) => aimed(occ, from, at, m),
+    }
+}
+
+// The same of all pieces.
+fn aimed_all(s: Setup, occ: u64, from: u8, at: u8) -> u64
+    ensures { λ r. ⌜ ((t : ℕ) → t < 64 → has r t ≡ any (aims (has occ) from at t) (pieces (setupBoard s))) ⌝ }
+{
+    let white = Piece {
+        kind: KING,
+        colour: 0,
+        square: s.white,
+    };
+    let black = Piece {
+        kind: KING,
+        colour: 1,
+        square: s.black,
+    };
+    let first = s.first;
+    let second = s.second;
+    aimed(occ, from, at, white)
+        | (aimed(occ, from, at, black)
+            | (aimed_slot(occ, from, at, first) | aimed_slot(occ, from, at, second)))
+}
+
+// Holds each target of a legal move from a square that gives check: all squares, where another piece attacks the king once the mover's
+// square is clear, and else those from which the mover attacks him.
+fn checking(s: Setup, from: u8) -> u64
+    ensures { λ r. ⌜ HoldsChecks s from r ⌝ }
+{
+    let foe = other(s.side);
+    let king = king_square(s, foe);
+    if king == from {
+        return EVERYWHERE;
+    }
+    let rest = without(occupied(s), from);
+    if attacked_over(s, rest, other(foe), king) {
+        return EVERYWHERE;
+    }
+    aimed_all(s, rest, from, king)
+}
+
+// The targets to try from a square for a win within k plies.
+pub fn tried(s: Setup, from: u8, k: u8) -> u64
+    ensures { λ r. ⌜ any (losing k (setupBoard s)) (map (moveOf from) (members r)) ≡ any (losing k (setupBoard s)) (map (moveOf from) (members (setOf (canMove (setupBoard s) from)))) ⌝ }
+{
+    let targets = legal_targets(s, from);
+    if k != 1 {
+        return targets;
+    }
+    targets & checking(s, from)
+}

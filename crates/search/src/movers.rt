@@ -1,0 +1,52 @@
+// The squares where moves start, and whether there is a move.
+use board::lowest;
+use board::without;
+use moves::Setup;
+use moves::Slot;
+use moves::legal_targets;
+use moves::own;
+ghost use mathlib.Core.Path.{_≡_};
+ghost use mathlib.Core.Bool.{not};
+ghost use Rattle.rules.specs.Rules.{empty, moves};
+ghost use Rattle.moves.specs.Setups.{setupBoard};
+ghost use Rattle.search.specs.Tried.{moversOf};
+
+// Whether there are only the kings.
+fn is_bare(s: Setup) -> bool
+    ensures { λ r. ⌜ r ≡ empty (setupBoard s .men) ⌝ }
+{
+    let first = s.first;
+    let second = s.second;
+    match first {
+        Slot::Present(_) => false,
+        Slot::Absent => match second {
+            Slot::Present(_) => false,
+            Slot::Absent => true,
+        },
+    }
+}
+
+// The squares where moves start: those of the pieces of the side to move, and none with bare kings, where the game is over.
+pub fn movers(s: Setup) -> u64
+    ensures { λ r. ⌜ r ≡ moversOf (setupBoard s) ⌝ }
+{
+    if is_bare(s) {
+        return 0;
+    }
+    own(s, s.side)
+}
+
+// Whether the side to move has a legal move.
+pub fn can_move(s: Setup) -> bool
+    ensures { λ r. ⌜ r ≡ not (empty (moves (setupBoard s))) ⌝ }
+{
+    let mut rest = movers(s);
+    while rest != 0 {
+        let from = lowest(rest);
+        if legal_targets(s, from) != 0 {
+            return true;
+        }
+        rest = without(rest, from);
+    }
+    false
+}

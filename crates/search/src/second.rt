@@ -1,0 +1,49 @@
+// The second opinion on a position as keyed.
+use super::Opinion;
+use super::within::lost_within;
+use super::within::won_within;
+use listing::setup_of;
+use listing::standing_refusal;
+use moves::Setup;
+use position::Position;
+ghost use mathlib.Core.Path.{_≡_};
+ghost use Rattle.moves.specs.Setups.{setupBoard};
+ghost use Rattle.search.specs.Opinions.{askedIn, opinionOf};
+
+// The most plies that may be asked.
+const MOST: u8 = 6;
+
+// Whether the position is won within n plies, where n is odd, or lost, where it is even: no win is even and no loss odd.
+fn is_decided(s: Setup, n: u8) -> bool
+    ensures { λ r. ⌜ r ≡ askedIn (setupBoard s) n ⌝ }
+{
+    if n % 2 == 1 {
+        return won_within(s, n);
+    }
+    lost_within(s, n)
+}
+
+// The exact depth if at most k, asked in rising order; or a refusal from 1 to 6, or 16.
+pub fn second_opinion(p: Position, k: u8) -> Opinion
+    ensures { λ r. ⌜ r ≡ opinionOf p k ⌝ }
+{
+    let refusal = standing_refusal(p);
+    if refusal != 0 {
+        return Opinion::Refused(refusal);
+    }
+    if MOST < k {
+        return Opinion::Refused(16);
+    }
+    let s = setup_of(p);
+    let mut n: u8 = 0;
+    while n <= k {
+        if is_decided(s, n) {
+            if n % 2 == 1 {
+                return Opinion::Win(n);
+            }
+            return Opinion::Loss(n);
+        }
+        n += 1;
+    }
+    Opinion::NotWithin
+}
