@@ -1,0 +1,64 @@
+// The four tallies of a pocket, by counting set bits.
+use crate::Tallied;
+use crate::Tallies;
+ghost use mathlib.Core.Path.{_≡_};
+ghost use Prim.Native.Nat.{_+_, _<_, _≤_};
+ghost use lib.ListN.{length};
+ghost use Rattle.pocket.specs.Tally.{tallyOf};
+ghost use Rattle.pocket.specs.TallyLaws.{Word};
+
+const POCKET_SIZE: usize = 14784;
+
+const NUMBERS: u32 = 59136;
+
+// The low bit of each of a word's 32 entries.
+const LOW_BITS: u64 = 6148914691236517205;
+
+fn wide(x: u8) -> u64
+    ensures { λ r. ⌜ (r ≡ x) × (r ≤ 255) ⌝ }
+{
+    x as u64
+}
+
+// The eight bytes from i on as one word of 32 entries, the first in the lowest bits.
+fn word(pocket: &[u8], i: usize) -> u64
+    requires { ⌜ i + 7 < length (now pocket) ⌝ }
+    ensures { λ r. ⌜ Word (now (pocket .entry)) i r ⌝ }
+{
+    let a = wide(pocket[i]);
+    let b = wide(pocket[i + 1]);
+    let c = wide(pocket[i + 2]);
+    let d = wide(pocket[i + 3]);
+    let e = wide(pocket[i + 4]);
+    let f = wide(pocket[i + 5]);
+    let g = wide(pocket[i + 6]);
+    let h = wide(pocket[i + 7]);
+    a + 256 * (b + 256 * (c + 256 * (d + 256 * (e + 256 * (f + 256 * (g + 256 * h))))))
+}
+
+// How many numbers have each of the four entries; or refusal 7. A draw sets the low bit of its entry, a win the high bit, a loss both.
+pub fn tally(pocket: &[u8]) -> Tallied
+    ensures { λ r. ⌜ r ≡ tallyOf (now (pocket .entry)) ⌝ }
+{
+    if pocket.len() != POCKET_SIZE {
+        return Tallied::Refused(7);
+    }
+    let mut set: u32 = 0;
+    let mut low: u32 = 0;
+    let mut both: u32 = 0;
+    let mut i: usize = 0;
+    while i < POCKET_SIZE {
+        let w = word(pocket, i);
+        let lows = w & LOW_BITS;
+        set += u64::count_ones(w);
+        low += u64::count_ones(lows);
+        both += u64::count_ones(lows & (w >> 1));
+        i += 8;
+    }
+    Tallied::Counted(Tallies {
+        none: NUMBERS + both - set,
+        draws: low - both,
+        wins: set - low - both,
+        losses: both,
+    })
+}
