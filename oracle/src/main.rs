@@ -3,6 +3,7 @@
 mod board;
 mod cases;
 mod commands;
+mod commands_pocket;
 mod counts;
 mod desk;
 mod failure;
@@ -13,6 +14,7 @@ mod index;
 mod lines;
 mod number;
 mod plain;
+mod pocket;
 mod position;
 mod retract;
 mod rule;
@@ -25,6 +27,7 @@ mod tests_board;
 mod tests_desk;
 mod tests_games;
 mod tests_number;
+mod tests_pocket;
 mod tests_table;
 
 use std::ffi::OsString;
