@@ -2,6 +2,8 @@
 mod desk;
 mod lists;
 mod numbers;
+mod pocket_words;
+mod pockets;
 mod tables;
 mod words;
 
@@ -10,6 +12,9 @@ pub use lists::sledgewren_moves;
 pub use numbers::sledgewren_count;
 pub use numbers::sledgewren_number;
 pub use numbers::sledgewren_position;
+pub use pockets::sledgewren_pack;
+pub use pockets::sledgewren_pocket_look_up;
+pub use pockets::sledgewren_tallies;
 pub use tables::sledgewren_check;
 pub use tables::sledgewren_fill;
 pub use tables::sledgewren_look_up;

@@ -1,7 +1,13 @@
 pub mod Pocket
-pub mod Laws
-pub mod Agreement
-pub mod Tally
+pub mod TrueValue
 pub mod Digits
-pub mod TallyLaws
+pub mod Tally
+pub mod PackLaws
+pub mod LookUpLaws
+pub mod Unpacking
+pub mod Agreement
 pub mod Refusals
+pub mod DigitLaws
+pub mod WordLaws
+pub mod TallyLaws
+pub mod PackedTallies

@@ -43,20 +43,46 @@ packOf t pocket =
     (cond (not (eqb (length pocket) pocketSize)) (record { answer = Packed.Refused 7; bytes = pocket })
     (record { answer = Packed.Done; bytes = mapFrom (λ i b. packedByte t i) 0 pocket }))
 
+-- ---- what a look-up tells: 01's number of a refusal, and the value
+
+-- "A refusal gives its number and nothing else; any other field is zero." The value is 1 for a win, 2 for a loss and 3 for a draw of the side to move.
+pub record Told : Type 0 where
+  pub refusal : ℕ
+  pub value : ℕ
+
+abbrev pub win : Told
+win = record { refusal = 0; value = 1 }
+
+abbrev pub loss : Told
+loss = record { refusal = 0; value = 2 }
+
+abbrev pub draw : Told
+draw = record { refusal = 0; value = 3 }
+
+abbrev pub refusing : ℕ → Told
+refusing n = record { refusal = n; value = 0 }
+
+-- each case of the pocket look-up's answer
+abbrev pub toldBy : PocketAnswer → Told
+toldBy PocketAnswer.Win = win
+toldBy PocketAnswer.Loss = loss
+toldBy PocketAnswer.Draw = draw
+toldBy (PocketAnswer.Refused n) = refusing n
+
+-- each case of the large look-up's answer, without its depth and move
+abbrev pub toldIn : Answer → Told
+toldIn (Win n a) = win
+toldIn (Loss n a) = loss
+toldIn (Draw a) = draw
+toldIn (Refused n) = refusing n
+
 -- ---- looking up: "reads one entry, with refusals 1 to 7, and gives 11 exactly when a legal position's entry is 0"
 
-unfoldable pub valueOf : ℕ → PocketAnswer
-valueOf e = cond (eqb e 0) (PocketAnswer.Refused 11) (cond (eqb e 1) PocketAnswer.Draw (cond (eqb e 2) PocketAnswer.Win PocketAnswer.Loss))
+unfoldable pub entryTells : ℕ → Told
+entryTells e = cond (eqb e 0) (refusing 11) (cond (eqb e 1) draw (cond (eqb e 2) win loss))
 
-unfoldable pub pocketLookUpOf : List ℕ → Position → PocketAnswer
+unfoldable pub pocketLookUpOf : List ℕ → Position → Told
 pocketLookUpOf pocket p =
-    cond (not (eqb (standing p) 0)) (PocketAnswer.Refused (standing p))
-    (cond (not (eqb (length pocket) pocketSize)) (PocketAnswer.Refused 7)
-    (valueOf (entryAt pocket (numberOf (boardOf p)))))
-
--- the value in an answer of the large look-up
-abbrev pub valueIn : Answer → PocketAnswer
-valueIn (Win n a) = PocketAnswer.Win
-valueIn (Loss n a) = PocketAnswer.Loss
-valueIn (Draw a) = PocketAnswer.Draw
-valueIn (Refused n) = PocketAnswer.Refused n
+    cond (not (eqb (standing p) 0)) (refusing (standing p))
+    (cond (not (eqb (length pocket) pocketSize)) (refusing 7)
+    (entryTells (entryAt pocket (numberOf (boardOf p)))))

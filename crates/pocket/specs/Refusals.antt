@@ -1,5 +1,5 @@
--- When the pocket look-up refuses with 11, and that it tells the truth. Assumes nothing.
-use mathlib.Core.Path.{_≡_, refl, sym, ap, subst, _∙_}
+-- When the pocket look-up refuses with 11, and that each of its answers tells something of its own. Assumes nothing.
+use mathlib.Core.Path.{_≡_, refl, sym, ap, _∙_}
 use mathlib.Core.Bool.{Bool, true, false, cond, not, _||_}
 use mathlib.Core.Logic.{_↔_}
 use mathlib.Core.List.{List}
@@ -9,21 +9,14 @@ use lib.Dec.{T, leb, eqb}
 use lib.ListN.{length}
 use borrow.Author.Tests.{eq-eqb, eqb-true}
 use Rattle.finite.specs.Truth.{true-of, of-true}
-use Rattle.theory.specs.Value.{WonIn, LostIn, Drawn}
-use Rattle.rules.specs.Rules.{Board, touching, inCheck, legal}
-use Rattle.rules.specs.Chess.{chess}
+use Rattle.rules.specs.Rules.{touching, inCheck, legal}
 use Rattle.position.specs.declared.Position.{Position}
 use Rattle.position.specs.Keyed.{boardOf, placing, standing}
 use Rattle.position.specs.Legality.{legal-standing}
 use Rattle.numbering.specs.Number.{numberOf}
-use Rattle.answers.specs.declared.Answer.{Answer}
-use Rattle.answers.specs.declared.Checked.{Checked}
-use Rattle.endings.specs.Truth.{TrueAnswer}
-use Rattle.endings.specs.Answers.{checkOf, lookUpOf}
-use Rattle.endings.specs.LookingUp.{look-up-true}
 use Rattle.pocket.specs.declared.PocketAnswer.{PocketAnswer}
-use Rattle.pocket.specs.Pocket.{pocketSize, entryAt, packOf, valueOf, pocketLookUpOf, valueIn}
-use Rattle.pocket.specs.Agreement.{pocket-agrees}
+use Rattle.pocket.specs.declared.PocketAnswer.the-variants.{Win, Loss, Draw, Refused}
+use Rattle.pocket.specs.Pocket.{pocketSize, entryAt, Told, win, loss, draw, refusing, toldBy, entryTells, pocketLookUpOf}
 
 -- ---- "gives 11 exactly when a legal position's entry is 0"
 
@@ -46,50 +39,55 @@ standing-most p =
     six true false h = omega arith
     six false b h = omega arith
 
-eleven-entry : (n : ℕ) → valueOf n ≡ PocketAnswer.Refused 11 → n ≡ 0
-unfolding valueOf
-eleven-entry n e = go (eqb n 0) refl (eqb n 1) (eqb n 2) e
-  where
-    go : (a : Bool) → eqb n 0 ≡ a → (b c : Bool) → cond a (PocketAnswer.Refused 11) (cond b PocketAnswer.Draw (cond c PocketAnswer.Win PocketAnswer.Loss)) ≡ PocketAnswer.Refused 11 → n ≡ 0
-    go true z b c e = eqb-true n 0 z
-    go false z true c e = let y : _≡_ {A = ℕ} 0 1 = cc in absurd (omega arith)
-    go false z false true e = let y : _≡_ {A = ℕ} 0 1 = cc in absurd (omega arith)
-    go false z false false e = let y : _≡_ {A = ℕ} 0 1 = cc in absurd (omega arith)
-
-refused-zero : valueOf 0 ≡ PocketAnswer.Refused 11
-unfolding valueOf
+refused-zero : entryTells 0 ≡ refusing 11
+unfolding entryTells
 refused-zero = refl
 
-eleven-by : (s n : ℕ) (a l : Bool) → s ≤ 6 → cond (not a) (PocketAnswer.Refused s) (cond (not l) (PocketAnswer.Refused 7) (valueOf n)) ≡ PocketAnswer.Refused 11 → (a ≡ true) × (l ≡ true) × (n ≡ 0)
-eleven-by s n false l h e = let z : s ≡ 11 = cc in absurd (omega arith)
-eleven-by s n true false h e = let z : _≡_ {A = ℕ} 7 11 = cc in absurd (omega arith)
+eleven-entry : (n : ℕ) → entryTells n .refusal ≡ 11 → n ≡ 0
+unfolding entryTells
+eleven-entry n e = go (eqb n 0) refl (eqb n 1) (eqb n 2) e
+  where
+    go : (a : Bool) → eqb n 0 ≡ a → (b c : Bool) → cond a (refusing 11) (cond b draw (cond c win loss)) .refusal ≡ 11 → n ≡ 0
+    go true z b c e = eqb-true n 0 z
+    go false z true c e = absurd (omega arith)
+    go false z false true e = absurd (omega arith)
+    go false z false false e = absurd (omega arith)
+
+eleven-by : (s n : ℕ) (a l : Bool) → s ≤ 6 → cond (not a) (refusing s) (cond (not l) (refusing 7) (entryTells n)) .refusal ≡ 11 → (a ≡ true) × (l ≡ true) × (n ≡ 0)
+eleven-by s n false l h e = absurd (omega arith)
+eleven-by s n true false h e = absurd (omega arith)
 eleven-by s n true true h e = (refl, refl, eleven-entry n e)
 
 module _ (pocket : List ℕ) (p : Position) where
-  pub eleven-exactly : (pocketLookUpOf pocket p ≡ PocketAnswer.Refused 11) ↔ (T (legal (boardOf p)) × (length pocket ≡ pocketSize) × (entryAt pocket (numberOf (boardOf p)) ≡ 0))
+  pub eleven-exactly : (pocketLookUpOf pocket p ≡ refusing 11) ↔ (T (legal (boardOf p)) × (length pocket ≡ pocketSize) × (entryAt pocket (numberOf (boardOf p)) ≡ 0))
   unfolding pocketLookUpOf
   eleven-exactly = (
-    λ e. let r = eleven-by (standing p) (entryAt pocket (numberOf (boardOf p))) (eqb (standing p) 0) (eqb (length pocket) pocketSize) (standing-most p) e in (of-true (legal-standing p ∙ r .0), eqb-true (length pocket) pocketSize (r .1), r .2),
+    λ e. let r = eleven-by (standing p) (entryAt pocket (numberOf (boardOf p))) (eqb (standing p) 0) (eqb (length pocket) pocketSize) (standing-most p) (ap (λ (t : Told). t .refusal) e) in (of-true (legal-standing p ∙ r .0), eqb-true (length pocket) pocketSize (r .1), r .2),
     back,
   )
     where
-      back : T (legal (boardOf p)) × (length pocket ≡ pocketSize) × (entryAt pocket (numberOf (boardOf p)) ≡ 0) → pocketLookUpOf pocket p ≡ PocketAnswer.Refused 11
+      back : T (legal (boardOf p)) × (length pocket ≡ pocketSize) × (entryAt pocket (numberOf (boardOf p)) ≡ 0) → pocketLookUpOf pocket p ≡ refusing 11
       back x = let s : eqb (standing p) 0 ≡ true = sym (legal-standing p) ∙ true-of {b = legal (boardOf p)} (x .0) in rw (s, eq-eqb (length pocket) pocketSize (x .1), x .2) refused-zero
 
--- ---- the true value, no table spoken of
+-- ---- what is told determines the answer
 
-pub data TrueValue (b : Board) (a : PocketAnswer) : Type 0 where
-  won : (n : ℕ) → WonIn chess n b → a ≡ PocketAnswer.Win → TrueValue b a
-  lost : (n : ℕ) → LostIn chess n b → a ≡ PocketAnswer.Loss → TrueValue b a
-  drawn : Drawn chess b → a ≡ PocketAnswer.Draw → TrueValue b a
+value-of : {s t : Told} → s ≡ t → s .value ≡ t .value
+value-of e = ap (λ (x : Told). x .value) e
 
-value-true : (b : Board) (a : Answer) → TrueAnswer b a → TrueValue b (valueIn a)
-value-true b a (TrueAnswer.won n m w f e) = TrueValue.won n w (ap valueIn e)
-value-true b a (TrueAnswer.lost n m w f e) = TrueValue.lost n w (ap valueIn e)
-value-true b a (TrueAnswer.mate w o e) = TrueValue.lost 0 w (ap valueIn e)
-value-true b a (TrueAnswer.drawn m w f e) = TrueValue.drawn w (ap valueIn e)
-value-true b a (TrueAnswer.stalemate w o e) = TrueValue.drawn w (ap valueIn e)
-
--- On the packing of an accepted table no legal position of the ending is refused, and the answer is its true value.
-pub pocket-true : (man : ℕ) (t : List ℕ) → checkOf man t ≡ Checked.Accepted → (pocket : List ℕ) → length pocket ≡ pocketSize → (p : Position) → p .man ≡ man → T (legal (boardOf p)) → TrueValue (boardOf p) (pocketLookUpOf (packOf t pocket .bytes) p)
-pocket-true man t ok pocket k p e l = subst (λ (a : PocketAnswer). TrueValue (boardOf p) a) (sym (pocket-agrees man t ok pocket k p e)) (value-true (boardOf p) (lookUpOf t p) (look-up-true man t ok p e l))
+pub told-one : (a b : PocketAnswer) → toldBy a ≡ toldBy b → a ≡ b
+told-one Win Win e = refl
+told-one Win Loss e = absurd (omega (arith, value-of e))
+told-one Win Draw e = absurd (omega (arith, value-of e))
+told-one Win (Refused n) e = absurd (omega (arith, value-of e))
+told-one Loss Win e = absurd (omega (arith, value-of e))
+told-one Loss Loss e = refl
+told-one Loss Draw e = absurd (omega (arith, value-of e))
+told-one Loss (Refused n) e = absurd (omega (arith, value-of e))
+told-one Draw Win e = absurd (omega (arith, value-of e))
+told-one Draw Loss e = absurd (omega (arith, value-of e))
+told-one Draw Draw e = refl
+told-one Draw (Refused n) e = absurd (omega (arith, value-of e))
+told-one (Refused n) Win e = absurd (omega (arith, value-of e))
+told-one (Refused n) Loss e = absurd (omega (arith, value-of e))
+told-one (Refused n) Draw e = absurd (omega (arith, value-of e))
+told-one (Refused n) (Refused m) e = ap Refused (ap (λ (x : Told). x .refusal) e)

@@ -1,13 +1,15 @@
 -- The pocket's four tallies (02, P1: "each the exact count of numbers with one of the four entries"). Definitions only. Assumes nothing.
-use mathlib.Core.Bool.{Bool, cond, not}
+use mathlib.Core.Path.{_≡_}
+use mathlib.Core.Bool.{Bool, cond, not, _&&_}
 use mathlib.Core.List.{List}
-use Prim.Native.Nat.{ℕ}
-use lib.Dec.{eqb}
-use lib.ListN.{length}
+use Prim.Native.Nat.{ℕ, _+_, _*_, _%_}
+use lib.Dec.{leb, eqb}
+use lib.ListN.{length, getD}
 use Rattle.finite.specs.Ranked.{rank}
 use Rattle.endings.specs.Chess.{tableSize}
 use Rattle.pocket.specs.declared.Tallied.{Tallied}
 use Rattle.pocket.specs.Pocket.{pocketSize, entryAt}
+use Rattle.pocket.specs.Digits.{digits}
 
 -- number k has the entry v
 abbrev pub holds : List ℕ → ℕ → ℕ → Bool
@@ -22,3 +24,19 @@ unfoldable pub tallyOf : List ℕ → Tallied
 tallyOf pocket =
     cond (not (eqb (length pocket) pocketSize)) (Tallied.Refused 7)
     (Tallied.Counted (record { none = countOf pocket 0; draws = countOf pocket 1; wins = countOf pocket 2; losses = countOf pocket 3 }))
+
+-- ---- a table's bytes
+
+-- a loss's byte; a win's is `winning`
+abbrev pub losing : ℕ → Bool
+losing b = leb 2 b && eqb (b % 2) 0
+
+-- how many of a table's bytes pass a test
+abbrev pub bytesThat : (ℕ → Bool) → List ℕ → ℕ
+bytesThat ok t = rank (λ n. ok (getD t n 0)) tableSize
+
+-- ---- counting by words
+
+-- w has the 32 entries of the eight bytes from i on: each is counted as often among its digits
+abbrev pub Word : List ℕ → ℕ → ℕ → Type 0
+Word pocket i w = (v : ℕ) → rank (holds pocket v) (4 * (i + 8)) ≡ rank (holds pocket v) (4 * i) + digits v 32 w

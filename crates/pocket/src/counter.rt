@@ -4,8 +4,7 @@ use crate::Tallies;
 ghost use mathlib.Core.Path.{_≡_};
 ghost use Prim.Native.Nat.{_+_, _<_, _≤_};
 ghost use lib.ListN.{length};
-ghost use Rattle.pocket.specs.Tally.{tallyOf};
-ghost use Rattle.pocket.specs.TallyLaws.{Word};
+ghost use Rattle.pocket.specs.Tally.{tallyOf, Word};
 
 const POCKET_SIZE: usize = 14784;
 
@@ -43,22 +42,27 @@ pub fn tally(pocket: &[u8]) -> Tallied
     if pocket.len() != POCKET_SIZE {
         return Tallied::Refused(7);
     }
-    let mut set: u32 = 0;
     let mut low: u32 = 0;
+    let mut high: u32 = 0;
     let mut both: u32 = 0;
     let mut i: usize = 0;
     while i < POCKET_SIZE {
         let w = word(pocket, i);
         let lows = w & LOW_BITS;
-        set += u64::count_ones(w);
+        let highs = (w >> 1) & LOW_BITS;
         low += u64::count_ones(lows);
-        both += u64::count_ones(lows & (w >> 1));
+        high += u64::count_ones(highs);
+        both += u64::count_ones(lows & highs);
         i += 8;
     }
+    let none = (NUMBERS + both - low - high) as u16;
+    let draws = (low - both) as u16;
+    let wins = (high - both) as u16;
+    let losses = both as u16;
     Tallied::Counted(Tallies {
-        none: NUMBERS + both - set,
-        draws: low - both,
-        wins: set - low - both,
-        losses: both,
+        none,
+        draws,
+        wins,
+        losses,
     })
 }

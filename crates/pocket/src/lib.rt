@@ -1,11 +1,11 @@
 // The pocket edition of a table: two bits a number, for won, drawn and lost only.
 mod counter;
 mod packer;
-mod pocket_look_up;
+mod reader;
 
 pub use counter::tally;
 pub use packer::pack;
-pub use pocket_look_up::look_up;
+pub use reader::look_up;
 
 // What packing says: done, or a refusal.
 pub enum Packed {
@@ -23,10 +23,10 @@ pub enum PocketAnswer {
 
 // How many numbers have each of the four entries: byte 0, a draw, a win, a loss.
 pub struct Tallies {
-    pub none: u32,
-    pub draws: u32,
-    pub wins: u32,
-    pub losses: u32,
+    pub none: u16,
+    pub draws: u16,
+    pub wins: u16,
+    pub losses: u16,
 }
 
 // What tallying says: the four tallies, or a refusal.

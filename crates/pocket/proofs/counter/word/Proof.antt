@@ -1,5 +1,5 @@
 -- `pocket::word` meets its contract. Assumes nothing.
-use Rattle.pocket.specs.TallyLaws.{word-of}
+use Rattle.pocket.specs.WordLaws.{word-of}
 use borrow.Author.Needs.{needs}
 use Rattle.pocket.proofs.counter.word.Statement.{statement}
 use Rattle.pocket.proofs.counter.word.Tie as tie

@@ -5,7 +5,7 @@ use borrow.Author.Needs.{needs}
 use lib.ListN.{length, length-set}
 use Rattle.finite.specs.Mapped.{Upto, upto-none, upto-more, upto-all}
 use Rattle.pocket.specs.Pocket.{packedByte}
-use Rattle.pocket.specs.Laws.{pack-table, pack-pocket, pack-done}
+use Rattle.pocket.specs.PackLaws.{pack-table, pack-pocket, pack-done}
 use Rattle.pocket.proofs.packer.pack.Statement.{statement}
 use Rattle.pocket.proofs.packer.pack.Tie as tie
 

@@ -4,7 +4,7 @@ use index::number_of;
 use listing::standing_refusal;
 use position::Position;
 ghost use mathlib.Core.Path.{_≡_};
-ghost use Rattle.pocket.specs.Pocket.{entryAt, valueOf, pocketLookUpOf};
+ghost use Rattle.pocket.specs.Pocket.{entryAt, toldBy, entryTells, pocketLookUpOf};
 
 const POCKET_SIZE: usize = 14784;
 
@@ -21,7 +21,7 @@ fn entry_at(pocket: &[u8], k: u32) -> u8
 
 // What an entry says of the side to move.
 fn answer(entry: u8) -> PocketAnswer
-    ensures { λ r. ⌜ r ≡ valueOf entry ⌝ }
+    ensures { λ r. ⌜ toldBy r ≡ entryTells entry ⌝ }
 {
     if entry == 0 {
         return PocketAnswer::Refused(11);
@@ -37,7 +37,7 @@ fn answer(entry: u8) -> PocketAnswer
 
 // The value; or a refusal, 1 to 7 or 11. One entry is read.
 pub fn look_up(pocket: &[u8], p: Position) -> PocketAnswer
-    ensures { λ r. ⌜ r ≡ pocketLookUpOf (now (pocket .entry)) p ⌝ }
+    ensures { λ r. ⌜ toldBy r ≡ pocketLookUpOf (now (pocket .entry)) p ⌝ }
 {
     let refusal = standing_refusal(p);
     if refusal != 0 {

@@ -1,10 +1,10 @@
 -- `pocket::entry_at` meets its contract. Assumes nothing.
 use mathlib.Core.Path.{refl}
 use Rattle.pocket.specs.Pocket.{entryAt}
-use Rattle.pocket.specs.Laws.{entry-beyond}
+use Rattle.pocket.specs.LookUpLaws.{entry-beyond}
 use borrow.Author.Needs.{needs}
-use Rattle.pocket.proofs.pocket_look_up.entry_at.Statement.{statement}
-use Rattle.pocket.proofs.pocket_look_up.entry_at.Tie as tie
+use Rattle.pocket.proofs.reader.entry_at.Statement.{statement}
+use Rattle.pocket.proofs.reader.entry_at.Tie as tie
 
 cast-i : tie.Need-cast-i
 cast-i c = search needs

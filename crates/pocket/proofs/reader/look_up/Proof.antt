@@ -1,7 +1,7 @@
 -- `pocket::look_up` meets its contract: each return by the tests that led there. Assumes nothing.
-use Rattle.pocket.specs.Laws.{refused-standing, refused-length, answered}
-use Rattle.pocket.proofs.pocket_look_up.look_up.Statement.{statement}
-use Rattle.pocket.proofs.pocket_look_up.look_up.Tie as tie
+use Rattle.pocket.specs.LookUpLaws.{refused-standing, refused-length, answered}
+use Rattle.pocket.proofs.reader.look_up.Statement.{statement}
+use Rattle.pocket.proofs.reader.look_up.Tie as tie
 
 standing-refusal-requires : tie.Need-standing-refusal-requires
 standing-refusal-requires c κs = tt
