@@ -14,7 +14,9 @@ ghost use Rattle.host.specs.PocketWords.{packedWord, toldWord, talliedWo
 
 // Refusal 7 leaves the pocket as it was.
 #[no_mangle]
-pub extern "C" fn sledgewren_pack(table: &[u8], pocket: &mut [u8]) -> u32 {
+pub extern "C" fn sledgewren_pack(table: &[u8], pocket: &mut [u8]) -> u32
+    ensures { λ r. ⌜ (r ≡ packedWord (packOf (now (table .entry)) (now (pocket .entry)) .answer)) × (now (pocket .exit) ≡ packOf (now (table .entry)) (now (pocket .entry)) .bytes) ⌝ }
+{
     packed_word(pack(table, &mut *pocket))
 }
 
@@ -27,7 +29,9 @@ pub extern "C" fn sledgewren_pocket_look_up(
     white: u8,
     square: u8,
     black: u8,
-) -> u32 {
+) -> u32
+    ensures { λ r. ⌜ r ≡ toldWord (pocketLookUpOf (now (pocket .entry)) (keyed man side white square black)) ⌝ }
+{
     let p = Position {
         man,
         side,
@@ -40,6 +44,8 @@ pub extern "C" fn sledgewren_pocket_look_up(
 
 // Refusal 7.
 #[no_mangle]
-pub extern "C" fn sledgewren_tallies(pocket: &[u8]) -> u64 {
+pub extern "C" fn sledgewren_tallies(pocket: &[u8]) -> u64
+    ensures { λ r. ⌜ r ≡ talliedWord (tallyOf (now (pocket .entry))) ⌝ }
+{
     tallied_word(tally(pocket))
 }
