@@ -60,7 +60,8 @@ impl Ground {
     /// The four tallies of the queen's pocket.
     pub fn tallies(&self, repeats: usize) -> Result<Row, String> {
         let pocket = &self.pockets[0].bytes()[..];
-        let ours = entry::tallies(pocket).map(|t| [t.none, t.draws, t.wins, t.losses].map(u32::from));
+        let ours =
+            entry::tallies(pocket).map(|t| [t.none, t.draws, t.wins, t.losses].map(u32::from));
         if ours.ok() != second_pocket::tallies(pocket).ok() {
             return Err("the two tallies differ".to_string());
         }
