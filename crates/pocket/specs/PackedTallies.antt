@@ -1,5 +1,5 @@
 -- The tallies of a packed table count its bytes of each class, on any bytes. Assumes nothing.
-use mathlib.Core.Path.{_≡_, sym, subst, _∙_}
+use mathlib.Core.Path.{_≡_, subst}
 use mathlib.Core.Bool.{Bool}
 use mathlib.Core.Logic.{_↔_}
 use mathlib.Core.List.{List}
@@ -8,7 +8,7 @@ use lib.Dec.{T, leb, leb→le, le→leb, eqb, eqb→eq, eqb-refl}
 use lib.ListN.{length, getD}
 use borrow.Author.Tests.{eq-eqb}
 use Rattle.finite.specs.Truth.{and-left, and-right, and-both, same-test}
-use Rattle.finite.specs.Ranked.{rank, rank-same}
+use Rattle.finite.specs.Ranked.{rank-same}
 use Rattle.theory.specs.Required.{Loss, winning}
 use Rattle.theory.specs.Better.{winning-is}
 use Rattle.endings.specs.Chess.{tableSize}
