@@ -16,12 +16,12 @@ use Rattle.host.specs.PocketWords.{toldWord, talliedWord}
 
 -- ---- look-up
 
-told : (a b c d : ℕ) → a < 256 → c < 256 → a + b * 256 ≡ c + d * 256 → _≡_ {A = Told} (record { refusal = a; value = b }) (record { refusal = c; value = d })
-told a b c d h k e = ap₂ (λ (x y : ℕ). record { refusal = x; value = y }) (omega arith) (omega arith)
+word-told : (a b c d : ℕ) → a < 256 → c < 256 → a + b * 256 ≡ c + d * 256 → _≡_ {A = Told} (record { refusal = a; value = b }) (record { refusal = c; value = d })
+word-told a b c d h k e = ap₂ (λ (x y : ℕ). record { refusal = x; value = y }) (omega arith) (omega arith)
 
 -- a refusal is a byte
 pub answer-word-one : (a b : PocketAnswer) → toldBy a .refusal < 256 → toldBy b .refusal < 256 → toldWord (toldBy a) ≡ toldWord (toldBy b) → a ≡ b
-answer-word-one a b h k e = told-one a b (told _ _ _ _ h k e)
+answer-word-one a b h k e = told-one a b (word-told _ _ _ _ h k e)
 
 -- ---- tallies
 

@@ -1,5 +1,6 @@
 pub mod Pocket
 pub mod TrueValue
+pub mod Classes
 pub mod Digits
 pub mod Tally
 pub mod PackLaws

@@ -14,7 +14,8 @@ use Rattle.theory.specs.Better.{winning-is}
 use Rattle.endings.specs.Chess.{tableSize}
 use Rattle.pocket.specs.declared.Tallied.{Tallied}
 use Rattle.pocket.specs.Pocket.{pocketSize, entryAt, packOf}
-use Rattle.pocket.specs.Tally.{holds, countOf, tallyOf, losing, bytesThat}
+use Rattle.pocket.specs.Classes.{losing, bytesThat}
+use Rattle.pocket.specs.Tally.{holds, countOf, tallyOf}
 use Rattle.pocket.specs.Unpacking.{packed-length, class-back}
 
 eqb-is : (m n : ℕ) → T (eqb m n) ↔ (m ≡ n)

@@ -1,10 +1,10 @@
 -- The pocket's four tallies (02, P1: "each the exact count of numbers with one of the four entries"). Definitions only. Assumes nothing.
 use mathlib.Core.Path.{_≡_}
-use mathlib.Core.Bool.{Bool, cond, not, _&&_}
+use mathlib.Core.Bool.{Bool, cond, not}
 use mathlib.Core.List.{List}
-use Prim.Native.Nat.{ℕ, _+_, _*_, _%_}
-use lib.Dec.{leb, eqb}
-use lib.ListN.{length, getD}
+use Prim.Native.Nat.{ℕ, _+_, _*_}
+use lib.Dec.{eqb}
+use lib.ListN.{length}
 use Rattle.finite.specs.Ranked.{rank}
 use Rattle.endings.specs.Chess.{tableSize}
 use Rattle.pocket.specs.declared.Tallied.{Tallied}
@@ -24,16 +24,6 @@ unfoldable pub tallyOf : List ℕ → Tallied
 tallyOf pocket =
     cond (not (eqb (length pocket) pocketSize)) (Tallied.Refused 7)
     (Tallied.Counted (record { none = countOf pocket 0; draws = countOf pocket 1; wins = countOf pocket 2; losses = countOf pocket 3 }))
-
--- ---- a table's bytes
-
--- a loss's byte; a win's is `winning`
-abbrev pub losing : ℕ → Bool
-losing b = leb 2 b && eqb (b % 2) 0
-
--- how many of a table's bytes pass a test
-abbrev pub bytesThat : (ℕ → Bool) → List ℕ → ℕ
-bytesThat ok t = rank (λ n. ok (getD t n 0)) tableSize
 
 -- ---- counting by words
 

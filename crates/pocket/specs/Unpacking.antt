@@ -1,7 +1,6 @@
 -- What is packed is read back: at each number the entry of the table's byte, on any bytes. Assumes nothing.
 use mathlib.Core.Path.{_≡_, refl, sym, ap, subst, _∙_}
 use mathlib.Core.Bool.{Bool, true, false, cond}
-use mathlib.Core.Logic.{_↔_}
 use mathlib.Core.List.{List}
 use Prim.Native.Nat.{ℕ, zero, suc, _+_, _*_, _/_, _%_, _^_, _<_}
 use native.Mathlib.Nat.{zero-add, add-zero}
@@ -10,9 +9,9 @@ use lib.Dec.{leb, eqb}
 use lib.ListN.{length, getD}
 use borrow.Author.Tests.{eq-eqb, leb-true, leb-false, eqb-true, eqb-false}
 use Rattle.finite.specs.Mapped.{mapFrom, length-mapFrom, getD-mapFrom}
-use Rattle.theory.specs.Required.{Win, Loss}
 use Rattle.endings.specs.Chess.{tableSize}
 use Rattle.pocket.specs.Pocket.{pocketSize, entryOf, entryAt, packedByte, packOf}
+use Rattle.pocket.specs.Classes.{Class}
 
 pub entry-small : (b : ℕ) → entryOf b < 4
 unfolding entryOf
@@ -57,13 +56,6 @@ module _ (t pocket : List ℕ) (l : length t ≡ tableSize) (k : length pocket �
       ap (λ (b : ℕ). b / 2 ^ (2 * (n % 4)) % 4) read ∙ quarter t (n / 4) (n % 4) (omega arith) ∙ ap (λ (m : ℕ). entryOf (getD t m 0)) own
 
 -- ---- the class of a byte
-
--- an entry tells a byte's class: 0, a draw, a win (3, 5, .. 255) or a loss (2, 4, .. 254)
-pub record Class (b e : ℕ) : Type 0 where
-  pub none : (e ≡ 0) ↔ (b ≡ 0)
-  pub draw : (e ≡ 1) ↔ (b ≡ 1)
-  pub win : (e ≡ 2) ↔ Win b
-  pub loss : (e ≡ 3) ↔ Loss b
 
 pub entry-class : (b : ℕ) → Class b (entryOf b)
 unfolding entryOf
