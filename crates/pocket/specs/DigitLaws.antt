@@ -1,7 +1,8 @@
--- The laws of digits to base 4: a byte's below others, and the counts of set bits that tell how many of each there are. Assumes nothing.
-use mathlib.Core.Path.{_≡_, refl, ap, ap₂, _∙_}
+-- The laws of digits to base 4: some below others, and the counts of set bits that tell how many of each there are. Assumes nothing.
+use mathlib.Core.Path.{_≡_, refl, sym, ap, ap₂, _∙_}
 use mathlib.Core.Bool.{Bool, _&&_}
-use Prim.Native.Nat.{ℕ, zero, suc, _+_, _*_, _/_, _%_, _<_}
+use Prim.Native.Nat.{ℕ, zero, suc, _+_, _*_, _/_, _%_, _^_, _<_}
+use native.Mathlib.Nat.{zero-add, suc-add, add-assoc, one-mul, mul-comm, mul-assoc, pow-suc}
 use native.Mathlib.Omega.{arith}
 use lib.Dec.{T, eqb, eqb→eq}
 use lib.Bits.{bitAnd, and-zero-r, and-zero-l, and-block, and-lt}
@@ -11,40 +12,25 @@ use Rattle.finite.specs.Below.{allBelow, below}
 use Rattle.board.specs.Sets.{digit}
 use Rattle.pocket.specs.Digits.{digits, lowBits}
 
--- a byte's four digits below the others
-pub digits-joined : (v n b w : ℕ) → b < 256 → digits v (suc (suc (suc (suc n)))) (b + 256 * w) ≡ digits v 4 b + digits v n w
+-- ---- digits below others
+
+lower : (a x : ℕ) → (a + 4 * x) % 4 ≡ a % 4
+lower a x = omega arith
+
+upper : (a x : ℕ) → (a + 4 * x) / 4 ≡ a / 4 + x
+upper a x = omega arith
+
+four-times : (m b : ℕ) → 4 ^ suc m * b ≡ 4 * (4 ^ m * b)
+four-times m b = rw (pow-suc 4 m, mul-comm (4 ^ m) 4) (mul-assoc 4 (4 ^ m) b)
+
+pub digits-cat : (v m n a b : ℕ) → a < 4 ^ m → digits v (m + n) (a + 4 ^ m * b) ≡ digits v m a + digits v n b
 unfolding digits
-digits-joined v n b w h =
-    let q₁ : (b + 256 * w) / 4 ≡ b / 4 + 64 * w = omega arith in
-    let q₂ : (b / 4 + 64 * w) / 4 ≡ b / 4 / 4 + 16 * w = over (b / 4) w in
-    let q₃ : (b / 4 / 4 + 16 * w) / 4 ≡ b / 4 / 4 / 4 + 4 * w = above (b / 4 / 4) w in
-    let q₄ : (b / 4 / 4 / 4 + 4 * w) / 4 ≡ w = top (b / 4 / 4 / 4) w (omega arith) in
-    let r₀ : (b + 256 * w) % 4 ≡ b % 4 = omega arith in
-    let r₁ : (b / 4 + 64 * w) % 4 ≡ b / 4 % 4 = over-low (b / 4) w in
-    let r₂ : (b / 4 / 4 + 16 * w) % 4 ≡ b / 4 / 4 % 4 = above-low (b / 4 / 4) w in
-    let r₃ : (b / 4 / 4 / 4 + 4 * w) % 4 ≡ b / 4 / 4 / 4 % 4 = top-low (b / 4 / 4 / 4) w in
-    rw (q₁, q₂, q₃, q₄, r₀, r₁, r₂, r₃) (regroup (digit (eqb (b % 4) v)) (digit (eqb (b / 4 % 4) v)) (digit (eqb (b / 4 / 4 % 4) v)) (digit (eqb (b / 4 / 4 / 4 % 4) v)) (digits v n w))
-  where
-    regroup : (p q r s t : ℕ) → p + (q + (r + (s + t))) ≡ p + (q + (r + (s + 0))) + t
-    regroup p q r s t = omega arith
-
-    over : (c w : ℕ) → (c + 64 * w) / 4 ≡ c / 4 + 16 * w
-    over c w = omega arith
-
-    above : (c w : ℕ) → (c + 16 * w) / 4 ≡ c / 4 + 4 * w
-    above c w = omega arith
-
-    top : (c w : ℕ) → c < 4 → (c + 4 * w) / 4 ≡ w
-    top c w h = omega arith
-
-    over-low : (c w : ℕ) → (c + 64 * w) % 4 ≡ c % 4
-    over-low c w = omega arith
-
-    above-low : (c w : ℕ) → (c + 16 * w) % 4 ≡ c % 4
-    above-low c w = omega arith
-
-    top-low : (c w : ℕ) → (c + 4 * w) % 4 ≡ c % 4
-    top-low c w = omega arith
+digits-cat v zero n a b h = let z : a ≡ 0 = omega arith in rw (z, zero-add n, one-mul b, zero-add b) (sym (zero-add (digits v n b)))
+digits-cat v (suc m) n a b h =
+    let x = 4 ^ m * b in
+    rw (suc-add m n, four-times m b, lower a x, upper a x)
+    (ap (λ (t : ℕ). digit (eqb (a % 4) v) + t) (digits-cat v m n (a / 4) b (omega (arith, pow-suc 4 m)))
+    ∙ sym (add-assoc (digit (eqb (a % 4) v)) (digits v m (a / 4)) (digits v n b)))
 
 -- ---- set bits
 

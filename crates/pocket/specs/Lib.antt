@@ -3,8 +3,10 @@ pub mod TrueValue
 pub mod Classes
 pub mod Digits
 pub mod Tally
+pub mod Rows
 pub mod PackLaws
 pub mod LookUpLaws
+pub mod RowLaws
 pub mod Unpacking
 pub mod Agreement
 pub mod Refusals

@@ -2,7 +2,7 @@
 use mathlib.Core.Path.{_≡_}
 use mathlib.Core.Bool.{Bool, cond, not}
 use mathlib.Core.List.{List}
-use Prim.Native.Nat.{ℕ, _+_, _*_}
+use Prim.Native.Nat.{ℕ, _+_, _*_, _^_, _<_}
 use lib.Dec.{eqb}
 use lib.ListN.{length}
 use Rattle.finite.specs.Ranked.{rank}
@@ -27,6 +27,7 @@ tallyOf pocket =
 
 -- ---- counting by words
 
--- w has the 32 entries of the eight bytes from i on: each is counted as often among its digits
-abbrev pub Word : List ℕ → ℕ → ℕ → Type 0
-Word pocket i w = (v : ℕ) → rank (holds pocket v) (4 * (i + 8)) ≡ rank (holds pocket v) (4 * i) + digits v 32 w
+-- w has the entries of the n bytes from i on: each entry is counted as often among its digits
+pub record Part (pocket : List ℕ) (i n w : ℕ) : Type 0 where
+  pub fits : w < 4 ^ (4 * n)
+  pub entries : (v : ℕ) → rank (holds pocket v) (4 * (i + n)) ≡ rank (holds pocket v) (4 * i) + digits v (4 * n) w

@@ -15,7 +15,7 @@ use Rattle.endings.specs.Chess.{tableSize}
 use Rattle.pocket.specs.declared.Tallied.{Tallied}
 use Rattle.pocket.specs.Pocket.{pocketSize, entryAt}
 use Rattle.pocket.specs.Digits.{digits, lowBits}
-use Rattle.pocket.specs.Tally.{holds, countOf, tallyOf, Word}
+use Rattle.pocket.specs.Tally.{holds, countOf, tallyOf, Part}
 use Rattle.pocket.specs.DigitLaws.{ones-low, ones-high, ones-both}
 use Rattle.pocket.specs.WordLaws.{rank-step, entry-below}
 
@@ -77,14 +77,14 @@ module _ (pocket : List ℕ) where
       both-bits : ones (bitAnd (bitAnd w 6148914691236517205) (bitAnd (w / 2) 6148914691236517205)) ≡ digits 3 32 w
       both-bits = ap (λ (m : ℕ). ones (bitAnd (bitAnd w m) (bitAnd (w / 2) m))) (sym all-low) ∙ ones-both 32 w
 
-      pub sums-more : i < pocketSize → Word pocket i w → Sums pocket (i + 8) (low + ones (bitAnd w 6148914691236517205)) (high + ones (bitAnd (w / 2) 6148914691236517205)) (both + ones (bitAnd (bitAnd w 6148914691236517205) (bitAnd (w / 2) 6148914691236517205)))
+      pub sums-more : i < pocketSize → Part pocket i 8 w → Sums pocket (i + 8) (low + ones (bitAnd w 6148914691236517205)) (high + ones (bitAnd (w / 2) 6148914691236517205)) (both + ones (bitAnd (bitAnd w 6148914691236517205) (bitAnd (w / 2) 6148914691236517205)))
       sums-more h x =
           record {
             eights = omega (arith, s .eights);
             inside = omega (arith, s .eights, h);
-            lows = omega (arith, s .lows, low-bits, x 1, x 3);
-            highs = omega (arith, s .highs, high-bits, x 2, x 3);
-            pairs = omega (arith, s .pairs, both-bits, x 3);
+            lows = omega (arith, s .lows, low-bits, x .entries 1, x .entries 3);
+            highs = omega (arith, s .highs, high-bits, x .entries 2, x .entries 3);
+            pairs = omega (arith, s .pairs, both-bits, x .entries 3);
           }
 
     pub sums-room : (low ≤ 59136) × (high ≤ 59136) × (both ≤ 59136)

@@ -1,18 +1,19 @@
--- The laws by which a word is counted: a byte's four entries are its digits to base 4, and a word's 32 those of its eight bytes. Assumes nothing.
+-- The laws by which a word is counted: a byte's four entries are its digits to base 4, and a word's are those of its bytes. Assumes nothing.
 use mathlib.Core.Path.{_≡_, refl, sym, ap, _∙_}
 use mathlib.Core.Bool.{Bool, true, false, cond}
 use mathlib.Core.List.{List}
-use Prim.Native.Nat.{ℕ, _+_, _*_, _/_, _%_, _^_, _≤_, _<_}
-use native.Mathlib.Nat.{div-one, add-zero}
+use Prim.Native.Nat.{ℕ, suc, _+_, _*_, _/_, _%_, _^_, _≤_, _<_}
+use native.Mathlib.Nat.{div-one, add-zero, add-assoc, mul-suc, mul-le-mul-left}
 use native.Mathlib.Omega.{arith}
 use lib.Dec.{eqb}
+use lib.Pow.{pow-add}
 use lib.ListN.{getD}
 use Rattle.finite.specs.Ranked.{rank, rank-next}
 use Rattle.board.specs.Sets.{digit}
 use Rattle.pocket.specs.Pocket.{entryAt}
 use Rattle.pocket.specs.Digits.{digits}
-use Rattle.pocket.specs.Tally.{holds, Word}
-use Rattle.pocket.specs.DigitLaws.{digits-joined}
+use Rattle.pocket.specs.Tally.{holds, Part}
+use Rattle.pocket.specs.DigitLaws.{digits-cat}
 
 -- ---- the count of the numbers below a bound, number by number
 
@@ -59,47 +60,42 @@ module _ (pocket : List ℕ) where
         regroup : (r₀ r₁ r₂ r₃ r₄ a b c d : ℕ) → r₁ ≡ r₀ + a → r₂ ≡ r₁ + b → r₃ ≡ r₂ + c → r₄ ≡ r₃ + d → r₄ ≡ r₀ + (a + (b + (c + (d + 0))))
         regroup r₀ r₁ r₂ r₃ r₄ a b c d p q r s = omega arith
 
--- ---- a word
+-- ---- bytes together
 
-module _ (pocket : List ℕ) (i a b c d e f g h : ℕ) where
-  -- the bytes read, as the code adds them up
-  pub record EightBytes : Type 0 where
-    pub first : (a ≡ getD pocket i 0) × (a ≤ 255)
-    pub second : (b ≡ getD pocket (i + 1) 0) × (b ≤ 255)
-    pub third : (c ≡ getD pocket (i + 2) 0) × (c ≤ 255)
-    pub fourth : (d ≡ getD pocket (i + 3) 0) × (d ≤ 255)
-    pub fifth : (e ≡ getD pocket (i + 4) 0) × (e ≤ 255)
-    pub sixth : (f ≡ getD pocket (i + 5) 0) × (f ≤ 255)
-    pub seventh : (g ≡ getD pocket (i + 6) 0) × (g ≤ 255)
-    pub eighth : (h ≡ getD pocket (i + 7) 0) × (h ≤ 255)
+module _ (pocket : List ℕ) where
+  pub one-byte : (i b : ℕ) → b ≡ getD pocket i 0 → b ≤ 255 → Part pocket i 1 b
+  one-byte i b e h = record { fits = omega arith; entries = λ v. rank-byte pocket v i b (i + 1) e refl }
 
-  pub word-of : EightBytes → Word pocket i (a + 256 * (b + 256 * (c + 256 * (d + 256 * (e + 256 * (f + 256 * (g + 256 * h)))))))
-  word-of x v =
-      let w₆ = g + 256 * h in
-      let w₅ = f + 256 * w₆ in
-      let w₄ = e + 256 * w₅ in
-      let w₃ = d + 256 * w₄ in
-      let w₂ = c + 256 * w₃ in
-      let w₁ = b + 256 * w₂ in
-      added _ _ _ _ _ _ _ _ _ _ _ _ _ _ _ _ _ _ _ _ _ _ _ _
-      (rank-byte pocket v i a (i + 1) (x .first .0) (omega arith))
-      (rank-byte pocket v (i + 1) b (i + 2) (x .second .0) (omega arith))
-      (rank-byte pocket v (i + 2) c (i + 3) (x .third .0) (omega arith))
-      (rank-byte pocket v (i + 3) d (i + 4) (x .fourth .0) (omega arith))
-      (rank-byte pocket v (i + 4) e (i + 5) (x .fifth .0) (omega arith))
-      (rank-byte pocket v (i + 5) f (i + 6) (x .sixth .0) (omega arith))
-      (rank-byte pocket v (i + 6) g (i + 7) (x .seventh .0) (omega arith))
-      (rank-byte pocket v (i + 7) h (i + 8) (x .eighth .0) (omega arith))
-      (digits-joined v 28 a w₁ (omega (arith, x .first .1)))
-      (digits-joined v 24 b w₂ (omega (arith, x .second .1)))
-      (digits-joined v 20 c w₃ (omega (arith, x .third .1)))
-      (digits-joined v 16 d w₄ (omega (arith, x .fourth .1)))
-      (digits-joined v 12 e w₅ (omega (arith, x .fifth .1)))
-      (digits-joined v 8 f w₆ (omega (arith, x .sixth .1)))
-      (digits-joined v 4 g h (omega (arith, x .seventh .1)))
-    where
-      added : (r₀ r₁ r₂ r₃ r₄ r₅ r₆ r₇ r₈ n₀ n₁ n₂ n₃ n₄ n₅ n₆ n₇ t₀ t₁ t₂ t₃ t₄ t₅ t₆ : ℕ)
-          → r₁ ≡ r₀ + n₀ → r₂ ≡ r₁ + n₁ → r₃ ≡ r₂ + n₂ → r₄ ≡ r₃ + n₃ → r₅ ≡ r₄ + n₄ → r₆ ≡ r₅ + n₅ → r₇ ≡ r₆ + n₆ → r₈ ≡ r₇ + n₇
-          → t₀ ≡ n₀ + t₁ → t₁ ≡ n₁ + t₂ → t₂ ≡ n₂ + t₃ → t₃ ≡ n₃ + t₄ → t₄ ≡ n₄ + t₅ → t₅ ≡ n₅ + t₆ → t₆ ≡ n₆ + n₇
-          → r₈ ≡ r₀ + t₀
-      added r₀ r₁ r₂ r₃ r₄ r₅ r₆ r₇ r₈ n₀ n₁ n₂ n₃ n₄ n₅ n₆ n₇ t₀ t₁ t₂ t₃ t₄ t₅ t₆ p₀ p₁ p₂ p₃ p₄ p₅ p₆ p₇ q₀ q₁ q₂ q₃ q₄ q₅ q₆ = omega arith
+  -- a number of m bytes below one of the next n
+  module _ (i m n x y : ℕ) (p : Part pocket i m x) (q : Part pocket (i + m) n y) where
+    together : 4 * (m + n) ≡ 4 * m + 4 * n
+    together = omega arith
+
+    room : x + 4 ^ (4 * m) * y < 4 ^ (4 * (m + n))
+    room =
+        let whole : 4 ^ (4 * (m + n)) ≡ 4 ^ (4 * m) * 4 ^ (4 * n) = ap (λ (k : ℕ). 4 ^ k) together ∙ pow-add 4 (4 * m) (4 * n) in
+        let most : 4 ^ (4 * m) * suc y ≤ 4 ^ (4 * m) * 4 ^ (4 * n) = mul-le-mul-left (4 ^ (4 * m)) (q .fits) in
+        omega (arith, p .fits, most, whole, mul-suc (4 ^ (4 * m)) y)
+
+    counts : (v : ℕ) → rank (holds pocket v) (4 * (i + (m + n))) ≡ rank (holds pocket v) (4 * i) + digits v (4 * (m + n)) (x + 4 ^ (4 * m) * y)
+    counts v =
+        ap (λ (k : ℕ). rank (holds pocket v) (4 * k)) (sym (add-assoc i m n))
+        ∙ q .entries v
+        ∙ sum _ _ _ _ _ (p .entries v) (ap (λ (k : ℕ). digits v k (x + 4 ^ (4 * m) * y)) together ∙ digits-cat v (4 * m) (4 * n) x y (p .fits))
+      where
+        sum : (r s a b d : ℕ) → s ≡ r + a → d ≡ a + b → s + b ≡ r + d
+        sum r s a b d e f = omega arith
+
+    pub joined : Part pocket i (m + n) (x + 4 ^ (4 * m) * y)
+    joined = record { fits = room; entries = counts }
+
+  -- as the code adds them up
+  pub four-bytes : (i a b c d : ℕ) → (a ≡ getD pocket i 0) × (a ≤ 255) → (b ≡ getD pocket (i + 1) 0) × (b ≤ 255) → (c ≡ getD pocket (i + 2) 0) × (c ≤ 255) → (d ≡ getD pocket (i + 3) 0) × (d ≤ 255)
+      → Part pocket i 4 (a + 256 * b + 65536 * c + 16777216 * d)
+  four-bytes i a b c d p q r s =
+      joined i 3 1 (a + 256 * b + 65536 * c) d
+      (joined i 2 1 (a + 256 * b) c (joined i 1 1 a b (one-byte i a (p .0) (p .1)) (one-byte (i + 1) b (q .0) (q .1))) (one-byte (i + 2) c (r .0) (r .1)))
+      (one-byte (i + 3) d (s .0) (s .1))
+
+  pub two-fours : (i x y : ℕ) → Part pocket i 4 x → Part pocket (i + 4) 4 y → Part pocket i 8 (x + 4294967296 * y)
+  two-fours i x y p q = joined i 4 4 x y p q

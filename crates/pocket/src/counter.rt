@@ -4,7 +4,7 @@ use crate::Tallies;
 ghost use mathlib.Core.Path.{_≡_};
 ghost use Prim.Native.Nat.{_+_, _<_, _≤_};
 ghost use lib.ListN.{length};
-ghost use Rattle.pocket.specs.Tally.{tallyOf, Word};
+ghost use Rattle.pocket.specs.Tally.{tallyOf, Part};
 
 const POCKET_SIZE: usize = 14784;
 
@@ -19,20 +19,26 @@ fn wide(x: u8) -> u64
     x as u64
 }
 
-// The eight bytes from i on as one word of 32 entries, the first in the lowest bits.
-fn word(pocket: &[u8], i: usize) -> u64
-    requires { ⌜ i + 7 < length (now pocket) ⌝ }
-    ensures { λ r. ⌜ Word (now (pocket .entry)) i r ⌝ }
+// The four bytes from i on as one number of 16 entries, the first in the lowest bits.
+fn four(pocket: &[u8], i: usize) -> u64
+    requires { ⌜ i + 3 < length (now pocket) ⌝ }
+    ensures { λ r. ⌜ Part (now (pocket .entry)) i 4 r ⌝ }
 {
     let a = wide(pocket[i]);
     let b = wide(pocket[i + 1]);
     let c = wide(pocket[i + 2]);
     let d = wide(pocket[i + 3]);
-    let e = wide(pocket[i + 4]);
-    let f = wide(pocket[i + 5]);
-    let g = wide(pocket[i + 6]);
-    let h = wide(pocket[i + 7]);
-    a + 256 * (b + 256 * (c + 256 * (d + 256 * (e + 256 * (f + 256 * (g + 256 * h))))))
+    a + 0x100 * b + 0x1_0000 * c + 0x100_0000 * d
+}
+
+// The eight bytes from i on as one word of 32 entries.
+fn word(pocket: &[u8], i: usize) -> u64
+    requires { ⌜ i + 7 < length (now pocket) ⌝ }
+    ensures { λ r. ⌜ Part (now (pocket .entry)) i 8 r ⌝ }
+{
+    let low = four(pocket, i);
+    let high = four(pocket, i + 4);
+    low + 0x1_0000_0000 * high
 }
 
 // How many numbers have each of the four entries; or refusal 7. A draw sets the low bit of its entry, a win the high bit, a loss both.

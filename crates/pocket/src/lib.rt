@@ -2,6 +2,7 @@
 mod counter;
 mod packer;
 mod reader;
+mod rows;
 
 pub use counter::tally;
 pub use packer::pack;

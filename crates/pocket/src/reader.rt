@@ -1,6 +1,6 @@
 // Looking a position up in its ending's pocket.
+use super::rows::number_by_rows;
 use crate::PocketAnswer;
-use index::number_of;
 use listing::standing_refusal;
 use position::Position;
 ghost use mathlib.Core.Path.{_≡_};
@@ -46,5 +46,5 @@ pub fn look_up(pocket: &[u8], p: Position) -> PocketAnswer
     if pocket.len() != POCKET_SIZE {
         return PocketAnswer::Refused(7);
     }
-    answer(entry_at(pocket, number_of(p)))
+    answer(entry_at(pocket, number_by_rows(p)))
 }

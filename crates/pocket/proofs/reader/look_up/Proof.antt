@@ -12,8 +12,8 @@ returns c = refused-standing _ _ _ (c .before .standing-refusal .ensures) (c .if
 returns-2 : tie.Need-returns-2
 returns-2 c = refused-length _ _ _ (c .before .before .standing-refusal .ensures) (c .before .if1 .left) (c .if2 .taken)
 
-number-of-requires : tie.Need-number-of-requires
-number-of-requires c κs = tt
+number-by-rows-requires : tie.Need-number-by-rows-requires
+number-by-rows-requires c κs = tt
 
 entry-at-requires : tie.Need-entry-at-requires
 entry-at-requires c κs = tt
@@ -24,7 +24,7 @@ answer-requires c κs = tt
 returns-3 : tie.Need-returns-3
 returns-3 c =
     let l = c .before .before .before in
-    answered _ _ _ (l .before .before .standing-refusal .ensures) (l .before .if1 .left) _ _ _ (l .if2 .left) (c .before .before .number-of .ensures) (c .before .entry-at .ensures) (c .answer .ensures)
+    answered _ _ _ (l .before .before .standing-refusal .ensures) (l .before .if1 .left) _ _ _ (l .if2 .left) (c .before .before .number-by-rows .ensures) (c .before .entry-at .ensures) (c .answer .ensures)
 
 pub look-up-spec : {M : Type 1} → statement M
 look-up-spec =
@@ -33,7 +33,7 @@ look-up-spec =
     standing-refusal-requires
     returns
     returns-2
-    number-of-requires
+    number-by-rows-requires
     entry-at-requires
     answer-requires
     returns-3)
