@@ -1,6 +1,7 @@
 /*
  * Sledgewren: two kings and one white man. Positions are numbered, their tables filled and
- * checked, positions looked up, searched without a table, and a desk's lines answered.
+ * checked, positions looked up, searched without a table, and a desk's lines answered; tables are
+ * packed to pockets.
  *
  * Link with target/staticlib/libhost.a (x86-64). C99; C++ may include it.
  *
@@ -15,6 +16,9 @@
  * A table has 59,136 bytes, one a number. Byte 0: the number is unused or its position illegal;
  * 1: a draw; 2 + n: depth n in plies, a win for the side to move where n is odd and a loss where
  * it is even. Checkmate is a loss in 0.
+ *
+ * A pocket is a table packed to two bits a number, 14,784 bytes. Number k has its entry in byte
+ * k / 4 at bit 2 x (k mod 4): 0 for byte 0, 1 for a draw, 2 for a win, 3 for a loss.
  *
  * Every function is total: it answers any values and any lengths, never fails, allocates nothing,
  * keeps nothing between calls and calls nothing back. It may be called from several threads as
@@ -40,6 +44,7 @@ extern "C" {
 #define SLEDGEWREN_TABLE_BYTES 59136
 #define SLEDGEWREN_MOVES_BYTES 70
 #define SLEDGEWREN_SLIP_BYTES 16
+#define SLEDGEWREN_POCKET_BYTES 14784
 
 /* Digits of a typed number, its check included. */
 #define SLEDGEWREN_TYPED_DIGITS 7
@@ -59,6 +64,9 @@ extern "C" {
 
 /* The eight bits of an answer from the given one on: SLEDGEWREN_BITS(answer, 16) is 16 to 23. */
 #define SLEDGEWREN_BITS(answer, first) ((uint8_t)((uint64_t)(answer) >> (first)))
+
+/* The tally of an entry (0 to 3) in sledgewren_tallies' answer. */
+#define SLEDGEWREN_TALLY(answer, entry) ((uint16_t)((uint64_t)(answer) >> (16 * (entry))))
 
 enum sledgewren_man {
     SLEDGEWREN_QUEEN = 0,
@@ -82,6 +90,14 @@ enum sledgewren_value {
     SLEDGEWREN_NOT_WITHIN = 4
 };
 
+/* The entries of a pocket. */
+enum sledgewren_entry {
+    SLEDGEWREN_ENTRY_NONE = 0,
+    SLEDGEWREN_ENTRY_DRAW = 1,
+    SLEDGEWREN_ENTRY_WIN = 2,
+    SLEDGEWREN_ENTRY_LOSS = 3
+};
+
 /* Where several apply the lowest counts, except that a line's shape comes first, then its check. */
 enum sledgewren_refusal {
     SLEDGEWREN_NOT_REFUSED = 0,
@@ -91,11 +107,12 @@ enum sledgewren_refusal {
     SLEDGEWREN_SHARED_SQUARE = 4,    /* two men on one square */
     SLEDGEWREN_KINGS_TOUCH = 5,      /* kings touch */
     SLEDGEWREN_OTHER_IN_CHECK = 6,   /* side not to move is in check */
-    SLEDGEWREN_TABLE_LENGTH = 7,     /* table not 59,136 bytes */
+    SLEDGEWREN_TABLE_LENGTH = 7,     /* table not 59,136 bytes, or pocket not 14,784 */
     SLEDGEWREN_NUMBER_TOO_HIGH = 8,  /* number above 59,135 */
     SLEDGEWREN_NUMBER_UNUSED = 9,    /* number unused */
     SLEDGEWREN_TOO_DEEP = 10,        /* a legal position's true depth exceeds 253 */
-    SLEDGEWREN_INCONSISTENT = 11,    /* the byte is not what the successors' bytes require */
+    SLEDGEWREN_INCONSISTENT = 11,    /* the byte is not what the successors' bytes require, or a
+                                        pocket's entry of a legal position is 0 */
     SLEDGEWREN_BAD_LINE = 12,        /* line of the wrong shape */
     SLEDGEWREN_BAD_CHECK = 13,       /* check digits of a typed number wrong */
     SLEDGEWREN_TOO_MANY_PLIES = 16   /* more than 6 plies asked for */
@@ -182,6 +199,29 @@ uint32_t sledgewren_second_opinion(uint8_t man, uint8_t side, uint8_t white, uin
 uint32_t sledgewren_answer_line(const uint8_t *line, size_t line_len, uint8_t held,
                                 uint8_t *table, size_t table_len, uint8_t *slip,
                                 size_t slip_len);
+
+/*
+ * Packs a table into a pocket, whatever the table's bytes are; the table is only read. An answer
+ * of 0 says that it is done. Refusal 7 covers both lengths, and then nothing is written.
+ */
+uint32_t sledgewren_pack(const uint8_t *table, size_t table_len, uint8_t *pocket,
+                         size_t pocket_len);
+
+/*
+ * A position's value from the pocket of its ending, without depth or move; one entry is read.
+ * On the pocket of an accepted table it is sledgewren_look_up's value, and so the true one.
+ * Refusals 1 to 7, and 11 where a legal position's entry is 0.
+ *   bits 0-7 refusal, 8-15 value
+ */
+uint32_t sledgewren_pocket_look_up(const uint8_t *pocket, size_t len, uint8_t man, uint8_t side,
+                                   uint8_t white, uint8_t square, uint8_t black);
+
+/*
+ * How many numbers have each of a pocket's four entries; together they make 59,136. Refusal 7 is
+ * the answer 7, which no tallies make.
+ *   bits 0-15 entry 0, 16-31 draws, 32-47 wins, 48-63 losses
+ */
+uint64_t sledgewren_tallies(const uint8_t *pocket, size_t len);
 
 #ifdef __cplusplus
 }

@@ -5,6 +5,7 @@
 mod desk;
 mod look_ups;
 mod moves;
+mod pocket;
 mod positions;
 mod search;
 mod tables;
@@ -42,6 +43,9 @@ fn look_ups(folder: &str, rows: &mut Vec<Row>) -> Result<(), String> {
     rows.push(ground.beside_probe(&gaviota, FEW));
     rows.push(ground.beside_oracle(FEW));
     rows.push(ground.beside_probes(&gaviota, FEW));
+    let ground = pocket::Ground::in_order()?;
+    rows.push(ground.beside_probe(&gaviota, FEW));
+    rows.push(ground.shuffled().beside_probe(&gaviota, FEW));
     Ok(())
 }
 
@@ -52,12 +56,25 @@ fn look_ups(_: &str, rows: &mut Vec<Row>) -> Result<(), String> {
     Ok(())
 }
 
+/// Beside Gaviota's probe pocket look-up is measured with the other look-ups.
+fn pockets(rows: &mut Vec<Row>) -> Result<(), String> {
+    let ground = pocket::Ground::in_order()?;
+    rows.push(ground.pack(MANY)?);
+    rows.push(ground.tallies(MANY)?);
+    rows.push(ground.beside_large(FEW));
+    let ground = ground.shuffled();
+    rows.push(ground.beside_large(FEW));
+    rows.push(ground.beside_oracle(FEW));
+    Ok(())
+}
+
 fn measure(oracle: &str, program: &str, gaviota: &str, folder: &Path) -> Result<Vec<Row>, String> {
     let mut rows = Vec::new();
     for man in DECIDED {
         rows.push(tables::fill(man, MANY)?);
     }
     look_ups(gaviota, &mut rows)?;
+    pockets(&mut rows)?;
     for man in DECIDED {
         rows.push(tables::check(man, MANY)?);
     }

@@ -1,6 +1,6 @@
 /*
- * Fills the queen's table, has it checked, looks three positions up, and writes a number with its
- * check digits. From the repository's root:
+ * Fills the queen's table, has it checked, looks three positions up, writes a number with its
+ * check digits, and packs the table to a pocket. From the repository's root:
  *
  *   cc -std=c99 -Iinclude host/c/example.c target/staticlib/libhost.a -o target/c-example
  */
@@ -10,6 +10,9 @@
 #include "sledgewren.h"
 
 static uint8_t table[SLEDGEWREN_TABLE_BYTES];
+static uint8_t pocket[SLEDGEWREN_POCKET_BYTES];
+
+static const char *const values[] = {"?", "win", "loss", "draw"};
 
 static void print_square(unsigned square)
 {
@@ -19,7 +22,6 @@ static void print_square(unsigned square)
 /* White king on b3, black king on a1. */
 static void look_up(uint8_t side, uint8_t queen)
 {
-    static const char *const values[] = {"?", "win", "loss", "draw"};
     uint64_t answer =
         sledgewren_look_up(table, sizeof table, SLEDGEWREN_QUEEN, side, 17, queen, 0);
 
@@ -54,6 +56,24 @@ static void write_number(uint32_t number)
     printf("\n");
 }
 
+/* The pocket's tallies, and one of the positions above by its pocket. */
+static void pocket_edition(void)
+{
+    uint64_t tallies = sledgewren_tallies(pocket, sizeof pocket);
+    uint32_t answer = sledgewren_pocket_look_up(pocket, sizeof pocket, SLEDGEWREN_QUEEN,
+                                                SLEDGEWREN_WHITE, 17, 15, 0);
+
+    printf("pocket: %d wins, %d draws, %d losses, %d unused or illegal\n",
+           SLEDGEWREN_TALLY(tallies, SLEDGEWREN_ENTRY_WIN),
+           SLEDGEWREN_TALLY(tallies, SLEDGEWREN_ENTRY_DRAW),
+           SLEDGEWREN_TALLY(tallies, SLEDGEWREN_ENTRY_LOSS),
+           SLEDGEWREN_TALLY(tallies, SLEDGEWREN_ENTRY_NONE));
+    if (SLEDGEWREN_BITS(answer, 0) == SLEDGEWREN_NOT_REFUSED) {
+        printf("White to move, Kb3 Qh2 against Ka1, by the pocket: %s\n",
+               values[SLEDGEWREN_BITS(answer, 8) & 3]);
+    }
+}
+
 int main(void)
 {
     uint32_t filled = sledgewren_fill(SLEDGEWREN_QUEEN, table, sizeof table);
@@ -69,5 +89,9 @@ int main(void)
     look_up(SLEDGEWREN_WHITE, 9);
     write_number(2049);
     write_number(2056);
+    if (sledgewren_pack(table, sizeof table, pocket, sizeof pocket) != SLEDGEWREN_NOT_REFUSED) {
+        return 1;
+    }
+    pocket_edition();
     return 0;
 }

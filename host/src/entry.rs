@@ -6,7 +6,7 @@
 
 use crate::ffi;
 use crate::{Answer, Checked, Keyed, Man, Move, Moves, Opinion, Position, Refusal, Side, Slip};
-use crate::{Square, Typed, MOST_MOVES, SLIP_BYTES};
+use crate::{Outcome, Square, Tallies, Typed, MOST_MOVES, SLIP_BYTES};
 
 /// The linked library is not the one this crate is written for.
 #[cold]
@@ -175,4 +175,44 @@ pub fn answer_line(line: &[u8], held: Option<Man>, table: &mut [u8]) -> (Slip, O
     let slip = Slip::new(slip, bits(answer, 0) as usize);
     let slip = slip.unwrap_or_else(|| broken("answer_line", answer));
     (slip, Man::from_code(bits(answer, 8)))
+}
+
+/// Packs a table's bytes, whatever they say, to two bits a number. Refusal 7 covers both lengths
+/// and leaves the pocket untouched.
+pub fn pack(table: &[u8], pocket: &mut [u8]) -> Result<(), Refusal> {
+    // SAFETY: each pointer leads to as many bytes as its length says; the one that is written
+    // through is lent to us alone.
+    let answer = unsafe {
+        ffi::sledgewren_pack(table.as_ptr(), table.len(), pocket.as_mut_ptr(), pocket.len())
+    };
+    unless_refused("pack", answer as u64)?;
+    Ok(())
+}
+
+/// A position's value from a pocket, without depth or move. Refusals 1 to 7 and 11.
+pub fn pocket_look_up(pocket: &[u8], keyed: impl Into<Keyed>) -> Result<Outcome, Refusal> {
+    let Keyed { man, side, white_king, man_square, black_king } = keyed.into();
+    let (start, len) = (pocket.as_ptr(), pocket.len());
+    // SAFETY: the slice's pointer leads to as many bytes as its length says.
+    let answer = unsafe {
+        ffi::sledgewren_pocket_look_up(start, len, man, side, white_king, man_square, black_king)
+    } as u64;
+    match bits(unless_refused("pocket_look_up", answer)?, 8) {
+        1 => Ok(Outcome::Win),
+        2 => Ok(Outcome::Loss),
+        3 => Ok(Outcome::Draw),
+        _ => broken("pocket_look_up", answer),
+    }
+}
+
+/// How many numbers have each of the four entries of a pocket. Refusal 7.
+pub fn tallies(pocket: &[u8]) -> Result<Tallies, Refusal> {
+    // SAFETY: the slice's pointer leads to as many bytes as its length says.
+    let answer = unsafe { ffi::sledgewren_tallies(pocket.as_ptr(), pocket.len()) };
+    // The tallies make 59,136 together, so no tallies are the word of a refusal.
+    if let Ok(code) = u8::try_from(answer) {
+        return Err(Refusal::from_code(code).unwrap_or_else(|| broken("tallies", answer)));
+    }
+    let tally = |first: u32| (answer >> first) as u16;
+    Ok(Tallies { none: tally(0), draws: tally(16), wins: tally(32), losses: tally(48) })
 }

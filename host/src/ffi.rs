@@ -68,4 +68,27 @@ extern "C" {
         slip: *mut u8,
         slip_len: usize,
     ) -> u32;
+
+    /// 0, or refusal 7: then nothing is written.
+    pub fn sledgewren_pack(
+        table: *const u8,
+        table_len: usize,
+        pocket: *mut u8,
+        pocket_len: usize,
+    ) -> u32;
+
+    /// Bits 0-7 refusal, 8-15 value (1 win, 2 loss, 3 draw).
+    pub fn sledgewren_pocket_look_up(
+        pocket: *const u8,
+        len: usize,
+        man: u8,
+        side: u8,
+        white: u8,
+        square: u8,
+        black: u8,
+    ) -> u32;
+
+    /// Bits 0-15 numbers with entry 0, 16-31 draws, 32-47 wins, 48-63 losses; or refusal 7 as
+    /// the word 7.
+    pub fn sledgewren_tallies(pocket: *const u8, len: usize) -> u64;
 }

@@ -1,5 +1,6 @@
 //! Two kings and one white man: positions are numbered, their tables filled and checked,
-//! positions looked up, and a desk's lines answered.
+//! positions looked up, and a desk's lines answered. A pocket is a table packed to won, drawn and
+//! lost.
 //!
 //! Every answer comes from the proved static library that this crate links; the crate gives it
 //! Rust's types and adds no chess of its own. Depths count plies. A refusal is an `Err` with its
@@ -36,6 +37,9 @@
 //! | `sledgewren_look_up` | [`entry::look_up`] | [`Table::look_up`], [`Accepted::look_up`] |
 //! | `sledgewren_second_opinion` | [`entry::second_opinion`] | [`second_opinion`] |
 //! | `sledgewren_answer_line` | [`entry::answer_line`] | [`Desk::answer`], [`Desk::run`] |
+//! | `sledgewren_pack` | [`entry::pack`] | [`Pocket::packed`], [`Pocket::of_table`] |
+//! | `sledgewren_pocket_look_up` | [`entry::pocket_look_up`] | [`Pocket::look_up`] |
+//! | `sledgewren_tallies` | [`entry::tallies`] | [`Pocket::tallies`] |
 
 #![deny(missing_docs)]
 
@@ -46,6 +50,7 @@ pub mod ffi;
 mod man;
 mod moves;
 mod opinion;
+mod pocket;
 mod position;
 mod refusal;
 mod square;
@@ -57,6 +62,7 @@ pub use desk::{Desk, Slip, SLIP_BYTES};
 pub use man::{Man, Side};
 pub use moves::{Move, Moves, MOST_MOVES};
 pub use opinion::{second_opinion, Opinion, MOST_PLIES};
+pub use pocket::{Outcome, Pocket, Tallies, POCKET_BYTES};
 pub use position::{Keyed, Position};
 pub use refusal::Refusal;
 pub use square::{NoSquare, Square};

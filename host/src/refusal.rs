@@ -18,7 +18,7 @@ pub enum Refusal {
     KingsTouch = 5,
     /// 6: the side not to move is in check. Numbering does not ask.
     OtherInCheck = 6,
-    /// 7: table not 59,136 bytes.
+    /// 7: table not 59,136 bytes, or pocket not 14,784.
     TableLength = 7,
     /// 8: number above 59,135.
     NumberTooHigh = 8,
@@ -26,7 +26,8 @@ pub enum Refusal {
     NumberUnused = 9,
     /// 10: a legal position's true depth exceeds 253.
     TooDeep = 10,
-    /// 11: at look-up, the position's byte is not what its successors' bytes require.
+    /// 11: at look-up, the position's byte is not what its successors' bytes require; at pocket
+    /// look-up, a legal position's entry is 0.
     Inconsistent = 11,
     /// 12: line of the wrong shape.
     BadLine = 12,
@@ -74,11 +75,13 @@ impl Refusal {
             Refusal::SharedSquare => "two men on one square",
             Refusal::KingsTouch => "kings touch",
             Refusal::OtherInCheck => "side not to move is in check",
-            Refusal::TableLength => "table not 59,136 bytes",
+            Refusal::TableLength => "table not 59,136 bytes, or pocket not 14,784",
             Refusal::NumberTooHigh => "number above 59,135",
             Refusal::NumberUnused => "number unused",
             Refusal::TooDeep => "a legal position's true depth exceeds 253",
-            Refusal::Inconsistent => "the byte is not what the successors' bytes require",
+            Refusal::Inconsistent => {
+                "the byte is not what the successors' bytes require, or the pocket's entry is 0"
+            }
             Refusal::BadLine => "line of the wrong shape",
             Refusal::BadCheck => "check digits of a typed number wrong",
             Refusal::TooManyPlies => "more than 6 plies asked for",

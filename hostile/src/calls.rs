@@ -23,7 +23,7 @@ pub struct Tally {
 const TOLD: u64 = 20;
 
 impl Tally {
-    pub fn add<T: PartialEq + std::fmt::Debug>(
+    pub(crate) fn add<T: PartialEq + std::fmt::Debug>(
         &mut self,
         what: &str,
         asked: &dyn std::fmt::Debug,
@@ -40,16 +40,16 @@ impl Tally {
     }
 }
 
-fn second(keyed: [u8; 5]) -> SecondKeyed {
+pub(crate) fn second(keyed: [u8; 5]) -> SecondKeyed {
     let [man, side, white_king, man_square, black_king] = keyed;
     SecondKeyed { man, side, white_king, man_square, black_king }
 }
 
-fn refused<T>(answer: Result<T, Refused>) -> Result<T, u8> {
+pub(crate) fn refused<T>(answer: Result<T, Refused>) -> Result<T, u8> {
     answer.map_err(|Refused(code)| code)
 }
 
-fn ours<T>(answer: Result<T, Refusal>) -> Result<T, u8> {
+pub(crate) fn ours<T>(answer: Result<T, Refusal>) -> Result<T, u8> {
     answer.map_err(Refusal::code)
 }
 
@@ -118,7 +118,7 @@ fn compare_keyed(keyed: [u8; 5], table: &[u8], tally: &mut Tally) {
     tally.add("look-up", &keyed, answer, their_look_up(table, keyed));
 }
 
-fn filled(man: u8) -> Vec<u8> {
+pub(crate) fn filled(man: u8) -> Vec<u8> {
     let mut table = vec![165; TABLE_BYTES];
     if man < 4 {
         // The refusals of a fill are compared elsewhere.

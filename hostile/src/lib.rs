@@ -1,8 +1,10 @@
-//! What the hostile programs share: the sequence, the lines, the calls, and running a desk.
+//! What the hostile programs share: the sequence, the lines, the calls, the pockets, and
+//! running a desk.
 
 pub mod calls;
 pub mod feed;
 pub mod lines;
+pub mod pocket;
 pub mod sequence;
 pub mod typed;
 pub mod written;

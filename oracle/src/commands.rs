@@ -16,7 +16,7 @@ use crate::number::{back, number, NUMBERS};
 use crate::position::{Keyed, Man, Refused, MEN};
 use crate::rules::{legal_position, move_name, moves};
 use crate::table::{check, look_up, Checked};
-use crate::{commands_search, fill_back, fill_every, samples, selftest};
+use crate::{commands_pocket, commands_search, fill_back, fill_every, samples, selftest};
 
 pub const USAGE: &str = "\
 usage: oracle SUBCOMMAND [ARGUMENTS]     (MAN is Q, R, B or N)
@@ -31,6 +31,10 @@ usage: oracle SUBCOMMAND [ARGUMENTS]     (MAN is Q, R, B or N)
   typed                   write each number on standard input with its check digits
   check MAN FILE          check a table: accepted, wrong N or refused N
   lookup FILE             look up each line on standard input in a table
+  pack FILE               write the pocket of a table, 14,784 bytes
+  pocket FILE             look up each line on standard input in a pocket
+  tallies [MAN ...]       the four tallies of each true pocket, and its checksum
+  tallies-of FILE         the four tallies of a pocket
   search K                search each line on standard input K plies deep
   search-positions        write the search's sample of input lines
   search-cases            answer the sample for every K up to 7
@@ -42,12 +46,13 @@ usage: oracle SUBCOMMAND [ARGUMENTS]     (MAN is Q, R, B or N)
   selftest                hold the program to outside truth
   --help                  write this text
 
-Lines for moves, number, lookup and search hold five decimal numbers from 0 to 255:
-man side whiteking mansquare blackking (queen 0, rook 1, bishop 2, knight 3;
+Lines for moves, number, lookup, pocket and search hold five decimal numbers
+from 0 to 255: man side whiteking mansquare blackking (queen 0, rook 1, bishop 2, knight 3;
 White 0, Black 1; square = 8 x rank + file, a1 = 0, h8 = 63).
 Exit status: 0 done, 1 failed self test or stream, 2 bad usage or malformed line.
 ";
 
+/// Standard output, as the subcommands write to it.
 pub type Out<'a> = BufWriter<StdoutLock<'a>>;
 
 pub fn run(arguments: &[OsString]) -> Done {
@@ -68,6 +73,10 @@ fn dispatch(name: &str, rest: &[OsString], output: &mut Out) -> Done {
         "fill-back" => timed("fill-back", fill_back::fill, rest, output),
         "check" => check_file(rest, output),
         "lookup" => lookup(rest, output),
+        "pack" => commands_pocket::pack_file(rest, output),
+        "pocket" => commands_pocket::pocket_lines(rest, output),
+        "tallies" => commands_pocket::true_tallies(rest, output),
+        "tallies-of" => commands_pocket::tallies_of(rest, output),
         "search" => commands_search::search_lines(rest, output),
         _ => without_arguments(name, rest, output),
     }
@@ -104,12 +113,20 @@ fn man_named(word: &OsStr) -> Result<Man, Failure> {
     found.map_or_else(|| usage(format!("no man {word:?}: give Q, R, B or N")), Ok)
 }
 
+/// The men named, or all four where none is.
+pub fn men_named(words: &[OsString]) -> Result<Vec<Man>, Failure> {
+    if words.is_empty() {
+        return Ok(MEN.to_vec());
+    }
+    words.iter().map(|word| man_named(word)).collect()
+}
+
 pub fn refused_text(Refused(number): Refused) -> String {
     format!("refused {number}")
 }
 
 /// The true table. The plain fill makes it; the self test holds the other one to it.
-fn true_table(man: Man) -> (Filled, Vec<u8>) {
+pub fn true_table(man: Man) -> (Filled, Vec<u8>) {
     let mut bytes = vec![0; NUMBERS];
     let filled = fill_every::fill(man.code(), &mut bytes);
     (filled, bytes)
@@ -127,9 +144,7 @@ fn table(rest: &[OsString], output: &mut Out) -> Done {
 }
 
 fn counts(rest: &[OsString], output: &mut Out) -> Done {
-    let men: Result<Vec<Man>, Failure> = rest.iter().map(|word| man_named(word)).collect();
-    let men = men?;
-    for &man in if men.is_empty() { &MEN[..] } else { &men } {
+    for man in men_named(rest)? {
         let (filled, bytes) = true_table(man);
         write_counts(output, man, &filled, &bytes)?;
     }
@@ -208,11 +223,11 @@ fn typed_lines(output: &mut Out) -> Done {
     })
 }
 
-/// A table file's bytes; of a longer file one byte too many shows that it is too long.
-fn read_table(path: &OsStr) -> Result<Vec<u8>, Failure> {
+/// A file's bytes; of one longer than `wanted` one byte too many shows that it is too long.
+pub fn read_file(path: &OsStr, wanted: usize) -> Result<Vec<u8>, Failure> {
     let mut bytes = Vec::new();
     let read =
-        File::open(path).and_then(|file| file.take(NUMBERS as u64 + 1).read_to_end(&mut bytes));
+        File::open(path).and_then(|file| file.take(wanted as u64 + 1).read_to_end(&mut bytes));
     match read {
         Ok(_) => Ok(bytes),
         Err(error) => usage(format!("cannot read {path:?}: {error}")),
@@ -224,7 +239,7 @@ fn check_file(rest: &[OsString], output: &mut Out) -> Done {
         return usage("check takes a man and a file: oracle check Q FILE");
     };
     let man = man_named(man)?;
-    match check(man.code(), &read_table(path)?) {
+    match check(man.code(), &read_file(path, NUMBERS)?) {
         Ok(Checked::Accepted) => writeln!(output, "accepted")?,
         Ok(Checked::Wrong(number)) => writeln!(output, "wrong {number}")?,
         Err(refused) => writeln!(output, "{}", refused_text(refused))?,
@@ -236,7 +251,7 @@ fn lookup(rest: &[OsString], output: &mut Out) -> Done {
     let [path] = rest else {
         return usage("lookup takes a file: oracle lookup FILE");
     };
-    let bytes = read_table(path)?;
+    let bytes = read_file(path, NUMBERS)?;
     for_each_keyed(io::stdin().lock(), output, |keyed, output| {
         writeln!(output, "{}", desk::answer_text(&look_up(&bytes, keyed)))
     })

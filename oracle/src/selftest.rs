@@ -7,8 +7,10 @@ use crate::fill::Filled;
 use crate::fill_every;
 use crate::number::NUMBERS;
 use crate::position::{Keyed, Man, MEN};
-use crate::{tests_board, tests_check_digits, tests_desk, tests_games, tests_number};
-use crate::{tests_search, tests_table};
+use crate::{
+    tests_board, tests_check_digits, tests_desk, tests_games, tests_number, tests_pocket,
+    tests_search, tests_table,
+};
 
 /// The four tables by the plain fill, made once for all tests.
 pub struct Truth {
@@ -62,6 +64,7 @@ pub fn run(output: &mut impl Write) -> Done {
         tests_number::TESTS,
         tests_table::TESTS,
         tests_games::TESTS,
+        tests_pocket::TESTS,
         tests_check_digits::TESTS,
         tests_search::TESTS,
         tests_desk::TESTS,

@@ -4,3 +4,5 @@ pub mod TypedLaws
 pub mod OpinionWord
 pub mod Laws
 pub mod LineTrue
+pub mod PocketWords
+pub mod PocketWordLaws

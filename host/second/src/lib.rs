@@ -23,6 +23,8 @@ pub mod index;
 pub mod lines;
 #[path = "../../../oracle/src/number.rs"]
 pub mod number;
+#[path = "../../../oracle/src/pocket.rs"]
+pub mod pocket;
 #[path = "../../../oracle/src/position.rs"]
 pub mod position;
 #[path = "../../../oracle/src/retract.rs"]

@@ -1,4 +1,5 @@
-//! Calls every entry point with bytes of all kinds and compares each answer with the oracle's.
+//! Calls every entry point but the pocket's with bytes of all kinds and compares each answer with
+//! the oracle's.
 //!
 //! usage: calls [SEED]
 

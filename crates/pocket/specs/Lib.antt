@@ -1,0 +1,16 @@
+pub mod Pocket
+pub mod TrueValue
+pub mod Classes
+pub mod Digits
+pub mod Tally
+pub mod Rows
+pub mod PackLaws
+pub mod LookUpLaws
+pub mod RowLaws
+pub mod Unpacking
+pub mod Agreement
+pub mod Refusals
+pub mod DigitLaws
+pub mod WordLaws
+pub mod TallyLaws
+pub mod PackedTallies
