@@ -7,3 +7,5 @@ pub mod Lowest
 pub mod Ranked
 pub mod Mapped
 pub mod Orbit
+pub mod Pieces
+pub mod PieceLaws

@@ -1,0 +1,9 @@
+pub mod Layout
+pub mod Answers
+pub mod Sizes
+pub mod Rising
+pub mod Choices
+pub mod WordLaws
+pub mod Right
+pub mod Kept
+pub mod Deep
