@@ -1,9 +1,11 @@
 pub mod Layout
 pub mod Answers
 pub mod Sizes
+pub mod WordLaws
 pub mod Rising
 pub mod Choices
-pub mod WordLaws
 pub mod Right
+pub mod Codes
+pub mod Altered
 pub mod Kept
 pub mod Deep

@@ -75,11 +75,11 @@ module _ (s : List ℕ) where
     unfolding word4
     from-length = let z : at + 4 + 4 ≡ at + 8 = omega arith in rw z at (lies-right s (at + 4) (word4 offset) (word4 tableSize ++ rest) from-offset)
 
-    from-rest : Lies s (at + 12) rest
+    pub from-rest : Lies s (at + 12) rest
     unfolding word4
     from-rest = let z : at + 8 + 4 ≡ at + 12 = omega arith in rw z at (lies-right s (at + 8) (word4 tableSize) rest from-length)
 
-    code-read : c < 4 → wordAt s at ≡ c
+    pub code-read : c < 256 → wordAt s at ≡ c
     unfolding entriesOf
     code-read h = word-read s at c (omega arith) (lies-left s at (word4 c) (word4 offset ++ (word4 tableSize ++ rest)) lies)
 
@@ -94,7 +94,7 @@ module _ (s : List ℕ) where
   entries-right [] at least offset l r h = refl
   entries-right (c ∷ cs) at least offset l r h =
       let f = rising-first least c cs r in
-      let a = code-read at offset c cs l (f .1) in
+      let a = code-read at offset c cs l (omega (arith, f .1)) in
       let b = offset-read at offset c cs l (omega arith) in
       let d = length-read at offset c cs l in
       let next = entries-right cs (at + 12) (c + 1) (offset + tableSize) (from-rest at offset c cs l) (f .2) (omega arith) in
@@ -105,25 +105,30 @@ module _ (s : List ℕ) where
   entries-place [] at least offset code l r = refl
   entries-place (c ∷ cs) at least offset code l r =
       let f = rising-first least c cs r in
-      rw (code-read at offset c cs l (f .1), entries-place cs (at + 12) (c + 1) (offset + tableSize) code (from-rest at offset c cs l) (f .2))
+      rw (code-read at offset c cs l (omega (arith, f .1)), entries-place cs (at + 12) (c + 1) (offset + tableSize) code (from-rest at offset c cs l) (f .2))
+
+-- a header at the start has its count and its entries
+module _ (s codes : List ℕ) (header : s ≡ headerOf codes ++ drop (headerSize (length codes)) s) where
+  whole : Lies s 0 (word4 (length codes) ++ entriesOf codes (headerSize (length codes)))
+  unfolding Lies headerOf
+  whole = let k = length-header codes in let z : 0 + length (headerOf codes) ≡ headerSize (length codes) = omega arith in rw z header
+
+  count-lies : Lies s 0 (word4 (length codes))
+  count-lies = lies-left s 0 (word4 (length codes)) (entriesOf codes (headerSize (length codes))) whole
+
+  pub header-lies : Lies s 4 (entriesOf codes (headerSize (length codes)))
+  unfolding word4
+  header-lies = lies-right s 0 (word4 (length codes)) (entriesOf codes (headerSize (length codes))) whole
 
 module _ (s codes : List ℕ) (right : RightSet s codes) where
-  abbrev n : ℕ
-  n = length codes
-
   few : length codes ≤ 4
   few = omega (arith, rising-few 0 codes (omega arith) (right .rises))
 
-  whole : Lies s 0 (word4 (length codes) ++ entriesOf codes (headerSize (length codes)))
-  unfolding Lies headerOf
-  whole = let k = length-header codes in let z : 0 + length (headerOf codes) ≡ headerSize (length codes) = omega arith in rw z (right .header)
-
   count-read : wordAt s 0 ≡ length codes
-  count-read = word-read s 0 (length codes) (omega (arith, few)) (lies-left s 0 (word4 (length codes)) (entriesOf codes (headerSize (length codes))) whole)
+  count-read = word-read s 0 (length codes) (omega (arith, few)) (count-lies s codes (right .header))
 
-  entries-lie : Lies s 4 (entriesOf codes (headerSize (length codes)))
-  unfolding word4
-  entries-lie = lies-right s 0 (word4 (length codes)) (entriesOf codes (headerSize (length codes))) whole
+  pub entries-lie : Lies s 4 (entriesOf codes (headerSize (length codes)))
+  entries-lie = header-lies s codes (right .header)
 
   -- a right set passes the test
   pub right-passes : rightSet s ≡ true
