@@ -15,7 +15,7 @@ use crate::number::{back, number, NUMBERS};
 use crate::position::{Keyed, Man, Refused, MEN};
 use crate::rules::{legal_position, move_name, moves};
 use crate::table::{check, look_up, Checked};
-use crate::{fill_back, fill_every, samples, selftest};
+use crate::{commands_set, fill_back, fill_every, samples, selftest};
 
 pub const USAGE: &str = "\
 usage: oracle SUBCOMMAND [ARGUMENTS]     (MAN is Q, R, B or N)
@@ -29,6 +29,9 @@ usage: oracle SUBCOMMAND [ARGUMENTS]     (MAN is Q, R, B or N)
   back                    read `man number` lines, write side and squares
   check MAN FILE          check a table: accepted, wrong N or refused N
   lookup FILE             look up each line on standard input in a table
+  set CODES               write the set of the endings chosen (`03`; `-` for none)
+  set-find CODE FILE      where a set holds an ending: offset and length
+  set-sums [CODES ...]    for each choice the set's checksum and what reading gives
   desk                    the desk program, on standard input
   run                     write the input of the example run
   bench-positions         answer the positions to keep by the bench
@@ -43,7 +46,7 @@ White 0, Black 1; square = 8 x rank + file, a1 = 0, h8 = 63).
 Exit status: 0 done, 1 failed self test or stream, 2 bad usage or malformed line.
 ";
 
-type Out<'a> = BufWriter<StdoutLock<'a>>;
+pub type Out<'a> = BufWriter<StdoutLock<'a>>;
 
 pub fn run(arguments: &[OsString]) -> Done {
     let Some((first, rest)) = arguments.split_first() else {
@@ -63,6 +66,9 @@ fn dispatch(name: &str, rest: &[OsString], output: &mut Out) -> Done {
         "fill-back" => timed("fill-back", fill_back::fill, rest, output),
         "check" => check_file(rest, output),
         "lookup" => lookup(rest, output),
+        "set" => commands_set::write_file(rest, output),
+        "set-find" => commands_set::find_in_file(rest, output),
+        "set-sums" => commands_set::sums(rest, output),
         _ => without_arguments(name, rest, output),
     }
 }
@@ -95,7 +101,7 @@ fn man_named(word: &OsStr) -> Result<Man, Failure> {
     found.map_or_else(|| usage(format!("no man {word:?}: give Q, R, B or N")), Ok)
 }
 
-fn refused_text(Refused(number): Refused) -> String {
+pub fn refused_text(Refused(number): Refused) -> String {
     format!("refused {number}")
 }
 
@@ -187,11 +193,11 @@ fn back_lines(output: &mut Out) -> Done {
     })
 }
 
-/// A table file's bytes; of a longer file one byte too many shows that it is too long.
-fn read_table(path: &OsStr) -> Result<Vec<u8>, Failure> {
+/// A file's bytes; of one longer than `wanted` one byte too many shows that it is too long.
+pub fn read_file(path: &OsStr, wanted: usize) -> Result<Vec<u8>, Failure> {
     let mut bytes = Vec::new();
     let read =
-        File::open(path).and_then(|file| file.take(NUMBERS as u64 + 1).read_to_end(&mut bytes));
+        File::open(path).and_then(|file| file.take(wanted as u64 + 1).read_to_end(&mut bytes));
     match read {
         Ok(_) => Ok(bytes),
         Err(error) => usage(format!("cannot read {path:?}: {error}")),
@@ -203,7 +209,7 @@ fn check_file(rest: &[OsString], output: &mut Out) -> Done {
         return usage("check takes a man and a file: oracle check Q FILE");
     };
     let man = man_named(man)?;
-    match check(man.code(), &read_table(path)?) {
+    match check(man.code(), &read_file(path, NUMBERS)?) {
         Ok(Checked::Accepted) => writeln!(output, "accepted")?,
         Ok(Checked::Wrong(number)) => writeln!(output, "wrong {number}")?,
         Err(refused) => writeln!(output, "{}", refused_text(refused))?,
@@ -215,7 +221,7 @@ fn lookup(rest: &[OsString], output: &mut Out) -> Done {
     let [path] = rest else {
         return usage("lookup takes a file: oracle lookup FILE");
     };
-    let bytes = read_table(path)?;
+    let bytes = read_file(path, NUMBERS)?;
     for_each_keyed(io::stdin().lock(), output, |keyed, output| {
         writeln!(output, "{}", desk::answer_text(&look_up(&bytes, keyed)))
     })

@@ -3,6 +3,7 @@
 mod board;
 mod cases;
 mod commands;
+mod commands_set;
 mod counts;
 mod desk;
 mod failure;
@@ -19,12 +20,14 @@ mod rule;
 mod rules;
 mod samples;
 mod selftest;
+mod set;
 mod symmetry;
 mod table;
 mod tests_board;
 mod tests_desk;
 mod tests_games;
 mod tests_number;
+mod tests_set;
 mod tests_table;
 
 use std::ffi::OsString;

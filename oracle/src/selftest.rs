@@ -7,7 +7,7 @@ use crate::fill::Filled;
 use crate::fill_every;
 use crate::number::NUMBERS;
 use crate::position::{Keyed, Man, MEN};
-use crate::{tests_board, tests_desk, tests_games, tests_number, tests_table};
+use crate::{tests_board, tests_desk, tests_games, tests_number, tests_set, tests_table};
 
 /// The four tables by the plain fill, made once for all tests.
 pub struct Truth {
@@ -61,6 +61,7 @@ pub fn run(output: &mut impl Write) -> Done {
         tests_number::TESTS,
         tests_table::TESTS,
         tests_games::TESTS,
+        tests_set::TESTS,
         tests_desk::TESTS,
     ];
     for &(name, test) in lists.into_iter().flatten() {

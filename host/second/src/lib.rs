@@ -29,6 +29,8 @@ pub mod retract;
 pub mod rule;
 #[path = "../../../oracle/src/rules.rs"]
 pub mod rules;
+#[path = "../../../oracle/src/set.rs"]
+pub mod set;
 #[path = "../../../oracle/src/symmetry.rs"]
 pub mod symmetry;
 #[path = "../../../oracle/src/table.rs"]
