@@ -1,3 +1,5 @@
 pub mod Words
 pub mod Laws
 pub mod LineTrue
+pub mod SetWords
+pub mod SetLaws
