@@ -1,8 +1,12 @@
-//! The library's eight entry points, one function each, on any bytes and any lengths.
+//! The library's entry points, one function each, on any bytes and any lengths.
 //!
 //! A position is given as [`Keyed`], five bytes of any values, or as a
 //! [`Position`]; a man as his code, any byte, or as a [`Man`]. The methods of the crate's types
 //! rest on these functions.
+
+mod sets;
+
+pub use sets::{set_fill, set_find, set_start, set_write};
 
 use crate::ffi;
 use crate::{Answer, Checked, Keyed, Man, Move, Moves, Position, Refusal, Side, Slip, Square};

@@ -34,6 +34,10 @@
 //! | `sledgewren_check` | [`entry::check`] | [`Table::check`], [`Table::accept`] |
 //! | `sledgewren_look_up` | [`entry::look_up`] | [`Table::look_up`], [`Accepted::look_up`] |
 //! | `sledgewren_answer_line` | [`entry::answer_line`] | [`Desk::answer`], [`Desk::run`] |
+//! | `sledgewren_set_write` | [`entry::set_write`] | [`Set::written`] |
+//! | `sledgewren_set_start` | [`entry::set_start`] | [`Set::written_by_endings`] |
+//! | `sledgewren_set_fill` | [`entry::set_fill`] | [`Set::written_by_endings`] |
+//! | `sledgewren_set_find` | [`entry::set_find`] | [`Set::from_bytes`], [`Set::table`] |
 
 #![deny(missing_docs)]
 
@@ -45,6 +49,7 @@ mod man;
 mod moves;
 mod position;
 mod refusal;
+mod set;
 mod square;
 mod table;
 
@@ -54,5 +59,6 @@ pub use man::{Man, Side};
 pub use moves::{Move, Moves, MOST_MOVES};
 pub use position::{Keyed, Position};
 pub use refusal::Refusal;
+pub use set::{Choice, Set};
 pub use square::{NoSquare, Square};
 pub use table::{Accepted, Table, TABLE_BYTES};

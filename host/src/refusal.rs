@@ -30,11 +30,15 @@ pub enum Refusal {
     Inconsistent = 11,
     /// 12: line of the wrong shape.
     BadLine = 12,
+    /// 14: not a right set, or not as long as the endings chosen need.
+    WrongSet = 14,
+    /// 15: the ending is not in the set.
+    NotInSet = 15,
 }
 
 impl Refusal {
-    /// All twelve, in order.
-    pub const ALL: [Refusal; 12] = [
+    /// All of them, in order.
+    pub const ALL: [Refusal; 14] = [
         Refusal::BadMan,
         Refusal::BadSide,
         Refusal::BadSquare,
@@ -47,14 +51,16 @@ impl Refusal {
         Refusal::TooDeep,
         Refusal::Inconsistent,
         Refusal::BadLine,
+        Refusal::WrongSet,
+        Refusal::NotInSet,
     ];
 
-    /// The refusal with this number, or none but for 1 to 12.
+    /// The refusal with this number, or none.
     pub fn from_code(code: u8) -> Option<Refusal> {
         Refusal::ALL.into_iter().find(|refusal| refusal.code() == code)
     }
 
-    /// Its number, 1 to 12.
+    /// Its number.
     pub fn code(self) -> u8 {
         self as u8
     }
@@ -74,6 +80,8 @@ impl Refusal {
             Refusal::TooDeep => "a legal position's true depth exceeds 253",
             Refusal::Inconsistent => "the byte is not what the successors' bytes require",
             Refusal::BadLine => "line of the wrong shape",
+            Refusal::WrongSet => "not a right set, or not as long as the endings need",
+            Refusal::NotInSet => "the ending is not in the set",
         }
     }
 }
@@ -94,7 +102,8 @@ mod tests {
     #[test]
     fn numbers_come_back() {
         for code in 0..=255 {
-            let expected = (1..=12).contains(&code).then_some(code);
+            let expected = [1, 2, 3, 4, 5, 6, 7, 8, 9, 10, 11, 12, 14, 15].contains(&code);
+            let expected = expected.then_some(code);
             assert_eq!(Refusal::from_code(code).map(Refusal::code), expected);
         }
     }
