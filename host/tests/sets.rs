@@ -7,7 +7,7 @@ use sledgewren::{entry, Checked, Choice, Man, Refusal, Set, Table, TABLE_BYTES};
 
 const DIRT: u8 = 165;
 
-/// The queen's table alone, and the bytes of a set of all four.
+/// The bytes of a set with the queen's table alone.
 fn queen() -> Vec<u8> {
     Set::written([Man::Queen].into_iter().collect()).unwrap().into_bytes()
 }

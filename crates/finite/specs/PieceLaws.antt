@@ -5,7 +5,7 @@ use Prim.Native.Nat.{ℕ, suc, _+_, _≤_}
 use native.Mathlib.Numerals.{add-one}
 use native.Mathlib.Omega.{arith}
 use lib.ListN.{length, take, drop, set, length-append, length-take, length-drop, take-append-drop}
-use lib.Seq.{take-at, drop-at, drop-drop, drop-append-seam, take-append-seam, sets-eq}
+use lib.Seq.{take-at, drop-at, drop-drop, drop-append-seam, take-append-seam, take-append-le, take-take, length-take-le, sets-eq}
 use Rattle.finite.specs.Pieces.{Lies, over}
 
 -- ---- lying at a place
@@ -45,6 +45,11 @@ over-is s at p = refl
 pub over-nothing : (s : List ℕ) (at : ℕ) → over s at [] ≡ s
 unfolding over
 over-nothing s at = take-append-drop at s
+
+-- what stands before the place stays
+pub take-before : (s : List ℕ) (at : ℕ) (p : List ℕ) (k : ℕ) → k ≤ at → at ≤ length s → take k (over s at p) ≡ take k s
+unfolding over
+take-before s at p k h l = take-append-le k (take at s) (p ++ drop (length p) (drop at s)) (rw (length-take-le at s l) h) ∙ take-take k at s h
 
 module _ (s : List ℕ) (at : ℕ) (p : List ℕ) (fits : at + length p ≤ length s) where
   pub length-over : length (over s at p) ≡ length s

@@ -1,5 +1,5 @@
 -- The law by which a set's writers are proved: the answer for the choice that was keyed. Assumes nothing.
-use mathlib.Core.Path.{_≡_, sym, ap, _∙_}
+use mathlib.Core.Path.{_≡_, ap, _∙_}
 use mathlib.Core.List.{List}
 use Prim.Native.Nat.{ℕ}
 use Rattle.sets.specs.declared.Choice.{Choice}

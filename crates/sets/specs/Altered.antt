@@ -1,18 +1,17 @@
 -- One byte of a right set's header altered: refused 14, but for a code that becomes another between its neighbours. Assumes nothing.
 use mathlib.Core.Path.{_≡_, refl, sym, ap, _∙_}
-use mathlib.Core.Bool.{Bool, true, false}
+use mathlib.Core.Bool.{true, false}
 use mathlib.Core.List.{List, [], _∷_, _++_}
 use Prim.Native.Nat.{ℕ, zero, suc, _+_, _*_, _/_, _%_, _<_, _≤_}
 use native.Mathlib.Omega.{arith}
-use lib.Dec.{T, eqb, eqb→eq}
+use lib.Dec.{eqb, eqb→eq}
 use lib.ListN.{length, getD, drop, set, length-set, List·getD-append}
 use lib.Seq.{drop-at, getD-set-same, set-append-left}
 use borrow.Author.Tests.{le-ltb, eq-eqb}
 use Rattle.finite.specs.Truth.{same-test, by-test, fails, of-true, true-of}
-use Rattle.finite.specs.Pieces.{Lies}
 use Rattle.endings.specs.Chess.{tableSize}
 use Rattle.sets.specs.declared.Found.{Found}
-use Rattle.sets.specs.Layout.{word4, headerSize, setSize, entriesOf, headerOf, rising, RightSet}
+use Rattle.sets.specs.Layout.{word4, headerSize, entriesOf, headerOf, rising, RightSet}
 use Rattle.sets.specs.Answers.{rightSet, findOf}
 use Rattle.sets.specs.Sizes.{length-header}
 use Rattle.sets.specs.WordLaws.{Bytes}

@@ -104,3 +104,16 @@ startOf ch s =
     let codes = codesOf ch in
     cond (not (eqb (length s) (setSize (length codes)))) (record { answer = Written.Refused 14; bytes = s })
     (record { answer = Written.Done; bytes = over s 0 (headerOf codes) })
+
+-- ---- the endings filled one after the other, up to a refusal
+
+abbrev pub saidOf : Filled → Written
+saidOf (Filled.Greatest n) = Written.Done
+saidOf Filled.NoneDecided = Written.Done
+saidOf (Filled.Refused r) = Written.Refused r
+
+unfoldable pub fillEach : List ℕ → List ℕ → SetWritten
+fillEach [] s = record { answer = Written.Done; bytes = s }
+fillEach (c ∷ cs) s =
+    let f = fillInOf c s in
+    cond (isRefusal (f .answer)) (record { answer = saidOf (f .answer); bytes = f .bytes }) (fillEach cs (f .bytes))

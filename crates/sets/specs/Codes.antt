@@ -1,18 +1,18 @@
 -- A set has its codes from its bytes, so it is right for one choice only. Assumes nothing.
 use mathlib.Core.Path.{_≡_, refl, sym, ap, _∙_}
-use mathlib.Core.Bool.{Bool, true, false, cond, _||_}
+use mathlib.Core.Bool.{Bool, true, false, _||_}
 use mathlib.Core.Logic.{_⊎_, inl, inr}
 use mathlib.Core.List.{List, [], _∷_}
-use Prim.Native.Nat.{ℕ, zero, suc, _+_, _*_, _<_, _≤_}
+use Prim.Native.Nat.{ℕ, zero, suc, _+_, _<_, _≤_}
 use native.Mathlib.Nat.{eq-or-lt-of-le}
 use native.Mathlib.Omega.{arith}
 use lib.Dec.{eqb}
-use lib.ListN.{length, getD}
+use lib.ListN.{length}
 use borrow.Author.Tests.{eq-eqb, ne-eqb}
 use Rattle.finite.specs.Pieces.{Lies}
 use Rattle.endings.specs.Chess.{tableSize}
 use Rattle.sets.specs.declared.Choice.{Choice}
-use Rattle.sets.specs.Layout.{chosen, codesFrom, codesOf, wordAt, headerSize, setSize, entriesOf, rising, RightSet}
+use Rattle.sets.specs.Layout.{chosen, codesFrom, codesOf, wordAt, headerSize, entriesOf, rising, RightSet}
 use Rattle.sets.specs.Rising.{rising-first, rising-more, rising-bytes}
 use Rattle.sets.specs.WordLaws.{Bytes}
 use Rattle.sets.specs.Right.{code-read, from-rest, entries-lie}

@@ -1,9 +1,8 @@
 -- The writer gives 10 exactly where the set is as long as the choice needs and a chosen ending's true depth exceeds 253; the set is then all zero.
 -- Assumes nothing.
-use mathlib.Core.Path.{_≡_, refl, sym, ap, _∙_}
+use mathlib.Core.Path.{_≡_, refl, sym, ap}
 use mathlib.Core.Bool.{Bool, true, false, cond, not, _||_}
-use mathlib.Core.Logic.{_↔_}
-use mathlib.Core.List.{List, [], _∷_, _++_}
+use mathlib.Core.List.{List, _∷_, _++_}
 use Prim.Native.Nat.{ℕ, zero, suc, _+_, _*_, _<_, _≤_}
 use native.Mathlib.Numerals.{lt-of-le-of-ne}
 use native.Mathlib.Omega.{arith}
@@ -12,9 +11,8 @@ use lib.ListN.{length, take, drop, length-take, length-drop}
 use borrow.Author.Tests.{eq-eqb, eqb-true, eqb-false}
 use Rattle.finite.specs.Truth.{true-not-false}
 use Rattle.finite.specs.Mapped.{mapFrom}
-use Rattle.answers.specs.declared.Filled.{Filled}
 use Rattle.endings.specs.Chess.{tableSize}
-use Rattle.endings.specs.Answers.{Fill, fillOf}
+use Rattle.endings.specs.Answers.{fillOf}
 use Rattle.endings.specs.FilledTrue.{Decided, FillTrue, filled-true, refused-10}
 use Rattle.sets.specs.declared.Choice.{Choice}
 use Rattle.sets.specs.declared.Written.{Written}

@@ -1,29 +1,29 @@
 -- What the writer leaves is a right set, and the reader gives back each chosen ending's filled table. Assumes nothing.
-use mathlib.Core.Path.{_≡_, refl, sym, ap, subst, _∙_}
+use mathlib.Core.Path.{_≡_, refl, sym, ap, _∙_}
 use mathlib.Core.Bool.{Bool, true, false, cond, not, _||_}
-use mathlib.Core.Logic.{_⊎_, inl, inr, _↔_}
+use mathlib.Core.Logic.{_↔_}
 use mathlib.Core.List.{List, [], _∷_, _++_, append-nil}
-use Prim.Native.Nat.{ℕ, zero, suc, _+_, _*_, _<_, _≤_}
-use native.Mathlib.Numerals.{add-one}
+use Prim.Native.Nat.{ℕ, _+_, _*_, _<_, _≤_}
 use native.Mathlib.Omega.{arith}
 use lib.Dec.{eqb}
-use lib.ListN.{length, getD, take, drop, length-append, length-take, length-drop, drop-of-length-le}
-use lib.Seq.{drop-drop, drop-at, take-append-seam}
-use borrow.Author.Tests.{eq-eqb, ne-eqb, eqb-true, eqb-false}
+use lib.ListN.{length, take, drop, length-append, length-take, length-drop, drop-of-length-le}
+use lib.Seq.{drop-drop, drop-at}
+use borrow.Author.Tests.{eq-eqb, ne-eqb, eqb-true}
 use Rattle.finite.specs.Truth.{true-not-false}
 use Rattle.finite.specs.Mapped.{mapFrom}
 use Rattle.finite.specs.Pieces.{Lies}
 use Rattle.finite.specs.PieceLaws.{lies-left, lies-right, lies-part}
-use Rattle.answers.specs.declared.Filled.{Filled}
 use Rattle.answers.specs.declared.Checked.{Checked}
 use Rattle.endings.specs.Chess.{tableSize}
-use Rattle.endings.specs.Answers.{checkOf, Fill, fillOf}
+use Rattle.endings.specs.Answers.{checkOf, fillOf}
+use Rattle.endings.specs.Truth.{TrueTable}
+use Rattle.endings.specs.Checking.{accepts-true-only}
 use Rattle.endings.specs.FilledTrue.{fill-keeps-length, filled-accepted}
 use Rattle.sets.specs.declared.Choice.{Choice}
 use Rattle.sets.specs.declared.Found.{Found}
 use Rattle.sets.specs.declared.Written.{Written}
-use Rattle.sets.specs.Layout.{chosen, codesFrom, codesOf, headerSize, setSize, headerOf, rising, RightSet, placeOf}
-use Rattle.sets.specs.Answers.{rightSet, findOf, tableAt, partOf, isRefusal, tablesOf, refusedOne, SetWritten, writeOf}
+use Rattle.sets.specs.Layout.{chosen, codesOf, headerSize, setSize, headerOf, rising, RightSet, placeOf}
+use Rattle.sets.specs.Answers.{rightSet, findOf, partOf, isRefusal, tablesOf, refusedOne, SetWritten, writeOf}
 use Rattle.sets.specs.Sizes.{length-header}
 use Rattle.sets.specs.Rising.{rising-first}
 use Rattle.sets.specs.Choices.{codes-rise, unchosen-place, chosen-place}
@@ -153,6 +153,10 @@ module _ (ch : Choice) (s : List ℕ) (done : writeOf ch s .answer ≡ Written.D
       let t = table-lies (writeOf ch s .bytes) s code (b .0) (codesOf ch) 0 n all-rise (omega (arith, written-whole .0)) tables-lie q in
       let r = one-not-refused s code (b .0) (codesOf ch) n (written-whole .1) q in
       rw (b .2) (filled-accepted code (take tableSize (drop (b .0) s)) (t .0) (simp (length-take, length-drop) (omega (arith, t .1))) (λ z. true-not-false {b = isRefusal (fillOf code (take tableSize (drop (b .0) s)) .answer)} (ap isRefusal z) r))
+
+  -- SO IT IS THE TRUE TABLE
+  pub chosen-true : (code : ℕ) → code ≤ 3 → chosen ch code ≡ true → TrueTable code (partOf (writeOf ch s .bytes) code)
+  chosen-true code h took = accepts-true-only code (partOf (writeOf ch s .bytes) code) .0 (chosen-accepted code h took) .2
 
 -- ---- the refusals, exactly
 

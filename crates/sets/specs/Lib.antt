@@ -7,5 +7,7 @@ pub mod Choices
 pub mod Right
 pub mod Codes
 pub mod Altered
+pub mod Finish
+pub mod ByEndings
 pub mod Kept
 pub mod Deep

@@ -1,19 +1,18 @@
 -- The reader's test and search are the paper's: of bytes, the test passes exactly where the header is the one that the rules give for its codes.
 -- Assumes nothing.
-use mathlib.Core.Path.{_≡_, refl, sym, ap, ap₂, _∙_}
-use mathlib.Core.Bool.{Bool, true, false, cond, not, _&&_}
+use mathlib.Core.Path.{_≡_, refl, sym, ap}
+use mathlib.Core.Bool.{true, _&&_}
 use mathlib.Core.Logic.{_↔_}
 use mathlib.Core.List.{List, [], _∷_, _++_}
 use Prim.Native.Nat.{ℕ, zero, suc, _+_, _*_, _<_, _≤_}
 use native.Mathlib.Omega.{arith}
 use lib.Dec.{T, leb, ltb, eqb, leb→le, ltb→lt, eqb→eq}
-use lib.ListN.{length, getD, take, drop}
+use lib.ListN.{length, drop}
 use borrow.Author.Tests.{le-leb, lt-ltb, le-ltb, eq-eqb}
 use Rattle.finite.specs.Truth.{and-left, and-right, of-true, true-of}
 use Rattle.finite.specs.Pieces.{Lies}
 use Rattle.finite.specs.PieceLaws.{nothing-lies, lies-left, lies-right, lies-both}
 use Rattle.endings.specs.Chess.{tableSize}
-use Rattle.sets.specs.declared.Found.{Found}
 use Rattle.sets.specs.Layout.{word4, wordAt, headerSize, setSize, entriesOf, headerOf, rising, RightSet, placeOf}
 use Rattle.sets.specs.Answers.{rightEntry, rightEntries, rightSet, findEntry, findOf}
 use Rattle.sets.specs.Sizes.{length-header}

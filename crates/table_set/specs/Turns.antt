@@ -1,11 +1,10 @@
 -- What the writer's two loops keep, one law for each way a turn can go. Assumes nothing.
 use mathlib.Core.Path.{_≡_, refl, sym, ap, _∙_}
-use mathlib.Core.Bool.{Bool, true, false, not}
-use mathlib.Core.List.{List, [], _∷_, _++_}
-use Prim.Native.Nat.{ℕ, zero, suc, _+_, _*_, _-_, _<_, _≤_}
+use mathlib.Core.Bool.{Bool, true, false}
+use mathlib.Core.List.{List, _∷_, _++_}
+use Prim.Native.Nat.{ℕ, _+_, _*_, _-_, _<_, _≤_}
 use native.Mathlib.Omega.{arith}
-use lib.ListN.{length, take, drop}
-use borrow.Author.Tests.{not-true, not-false}
+use lib.ListN.{length}
 use Rattle.finite.specs.Pieces.{over}
 use Rattle.finite.specs.PieceLaws.{over-nothing, length-over, over-over}
 use Rattle.answers.specs.declared.Filled.{Filled}
@@ -14,8 +13,8 @@ use Rattle.sets.specs.declared.Choice.{Choice}
 use Rattle.sets.specs.declared.Written.{Written}
 use Rattle.sets.specs.Layout.{chosen, codesFrom, codesOf, word4, headerSize, setSize, entriesOf, headerOf}
 use Rattle.sets.specs.Answers.{isRefusal, filledAt, SetWritten, writeOf}
-use Rattle.sets.specs.Sizes.{length-header}
-use Rattle.table_set.specs.Writing.{codes-take, codes-pass, codes-start, codes-end, finish, finish-end, finish-on, finish-refused, write-start}
+use Rattle.sets.specs.Finish.{finish, finish-end, finish-on, finish-refused, write-start}
+use Rattle.table_set.specs.Writing.{codes-take, codes-pass, codes-start, codes-end}
 
 -- ---- the header: the entries left, written over the set as it stands, give the whole header
 
@@ -139,9 +138,6 @@ module _ (ch : Choice) (w : SetWritten) (s₀ s : List ℕ) (at code : ℕ) (now
 -- ---- the answer, by its two fields
 
 module _ (ch : Choice) (n : ℕ) (t s₀ : List ℕ) (en : n ≡ length (codesOf ch)) (l : length t ≡ setSize n) (e : s₀ ≡ over t 0 (headerOf (codesOf ch))) where
-  pub header-keeps : length s₀ ≡ length t
-  header-keeps = let k = length-header (codesOf ch) in ap length e ∙ length-over t 0 (headerOf (codesOf ch)) (omega arith)
-
   pub write-is : (u : List ℕ) (a : Written) → finish (codesOf ch) (headerSize n) s₀ ≡ record { answer = a; bytes = u } → (a ≡ writeOf ch t .answer) × (u ≡ writeOf ch t .bytes)
   write-is u a q =
       let k : writeOf ch t ≡ record { answer = a; bytes = u } = sym (write-start ch t n en l) ∙ (rw e at q) in

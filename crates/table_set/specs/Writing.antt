@@ -1,27 +1,23 @@
 -- Laws by which the writer's code is proved: the codes left, what the tables left give, and a part lent to the fill. Assumes nothing.
-use mathlib.Core.Path.{_≡_, refl, sym, ap, _∙_}
-use mathlib.Core.Bool.{Bool, true, false, cond, not, _||_}
-use mathlib.Core.List.{List, [], _∷_, _++_, append-assoc, append-nil}
-use Prim.Native.Nat.{ℕ, zero, suc, _+_, _*_, _-_, _<_, _≤_}
+use mathlib.Core.Path.{_≡_, refl, sym, _∙_}
+use mathlib.Core.Bool.{Bool, true, false, cond}
+use mathlib.Core.List.{List, [], _∷_, _++_}
+use Prim.Native.Nat.{ℕ, suc, _+_, _-_, _<_, _≤_}
 use native.Mathlib.Numerals.{add-one}
 use native.Mathlib.Omega.{arith}
 use lib.Dec.{eqb}
 use lib.ListN.{length, take, drop, length-take, length-drop}
-use lib.Seq.{take-all}
 use borrow.Author.Tests.{eq-eqb, ne-eqb}
 use Rattle.finite.specs.Mapped.{mapFrom, cleared-same}
 use Rattle.finite.specs.Pieces.{over}
-use Rattle.finite.specs.PieceLaws.{length-over, take-over, drop-over}
 use Rattle.answers.specs.declared.Filled.{Filled}
 use Rattle.endings.specs.Chess.{tableSize}
-use Rattle.endings.specs.Answers.{Fill, fillOf}
-use Rattle.endings.specs.FilledTrue.{fill-keeps-length}
+use Rattle.endings.specs.Answers.{fillOf}
 use Rattle.sets.specs.declared.Choice.{Choice}
 use Rattle.sets.specs.declared.Found.{Found}
 use Rattle.sets.specs.declared.Written.{Written}
-use Rattle.sets.specs.Layout.{chosen, codesFrom, codesOf, headerSize, setSize, headerOf}
-use Rattle.sets.specs.Answers.{isRefusal, filledAt, fillInOf, tablesOf, refusedOne, SetWritten, writeOf, startOf, findOf}
-use Rattle.sets.specs.Sizes.{length-header}
+use Rattle.sets.specs.Layout.{chosen, codesFrom, codesOf, setSize, headerOf}
+use Rattle.sets.specs.Answers.{isRefusal, filledAt, fillInOf, writeOf, startOf, findOf}
 
 -- ---- the codes left
 
@@ -70,62 +66,12 @@ codes-count ch = go (ch .queen) (ch .rook) (ch .bishop) (ch .knight)
     go false false false true = (refl, omega arith)
     go false false false false = (refl, omega arith)
 
--- ---- the tables left
-
--- what the writer leaves if the tables of the codes are still to come, from a place on
-unfoldable pub finish : List ℕ → ℕ → List ℕ → SetWritten
-finish cs at s =
-    cond (refusedOne cs (drop at s)) (record { answer = Written.Refused 10; bytes = mapFrom (λ n b. 0) 0 s })
-    (record { answer = Written.Done; bytes = take at s ++ tablesOf cs (drop at s) })
-
-pub finish-end : (at : ℕ) (s : List ℕ) → length s ≤ at → finish [] at s ≡ record { answer = Written.Done; bytes = s }
-unfolding finish refusedOne tablesOf
-finish-end at s h = rw (append-nil (take at s), take-all at s h)
-
-module _ (c at : ℕ) (s cs : List ℕ) (known : c < 4) (fits : at + tableSize ≤ length s) where
-  abbrev f : Fill
-  f = fillOf c (take tableSize (drop at s))
-
-  length-filled : length (f .bytes) ≡ tableSize
-  length-filled = fill-keeps-length c (take tableSize (drop at s)) known (simp (length-take, length-drop) (omega arith))
-
-  room : at + length (f .bytes) ≤ length s
-  room = omega (arith, length-filled)
-
-  length-one : length (over s at (f .bytes)) ≡ length s
-  length-one = length-over s at (f .bytes) room
-
-  -- the table is filled, and the others are still to come
-  pub finish-on : isRefusal (filledAt c at s .answer) ≡ false → finish cs (at + tableSize) (filledAt c at s .bytes) ≡ finish (c ∷ cs) at s
-  unfolding finish refusedOne tablesOf filledAt
-  finish-on e =
-      let t : take (at + tableSize) (over s at (f .bytes)) ≡ take at s ++ f .bytes = rw length-filled at (take-over s at (f .bytes) room) in
-      let d : drop (at + tableSize) (over s at (f .bytes)) ≡ drop tableSize (drop at s) = rw length-filled at (drop-over s at (f .bytes) room) in
-      rw (e, t, d, cleared-same (over s at (f .bytes)) s length-one, append-assoc (take at s) (f .bytes) (tablesOf cs (drop tableSize (drop at s))))
-
-  -- filling refuses the table
-  pub finish-refused : isRefusal (filledAt c at s .answer) ≡ true → finish (c ∷ cs) at s ≡ record { answer = Written.Refused 10; bytes = filledAt c at s .bytes }
-  unfolding finish refusedOne filledAt
-  finish-refused e = rw e
-
 -- ---- the answer
 
 module _ (ch : Choice) (s : List ℕ) (n : ℕ) (en : n ≡ length (codesOf ch)) where
   pub write-unlike : (length s ≡ setSize n → ⊥) → (Written.Refused 14 ≡ writeOf ch s .answer) × (s ≡ writeOf ch s .bytes)
   unfolding writeOf
   write-unlike no? = let e = ne-eqb (length s) (setSize (length (codesOf ch))) (λ l. no? (rw en l)) in (sym (rw e), sym (rw e))
-
-  -- with its header written, the tables still to come give the answer
-  pub write-start : length s ≡ setSize n → finish (codesOf ch) (headerSize n) (over s 0 (headerOf (codesOf ch))) ≡ writeOf ch s
-  unfolding writeOf finish
-  write-start l =
-      let k = length-header (codesOf ch) in
-      let room : 0 + length (headerOf (codesOf ch)) ≤ length s = omega arith in
-      let z : 0 + length (headerOf (codesOf ch)) ≡ headerSize n = omega arith in
-      let t : take (headerSize n) (over s 0 (headerOf (codesOf ch))) ≡ headerOf (codesOf ch) = rw z at (take-over s 0 (headerOf (codesOf ch)) room) in
-      let d : drop (headerSize n) (over s 0 (headerOf (codesOf ch))) ≡ drop (headerSize (length (codesOf ch))) s = rw (z, k) at (drop-over s 0 (headerOf (codesOf ch)) room) in
-      let e : eqb (length s) (setSize (length (codesOf ch))) ≡ true = eq-eqb (length s) (setSize (length (codesOf ch))) (omega arith) in
-      rw (t, d, e, cleared-same (over s 0 (headerOf (codesOf ch))) s (length-over s 0 (headerOf (codesOf ch)) room))
 
   -- the header alone
   pub start-unlike : (length s ≡ setSize n → ⊥) → (Written.Refused 14 ≡ startOf ch s .answer) × (s ≡ startOf ch s .bytes)

@@ -1,6 +1,5 @@
 -- `table_set::count` meets its contract. Assumes nothing.
 use Rattle.table_set.specs.Writing.{codes-count}
-use mathlib.Core.Path.{_∙_, sym}
 use native.Mathlib.Omega.{arith}
 use borrow.Author.Needs.{needs}
 use Rattle.table_set.proofs.header.count.Statement.{statement}

@@ -2,7 +2,7 @@
 -- Assumes nothing.
 use Rattle.table_set.specs.Turns.{Headed, headed-start, headed-pass, headed-room, headed-take, headed-end}
 use Prim.Native.Nat.{_-_}
-use mathlib.Core.Path.{_∙_, sym}
+use mathlib.Core.Path.{_∙_}
 use borrow.Author.Tests.{not-true, not-false}
 use native.Mathlib.Omega.{arith}
 use Rattle.table_set.proofs.header.write_header.Statement.{statement}

@@ -3,7 +3,7 @@ use Rattle.table_set.specs.Reading.{set-passed, find-code, find-wrong, f
 use Rattle.sets.specs.Answers.{findEntry, findOf}
 use lib.ListN.{length}
 use Prim.Native.Nat.{_+_, _*_, _≤_}
-use mathlib.Core.Path.{_≡_, _∙_, sym, refl}
+use mathlib.Core.Path.{_≡_, _∙_, sym}
 use borrow.Author.Tests.{not-true, not-false}
 use native.Mathlib.Omega.{arith}
 use Rattle.table_set.proofs.reader.find.Statement.{statement}
