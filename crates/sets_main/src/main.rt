@@ -66,15 +66,19 @@ fn print_written(written: Written, set: &[u8]) {
     io::write_all(1, b"\n");
 }
 
+fn print_codes(set: &[u8]) {
+    print_found(set, 0);
+    print_found(set, 1);
+    print_found(set, 2);
+    print_found(set, 3);
+    print_found(set, 4);
+}
+
 fn print_set(choice: Choice, set: &mut [u8]) {
     print_choice(choice);
     let written = write(choice, &mut *set);
     print_written(written, &*set);
-    print_found(&*set, 0);
-    print_found(&*set, 1);
-    print_found(&*set, 2);
-    print_found(&*set, 3);
-    print_found(&*set, 4);
+    print_codes(&*set);
 }
 
 fn choose(queen: bool, rook: bool, bishop: bool, knight: bool) -> Choice {
