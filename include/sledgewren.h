@@ -19,6 +19,9 @@
  *
  * A pocket is a table packed to two bits a number, 14,784 bytes. Number k has its entry in byte
  * k / 4 at bit 2 x (k mod 4): 0 for byte 0, 1 for a draw, 2 for a win, 3 for a loss.
+ * A set holds the tables of several endings: a count, then for each table its man, its offset from
+ * the set's start and its length, each 4 bytes with the lowest first, then the tables without gaps
+ * in that order. The men rise strictly. A set is right if its bytes are just these and no more.
  *
  * Every function is total: it answers any values and any lengths, never fails, allocates nothing,
  * keeps nothing between calls and calls nothing back. It may be called from several threads as
@@ -48,6 +51,9 @@ extern "C" {
 
 /* Digits of a typed number, its check included. */
 #define SLEDGEWREN_TYPED_DIGITS 7
+
+/* Length of a set of so many tables: 4 with none, 236,596 with all four. */
+#define SLEDGEWREN_SET_BYTES(tables) (4 + (12 + SLEDGEWREN_TABLE_BYTES) * (size_t)(tables))
 
 /* No position has more legal moves. */
 #define SLEDGEWREN_MOST_MOVES 35
@@ -115,6 +121,8 @@ enum sledgewren_refusal {
                                         pocket's entry of a legal position is 0 */
     SLEDGEWREN_BAD_LINE = 12,        /* line of the wrong shape */
     SLEDGEWREN_BAD_CHECK = 13,       /* check digits of a typed number wrong */
+    SLEDGEWREN_WRONG_SET = 14,       /* not a right set, or not as long as the endings need */
+    SLEDGEWREN_NOT_IN_SET = 15,      /* the ending is not in the set */
     SLEDGEWREN_TOO_MANY_PLIES = 16   /* more than 6 plies asked for */
 };
 
@@ -222,6 +230,34 @@ uint32_t sledgewren_pocket_look_up(const uint8_t *pocket, size_t len, uint8_t ma
  *   bits 0-15 entry 0, 16-31 draws, 32-47 wins, 48-63 losses
  */
 uint64_t sledgewren_tallies(const uint8_t *pocket, size_t len);
+ * Writes the true tables of the chosen endings as one set: a byte for each man, 0 for no and any
+ * other for yes. The answer is 0 or a refusal. 14, where len is not what the choice needs, leaves
+ * the bytes untouched; 10 leaves them all 0.
+ */
+uint32_t sledgewren_set_write(uint8_t queen, uint8_t rook, uint8_t bishop, uint8_t knight,
+                              uint8_t *set, size_t len);
+
+/*
+ * Writes a set's header and leaves the bytes after it, so that sledgewren_set_fill may fill the
+ * endings one by one. The answer is 0 or refusal 14, which leaves all bytes untouched.
+ */
+uint32_t sledgewren_set_start(uint8_t queen, uint8_t rook, uint8_t bishop, uint8_t knight,
+                              uint8_t *set, size_t len);
+
+/*
+ * Fills an ending's table in its own part of a right set, whatever that part held before; the
+ * other bytes stay as they are. Refusals 1, 14 and 15 leave all bytes untouched, 10 leaves them
+ * all 0.
+ *   bits 0-7 refusal, bit 8 some position is decided, 16-23 greatest depth
+ */
+uint32_t sledgewren_set_fill(uint8_t man, uint8_t *set, size_t len);
+
+/*
+ * Where a set holds an ending's table, for sledgewren_look_up(set + offset, length, ..).
+ * Refusals 1, 14, 15. What the table's bytes hold is not asked: sledgewren_check tells.
+ *   bits 0-7 refusal, 8-31 length, 32-63 offset
+ */
+uint64_t sledgewren_set_find(const uint8_t *set, size_t len, uint8_t man);
 
 #ifdef __cplusplus
 }

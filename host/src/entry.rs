@@ -4,6 +4,10 @@
 //! [`Position`]; a man as his code, any byte, or as a [`Man`]. The methods of the crate's types
 //! rest on these functions.
 
+mod sets;
+
+pub use sets::{set_fill, set_find, set_start, set_write};
+
 use crate::ffi;
 use crate::{Answer, Checked, Keyed, Man, Move, Moves, Opinion, Position, Refusal, Side, Slip};
 use crate::{Outcome, Square, Tallies, Typed, MOST_MOVES, SLIP_BYTES};

@@ -91,4 +91,30 @@ extern "C" {
     /// Bits 0-15 numbers with entry 0, 16-31 draws, 32-47 wins, 48-63 losses; or refusal 7 as
     /// the word 7.
     pub fn sledgewren_tallies(pocket: *const u8, len: usize) -> u64;
+
+    /// The refusal, or 0. A man's byte is 0 for no and any other for yes.
+    pub fn sledgewren_set_write(
+        queen: u8,
+        rook: u8,
+        bishop: u8,
+        knight: u8,
+        set: *mut u8,
+        len: usize,
+    ) -> u32;
+
+    /// The refusal, or 0. It writes the header alone.
+    pub fn sledgewren_set_start(
+        queen: u8,
+        rook: u8,
+        bishop: u8,
+        knight: u8,
+        set: *mut u8,
+        len: usize,
+    ) -> u32;
+
+    /// Bits 0-7 refusal, bit 8 some position is decided, 16-23 greatest depth.
+    pub fn sledgewren_set_fill(man: u8, set: *mut u8, len: usize) -> u32;
+
+    /// Bits 0-7 refusal, 8-31 length of the table, 32-63 its offset.
+    pub fn sledgewren_set_find(set: *const u8, len: usize, man: u8) -> u64;
 }

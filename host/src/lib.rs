@@ -40,6 +40,10 @@
 //! | `sledgewren_pack` | [`entry::pack`] | [`Pocket::packed`], [`Pocket::of_table`] |
 //! | `sledgewren_pocket_look_up` | [`entry::pocket_look_up`] | [`Pocket::look_up`] |
 //! | `sledgewren_tallies` | [`entry::tallies`] | [`Pocket::tallies`] |
+//! | `sledgewren_set_write` | [`entry::set_write`] | [`Set::written`] |
+//! | `sledgewren_set_start` | [`entry::set_start`] | [`Set::written_by_endings`] |
+//! | `sledgewren_set_fill` | [`entry::set_fill`] | [`Set::written_by_endings`] |
+//! | `sledgewren_set_find` | [`entry::set_find`] | [`Set::from_bytes`], [`Set::table`] |
 
 #![deny(missing_docs)]
 
@@ -53,6 +57,7 @@ mod opinion;
 mod pocket;
 mod position;
 mod refusal;
+mod set;
 mod square;
 mod table;
 mod typed;
@@ -65,6 +70,7 @@ pub use opinion::{second_opinion, Opinion, MOST_PLIES};
 pub use pocket::{Outcome, Pocket, Tallies, POCKET_BYTES};
 pub use position::{Keyed, Position};
 pub use refusal::Refusal;
+pub use set::{Choice, Set};
 pub use square::{NoSquare, Square};
 pub use table::{Accepted, Table, TABLE_BYTES};
 pub use typed::{Typed, TYPED_DIGITS};

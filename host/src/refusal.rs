@@ -33,13 +33,17 @@ pub enum Refusal {
     BadLine = 12,
     /// 13: check digits of a typed number wrong.
     BadCheck = 13,
+    /// 14: not a right set, or not as long as the endings chosen need.
+    WrongSet = 14,
+    /// 15: the ending is not in the set.
+    NotInSet = 15,
     /// 16: more than 6 plies asked for.
     TooManyPlies = 16,
 }
 
 impl Refusal {
     /// All of them, in order.
-    pub const ALL: [Refusal; 14] = [
+    pub const ALL: [Refusal; 16] = [
         Refusal::BadMan,
         Refusal::BadSide,
         Refusal::BadSquare,
@@ -53,6 +57,8 @@ impl Refusal {
         Refusal::Inconsistent,
         Refusal::BadLine,
         Refusal::BadCheck,
+        Refusal::WrongSet,
+        Refusal::NotInSet,
         Refusal::TooManyPlies,
     ];
 
@@ -84,6 +90,8 @@ impl Refusal {
             }
             Refusal::BadLine => "line of the wrong shape",
             Refusal::BadCheck => "check digits of a typed number wrong",
+            Refusal::WrongSet => "not a right set, or not as long as the endings need",
+            Refusal::NotInSet => "the ending is not in the set",
             Refusal::TooManyPlies => "more than 6 plies asked for",
         }
     }
@@ -105,7 +113,7 @@ mod tests {
     #[test]
     fn numbers_come_back() {
         for code in 0..=255 {
-            let expected = matches!(code, 1..=13 | 16).then_some(code);
+            let expected = matches!(code, 1..=16).then_some(code);
             assert_eq!(Refusal::from_code(code).map(Refusal::code), expected);
         }
     }

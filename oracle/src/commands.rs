@@ -16,7 +16,9 @@ use crate::number::{back, number, NUMBERS};
 use crate::position::{Keyed, Man, Refused, MEN};
 use crate::rules::{legal_position, move_name, moves};
 use crate::table::{check, look_up, Checked};
-use crate::{commands_pocket, commands_search, fill_back, fill_every, samples, selftest};
+use crate::{
+    commands_pocket, commands_search, commands_set, fill_back, fill_every, samples, selftest,
+};
 
 pub const USAGE: &str = "\
 usage: oracle SUBCOMMAND [ARGUMENTS]     (MAN is Q, R, B or N)
@@ -35,6 +37,9 @@ usage: oracle SUBCOMMAND [ARGUMENTS]     (MAN is Q, R, B or N)
   pocket FILE             look up each line on standard input in a pocket
   tallies [MAN ...]       the four tallies of each true pocket, and its checksum
   tallies-of FILE         the four tallies of a pocket
+  set CODES               write the set of the endings chosen (`03`; `-` for none)
+  set-find CODE FILE      where a set holds an ending: offset and length
+  set-sums [CODES ...]    for each choice the set's checksum and what reading gives
   search K                search each line on standard input K plies deep
   search-positions        write the search's sample of input lines
   search-cases            answer the sample for every K up to 7
@@ -78,6 +83,9 @@ fn dispatch(name: &str, rest: &[OsString], output: &mut Out) -> Done {
         "tallies" => commands_pocket::true_tallies(rest, output),
         "tallies-of" => commands_pocket::tallies_of(rest, output),
         "search" => commands_search::search_lines(rest, output),
+        "set" => commands_set::write_file(rest, output),
+        "set-find" => commands_set::find_in_file(rest, output),
+        "set-sums" => commands_set::sums(rest, output),
         _ => without_arguments(name, rest, output),
     }
 }

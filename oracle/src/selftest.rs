@@ -9,7 +9,7 @@ use crate::number::NUMBERS;
 use crate::position::{Keyed, Man, MEN};
 use crate::{
     tests_board, tests_check_digits, tests_desk, tests_games, tests_number, tests_pocket,
-    tests_search, tests_table,
+    tests_search, tests_set, tests_table,
 };
 
 /// The four tables by the plain fill, made once for all tests.
@@ -66,6 +66,7 @@ pub fn run(output: &mut impl Write) -> Done {
         tests_games::TESTS,
         tests_pocket::TESTS,
         tests_check_digits::TESTS,
+        tests_set::TESTS,
         tests_search::TESTS,
         tests_desk::TESTS,
     ];

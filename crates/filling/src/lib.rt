@@ -3,4 +3,5 @@ mod bytes;
 mod fill_table;
 mod pass;
 
+pub use bytes::clear;
 pub use fill_table::fill;

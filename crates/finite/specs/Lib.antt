@@ -8,3 +8,5 @@ pub mod Lowest
 pub mod Ranked
 pub mod Mapped
 pub mod Orbit
+pub mod Pieces
+pub mod PieceLaws

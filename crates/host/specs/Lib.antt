@@ -6,3 +6,5 @@ pub mod Laws
 pub mod LineTrue
 pub mod PocketWords
 pub mod PocketWordLaws
+pub mod SetWords
+pub mod SetLaws

@@ -35,6 +35,8 @@ pub mod rule;
 pub mod rules;
 #[path = "../../../oracle/src/search.rs"]
 pub mod search;
+#[path = "../../../oracle/src/set.rs"]
+pub mod set;
 #[path = "../../../oracle/src/symmetry.rs"]
 pub mod symmetry;
 #[path = "../../../oracle/src/table.rs"]

@@ -1,0 +1,35 @@
+-- `table_set::fill_part` meets its contract: the part that was lent comes back filled, and what stands around it as it was. Assumes nothing.
+use Prim.Native.Nat.{_+_, _-_}
+use Rattle.table_set.specs.Writing.{part-put}
+use native.Mathlib.Omega.{arith}
+use borrow.Author.Needs.{needs}
+use Rattle.table_set.proofs.tables.fill_part.Statement.{statement}
+use Rattle.table_set.proofs.tables.fill_part.Tie as tie
+
+add-end : tie.Need-add-end
+add-end c = search needs
+
+sub-fill : tie.Need-sub-fill
+sub-fill c = search needs
+
+part-fill-start : tie.Need-part-fill-start
+part-fill-start c = search needs
+
+part-fill-end : tie.Need-part-fill-end
+part-fill-end c = search needs
+
+fill-requires : tie.Need-fill-requires
+fill-requires c κs = search needs
+
+same-length : tie.Need-same-length
+same-length c = search needs
+
+returns : tie.Need-returns
+returns c =
+    let start = c .before .before .before .before .before in
+    let at = start .args .at in
+    let f = c .before .before .fill in
+    part-put _ at (at + 59136 - at) _ _ _ (omega arith) (start .pre) (f .ensures .0) (f .ensures .1) (f .kept .1 .0)
+
+pub fill-part-spec : {M : Type 1} → statement M
+fill-part-spec = tie.close (tie.spec add-end sub-fill part-fill-start part-fill-end fill-requires same-length returns)
