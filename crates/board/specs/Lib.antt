@@ -5,6 +5,7 @@ pub mod Sets
 pub mod SquareLaws
 pub mod LineLaws
 pub mod WalkLaws
+pub mod WalkAttack
 pub mod ReachLaws
 pub mod Blocking
 pub mod SetLaws

@@ -7,7 +7,7 @@ use Rattle.finite.specs.Truth.{eqb-sym}
 use Rattle.finite.specs.Members.{any}
 use Rattle.finite.specs.Numbers.{numbers, any-first}
 use Rattle.board.specs.Reach.{stepped, lineOf}
-use Rattle.board.specs.WalkLaws.{line-next}
+use Rattle.board.specs.WalkAttack.{line-next}
 
 -- nothing more comes
 pub sweep-end : (a b : Bool) → b ≡ false → (a || b) ≡ a

@@ -19,7 +19,8 @@ use Rattle.board.specs.Walk.{walkOf}
 use Rattle.board.specs.declared.Met.{Met}
 use Rattle.board.specs.SquareLaws.{shift-le}
 use Rattle.board.specs.SetLaws.{bit, has-none, has-bit, has-or, has-and, has-not, has-added, set-is}
-use Rattle.board.specs.WalkLaws.{walk-edge, walk-next, line-edge}
+use Rattle.board.specs.WalkLaws.{walk-edge, walk-next}
+use Rattle.board.specs.WalkAttack.{line-edge}
 use Rattle.board.specs.SweepLaws.{sweep-end, sweep-stop, sweep-next}
 use Rattle.board.specs.StepLaws.{IsStep, next, is-stepped}
 

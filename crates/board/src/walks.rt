@@ -15,7 +15,7 @@ ghost use Rattle.board.specs.Reach.{reaches};
 ghost use Rattle.board.specs.Walk.{walkOf, meetsFirst};
 ghost use Rattle.board.specs.Sets.{has as holds};
 
-// The first occupied square that a walk from a square meets in one direction, or the edge. The rook's directions are 0 to 3, the bishop's 4 to 7.
+// The first occupied square after `from` in one direction, or the edge. The rook's directions are 0 to 3, the bishop's 4 to 7.
 pub fn walk(occ: u64, from: u8, direction: u8) -> Met
     ensures { λ r. ⌜ r ≡ walkOf (holds occ) from direction ⌝ }
 {
@@ -39,7 +39,7 @@ pub fn walk(occ: u64, from: u8, direction: u8) -> Met
     }
 }
 
-// Whether a walk in one of the directions `first` up to `end` meets t first. A line may end on an empty square too, so t counts as occupied.
+// Whether a walk in one of the directions `first` up to `end` meets t first. An empty t counts as occupied: a line may end there too.
 fn meets(occ: u64, from: u8, first: u8, end: u8, t: u8) -> bool
     ensures { λ r. ⌜ r ≡ any (meetsFirst (holds occ) from t) (numbers (end - first) first) ⌝ }
 {
@@ -55,6 +55,7 @@ fn meets(occ: u64, from: u8, first: u8, end: u8, t: u8) -> bool
 }
 
 // Whether a piece of this kind on `from` attacks t: queen 0, rook 1, bishop 2, knight 3, king 5.
+// A queen, rook or bishop does if one of its walks meets t first; nothing stands in the way of a single step.
 pub fn attacks(occ: u64, kind: u8, from: u8, t: u8) -> bool
     ensures { λ r. ⌜ r ≡ reaches (holds occ) kind from t ⌝ }
 {

@@ -1,15 +1,15 @@
-use mathlib.Core.Path.{refl, sym, _∙_}
+use mathlib.Core.Path.{sym, _∙_}
 use mathlib.Core.Bool.{false}
 use mathlib.Core.Logic.{inl}
 use Prim.Native.Nat.{ℕ}
 use native.Mathlib.Omega.{arith}
-use lib.Dec.{lit≤}
+use lib.Dec.{lit<}
 use borrow.Author.Needs.{needs}
 use Rattle.board.specs.Reach.{reaches}
 use Rattle.board.specs.Sets.{has}
 use Rattle.board.specs.SetLaws.{set-is}
 use Rattle.board.specs.ReachLaws.{reaches-has, reaches-off, reaches-other, king-reaches, knight-reaches}
-use Rattle.board.specs.WalkLaws.{reaches-walk}
+use Rattle.board.specs.WalkAttack.{attacks-by-walk}
 use Rattle.board.proofs.walks.attacks.Statement.{statement}
 use Rattle.board.proofs.walks.attacks.Tie as tie
 
@@ -20,19 +20,19 @@ meets-requires : tie.Need-meets-requires
 meets-requires c κs = search needs
 
 returns-2 : tie.Need-returns-2
-returns-2 c = c .meets .ensures ∙ sym (rw (c .before .if2 .taken) (reaches-walk _ 0 _ _ refl (lit≤ tt)))
+returns-2 c = c .meets .ensures ∙ sym (rw (c .before .if2 .taken) (attacks-by-walk _ 0 _ _ (lit< tt)))
 
 meets-requires-2 : tie.Need-meets-requires-2
 meets-requires-2 c κs = search needs
 
 returns-3 : tie.Need-returns-3
-returns-3 c = c .meets2 .ensures ∙ sym (rw (c .before .if3 .taken) (reaches-walk _ 1 _ _ refl (lit≤ tt)))
+returns-3 c = c .meets2 .ensures ∙ sym (rw (c .before .if3 .taken) (attacks-by-walk _ 1 _ _ (lit< tt)))
 
 meets-requires-3 : tie.Need-meets-requires-3
 meets-requires-3 c κs = search needs
 
 returns-4 : tie.Need-returns-4
-returns-4 c = c .meets3 .ensures ∙ sym (rw (c .before .if4 .taken) (reaches-walk _ 2 _ _ refl (lit≤ tt)))
+returns-4 c = c .meets3 .ensures ∙ sym (rw (c .before .if4 .taken) (attacks-by-walk _ 2 _ _ (lit< tt)))
 
 near-requires : tie.Need-near-requires
 near-requires c κs = search needs
