@@ -1,33 +1,20 @@
--- Laws of lines: what a line does by what its next square is, as code that walks it finds out; and that only the board counts. Assumes nothing.
+-- Laws of lines of any length: where they start and end, and that only the board counts. Assumes nothing.
 use mathlib.Core.Path.{_≡_, refl, subst}
 use mathlib.Core.Logic.{⊎-elim}
 use mathlib.Core.Bool.{Bool, false, not, _&&_, _||_, and-false}
-use Prim.Native.Nat.{ℕ, zero, suc, _+_, _-_, _≤_, _<_}
-use native.Mathlib.Omega.{arith}
+use Prim.Native.Nat.{ℕ, zero, suc, _<_}
 use lib.Dec.{T, ltb, eqb, ltb→lt, eqb→eq}
-use borrow.Author.Tests.{lt-ltb, le-ltb}
+use borrow.Author.Tests.{le-ltb}
 use Rattle.finite.specs.Truth.{and-left, and-right, or-cases, le-or-lt}
 use Rattle.board.specs.Square.{shift}
 use Rattle.board.specs.Reach.{line}
-use Rattle.board.specs.SquareLaws.{shift-lt, shift-from}
+use Rattle.board.specs.SquareLaws.{shift-from}
 
-module _ (occ : ℕ → Bool) (s dx dy t : ℕ) where
-  -- no step is left
-  pub line-end : (r n : ℕ) → r ≤ n → line occ (r - n) s dx dy t ≡ false
-  unfolding line
-  line-end r n h = let z : r - n ≡ 0 = omega arith in rw z
-
-  module _ (u : ℕ) (e : u ≡ shift s dx dy) where
-    -- the edge comes next
-    pub line-off : (n : ℕ) → u ≡ 64 → line occ n s dx dy t ≡ false
-    unfolding line
-    line-off zero h = refl
-    line-off (suc n) h = rw (← e, h)
-
-    -- the square u comes next
-    pub line-on : (r n : ℕ) → n < r → (u ≡ 64 → ⊥) → line occ (r - n) s dx dy t ≡ (eqb u t || not (occ u) && line occ (r - (n + 1)) u dx dy t)
-    unfolding line
-    line-on r n l h = let z : r - n ≡ suc (r - (n + 1)) = omega arith in rw (z, ← e, lt-ltb u 64 (shift-lt u s dx dy e h))
+-- the edge comes next
+pub line-off : (occ : ℕ → Bool) (n s dx dy t : ℕ) → shift s dx dy ≡ 64 → line occ n s dx dy t ≡ false
+unfolding line
+line-off occ zero s dx dy t h = refl
+line-off occ (suc n) s dx dy t h = rw h
 
 -- a line starts and ends on the board
 pub line-squares : (occ : ℕ → Bool) (n s dx dy t : ℕ) → T (line occ n s dx dy t) → (s < 64) × (t < 64)

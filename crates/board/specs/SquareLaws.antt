@@ -49,9 +49,6 @@ shift-le s dx dy =
     (λ t. let h = stays-facts s dx dy t in rw (cond-true (stays s dx dy) ((s / 8 + dy - 2) * 8 + (s % 8 + dx - 2)) 64 t) (omega arith))
     (λ f. rw (cond-false (stays s dx dy) ((s / 8 + dy - 2) * 8 + (s % 8 + dx - 2)) 64 f) (omega arith))
 
-pub shift-lt : (u s dx dy : ℕ) → u ≡ shift s dx dy → (u ≡ 64 → ⊥) → u < 64
-shift-lt u s dx dy e h = omega (arith, shift-le s dx dy)
-
 -- a step that ends on the board starts on it
 pub shift-from : (s dx dy : ℕ) → shift s dx dy < 64 → s < 64
 shift-from s dx dy h = ⊎-elim (λ q. absurd (omega (arith, shift-off s dx dy q))) (λ q. q) (le-or-lt 64 s)

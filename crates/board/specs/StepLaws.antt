@@ -1,25 +1,24 @@
--- Steps of a square's bit by shifts and masks: that they are the steps of the board, lines walked by them, and steps made once. Assumes nothing.
+-- Steps of a square's bit by shifts and masks: that they are the steps of the board, and steps made once. Assumes nothing.
 -- A step is one number here, its change of file and 8 times its change of rank (Square).
-use mathlib.Core.Path.{_≡_, refl, sym, ap, _∙_}
-use mathlib.Core.Bool.{Bool, true, false, not, cond, _&&_, _||_, or-false}
+use mathlib.Core.Path.{_≡_, sym, ap, _∙_}
+use mathlib.Core.Bool.{Bool, false, cond, _&&_, _||_, or-false}
 use mathlib.Core.List.{List, [], _∷_}
 use mathlib.Core.Logic.{⊎-elim}
-use Prim.Native.Nat.{ℕ, _+_, _-_, _*_, _/_, _%_, _^_, _≤_, _<_}
+use Prim.Native.Nat.{ℕ, _+_, _-_, _*_, _/_, _%_, _^_, _<_}
 use native.Mathlib.Omega.{arith}
 use lib.Dec.{T, leb, ltb, eqb, eqb→eq}
-use lib.Bits.{bitAnd, bitOr, and-lt}
+use lib.Bits.{bitAnd, bitOr}
 use lib.ListN.{getD}
-use borrow.Author.Tests.{not-false, lt-ltb, eq-eqb}
-use Rattle.finite.specs.Truth.{eqb-sym, le-or-lt, fails, and-left, and-right, true-of, false-of, true-not-false}
+use borrow.Author.Tests.{lt-ltb}
+use Rattle.finite.specs.Truth.{eqb-sym, le-or-lt, and-left, and-right}
 use Rattle.finite.specs.Below.{allBelow, allBelow2, allBelow3, below, below3}
 use Rattle.board.specs.Square.{stays, shift}
 use Rattle.board.specs.Reach.{line, stepXs, stepYs, stepped}
 use Rattle.board.specs.Sets.{has, pack, setOf}
 use Rattle.board.specs.SquareLaws.{shift-le}
 use Rattle.board.specs.ReachLaws.{step-lt}
-use Rattle.board.specs.LineLaws.{line-end, line-off}
-use Rattle.board.specs.SetLaws.{bit, has-none, has-bit, has-or, has-and, has-not, has-added, set-is}
-use Rattle.board.specs.SweepLaws.{sweep-end, sweep-stop, sweep-next}
+use Rattle.board.specs.LineLaws.{line-off}
+use Rattle.board.specs.SetLaws.{bit, has-none, has-bit, has-or}
 
 -- ---- one step
 
@@ -90,96 +89,27 @@ step-is k h =
 pub step-small : (step k : ℕ) → k < 16 → IsStep step k → (step % 8 < 5) × (step / 8 < 5)
 step-small step k h p = let l = step-lt k h in (rw (p .0) (l .0), rw (p .1) (l .1))
 
--- ---- a line walked by bits: the set gathers its squares, and the walk stops where no free square comes next
-
--- the code's `b & !occ`
-abbrev pub free : ℕ → ℕ → ℕ
-free occ b = bitAnd b ((2 ^ 64 - 1) - occ)
-
-module _ (occ u : ℕ) (f : occ < 2 ^ 64) (h : u < 64) where
-  has-free : (w : ℕ) → w < 64 → has (free occ (bit u)) w ≡ (eqb w u && not (has occ w))
-  has-free w hw = has-and (bit u) ((2 ^ 64 - 1) - occ) w ∙ rw (has-bit u w h hw, has-not occ w hw f)
-
-  -- a square that is not free is occupied
-  held : free occ (bit u) ≡ 0 → has occ u ≡ true
-  held e = not-false (has occ u) (sym (has-free u h ∙ rw (eq-eqb u u refl)) ∙ ap (λ z. has z u) e ∙ has-none u)
-
-  none-free : T (has occ u) → (w : ℕ) → (eqb w u && not (has occ w)) ≡ false
-  none-free t w =
-      fails (eqb w u && not (has occ w))
-      (λ q.
-      let e = eqb→eq w u (and-left (eqb w u) (not (has occ w)) q) in
-      true-not-false (true-of t) (ap (has occ) (sym e) ∙ false-of (and-right (eqb w u) (not (has occ w)) q)))
-
-  -- and a free one is not
-  not-held : (free occ (bit u) ≡ 0 → ⊥) → has occ u ≡ false
-  unfolding setOf pack
-  not-held z =
-      fails (has occ u)
-      (λ t. z
-      (set-is (λ w. false) (free occ (bit u)) (and-lt 64 (bit u) ((2 ^ 64 - 1) - occ) (omega arith) (omega arith))
-      (λ w hw. has-free w hw ∙ none-free t w)))
-
 -- the square next to s
 abbrev pub next : ℕ → ℕ → ℕ
 next s step = shift s (step % 8) (step / 8)
 
--- the line of this step, n of its seven gone, leads on from s to t
-abbrev pub ahead : ℕ → ℕ → ℕ → ℕ → ℕ → Bool
-ahead occ step n s t = line (has occ) (7 - n) s (step % 8) (step / 8) t
-
--- no step is left
-pub walk-end : (occ step n s set t : ℕ) → 7 ≤ n → (has set t || ahead occ step n s t) ≡ has set t
-walk-end occ step n s set t h = sweep-end (has set t) (ahead occ step n s t) (line-end (has occ) s (step % 8) (step / 8) t 7 n h)
-
--- the bit b comes next
-module _ (occ step s b : ℕ) (f : occ < 2 ^ 64) (e : b ≡ bit (next s step)) where
-  edge : 64 ≤ next s step → next s step ≡ 64
-  edge q = omega (arith, shift-le s (step % 8) (step / 8))
-
-  -- a free square is one of the board
-  pub walk-on : (free occ b ≡ 0 → ⊥) → next s step < 64
-  walk-on z = ⊎-elim (λ q. absurd (z (rw (e, edge q)))) (λ q. q) (le-or-lt 64 (next s step))
-
-  module _ (n set t : ℕ) (l : n < 7) (h : t < 64) where
-    -- it is free
-    pub walk-next : (free occ b ≡ 0 → ⊥) → (has set t || ahead occ step n s t) ≡ (has (bitOr set b) t || ahead occ step (n + 1) (next s step) t)
-    walk-next z =
-        let on = walk-on z in
-        rw (e, has-added set (next s step) t on h)
-        (sweep-next (has occ) s (step % 8) (step / 8) t (next s step) refl 7 n l (λ q. omega arith) (has set t) (not-held occ (next s step) f on (λ q. z (rw e q))))
-
-    at-edge : next s step ≡ 64 → (has set t || ahead occ step n s t) ≡ has (bitOr set b) t
-    at-edge q =
-        let none : b ≡ 0 = rw (e, q) in
-        sweep-end (has set t) (ahead occ step n s t) (line-off (has occ) s (step % 8) (step / 8) t (next s step) refl (7 - n) q)
-        ∙ sym (has-or set b t ∙ sweep-end (has set t) (has b t) (rw none (has-none t)))
-
-    at-piece : free occ b ≡ 0 → next s step < 64 → (has set t || ahead occ step n s t) ≡ has (bitOr set b) t
-    at-piece z on =
-        sweep-stop (has occ) s (step % 8) (step / 8) t (next s step) refl 7 n l (λ q. omega arith) (has set t) (held occ (next s step) f on (rw (← e) z))
-        ∙ sym (rw (e, has-added set (next s step) t on h))
-
-    -- it is a piece's or the edge
-    pub walk-stop : free occ b ≡ 0 → (has set t || ahead occ step n s t) ≡ has (bitOr set b) t
-    walk-stop z = ⊎-elim (λ q. at-edge (edge q)) (at-piece z) (le-or-lt 64 (next s step))
+-- the k-th leads from s to the bit b
+pub is-stepped : (s k step b : ℕ) → IsStep step k → b ≡ bit (next s step) → b ≡ bit (stepped s k)
+is-stepped s k step b p e = e ∙ rw (p .0, p .1)
 
 -- ---- a step made once
 
--- the k-th leads to the bit b
 module _ (s k step b t : ℕ) (p : IsStep step k) (e : b ≡ bit (next s step)) (h : t < 64) where
-  is-stepped : b ≡ bit (stepped s k)
-  is-stepped = e ∙ rw (p .0, p .1)
-
-  -- which holds the one square of its line
+  -- the bit holds the one square of the step's line
   once-has : has b t ≡ line (λ u. false) 1 s (getD stepXs k 0) (getD stepYs k 0) t
   unfolding line
   once-has =
+      let lands = is-stepped s k step b p e in
       ⊎-elim
       (λ q.
       let z : stepped s k ≡ 64 = omega (arith, shift-le s (getD stepXs k 0) (getD stepYs k 0)) in
-      rw (is-stepped, z) (has-none t) ∙ sym (line-off (λ u. false) s (getD stepXs k 0) (getD stepYs k 0) t (stepped s k) refl 1 z))
-      (λ q. rw (is-stepped, has-bit (stepped s k) t q h, eqb-sym t (stepped s k), lt-ltb (stepped s k) 64 q) (sym (or-false (eqb (stepped s k) t))))
+      rw (lands, z) (has-none t) ∙ sym (line-off (λ u. false) 1 s (getD stepXs k 0) (getD stepYs k 0) t z))
+      (λ q. rw (lands, has-bit (stepped s k) t q h, eqb-sym t (stepped s k), lt-ltb (stepped s k) 64 q) (sym (or-false (eqb (stepped s k) t))))
       (le-or-lt 64 (stepped s k))
 
   -- the set gathers it

@@ -3,7 +3,7 @@ use super::Setup;
 use super::making::other;
 use super::occupancy::occupied;
 use super::occupancy::pieces_of;
-use board::has as has_square;
+use board::attacks;
 use board::targets;
 use rules::Piece;
 ghost use mathlib.Core.Path.{_≡_};
@@ -20,7 +20,7 @@ fn strikes(occ: u64, colour: u8, t: u8, m: Piece) -> bool
     if m.colour != colour {
         return false;
     }
-    has_square(targets(occ, m.kind, m.square), t)
+    attacks(occ, m.kind, m.square, t)
 }
 
 // Whether a piece of this colour attacks t.

@@ -5,11 +5,12 @@ use native.Mathlib.Omega.{arith}
 use borrow.Author.Needs.{needs}
 use Rattle.finite.specs.Members.{any}
 use Rattle.finite.specs.Numbers.{numbers, any-end}
-use Rattle.board.specs.Reach.{lineOf}
+use Rattle.board.specs.Reach.{lineOf, stepped}
 use Rattle.board.specs.Sets.{has}
 use Rattle.board.specs.SetLaws.{bit, has-none}
 use Rattle.board.specs.SweepLaws.{sweep-end, sweep-line}
-use Rattle.board.specs.StepLaws.{step-small, next, ahead, walk-end, walk-on, walk-next, walk-stop}
+use Rattle.board.specs.StepLaws.{IsStep, step-small, is-stepped}
+use Rattle.board.specs.WalkBits.{left, nearer, free-board, gathers-on, gathers-last}
 use Rattle.board.proofs.lines.lines.Statement.{statement}
 use Rattle.board.proofs.lines.lines.Tie as tie
 
@@ -21,18 +22,21 @@ ways occ from end k t = any (lineOf (has occ) 0 from t) (numbers (end - k) k)
 record Lines (occ from first end set k : ℕ) : Type 0 where
   rest : (t : ℕ) → t < 64 → ways occ from end first t ≡ (has set t || ways occ from end k t)
 
--- it holds the first n squares of the line of step besides, all of them empty, and at is the bit of the last
-record Walked (occ from first end k step set at n : ℕ) : Type 0 where
+-- it holds the first squares of the next line besides, all of them empty, and at is the bit of the last
+record Walked (occ from first end k step set at : ℕ) : Type 0 where
+  way : ℕ
+  fits : way < 8
+  its : IsStep step way
   square : ℕ
   on : square < 64
   is : at ≡ bit square
-  rest : (t : ℕ) → t < 64 → ways occ from end first t ≡ ((has set t || ahead occ step n square t) || ways occ from end k t)
+  rest : (t : ℕ) → t < 64 → ways occ from end first t ≡ ((has set t || lineOf (has occ) 0 square t way) || ways occ from end k t)
 
 abbrev Inv-loop : tie.InvT-loop
-Inv-loop occ from first end set₀ k step ends at₀ n₀ set at n = Walked occ from first end k step set at n
+Inv-loop occ from first end set₀ k step ends at₀ set at = Walked occ from first end k step set at
 
 abbrev μ-loop : tie.MeasureT-loop
-μ-loop occ from first end set₀ k step ends at₀ n₀ set at n = 7 - n
+μ-loop occ from first end set₀ k step ends at₀ set at = left step at
 
 abbrev Inv-lines : tie.InvT-lines
 Inv-lines occ from first end set₀ k₀ set k = Lines occ from first end set k
@@ -59,78 +63,64 @@ loop-holds : tie.Need-loop-holds Inv-loop μ-loop Inv-lines μ-lines
 loop-holds c =
     let a = c .before .before .before .before .args in
     let o = c .before .before .before .lines in
-    let p = c .before .step-at .ensures in
     record {
+      way = o .k;
+      fits = omega arith;
+      its = c .before .step-at .ensures;
       square = a .from;
       on = c .before .before .before .before .pre .0;
       is = refl;
-      rest = λ t h. o .inv .rest t h ∙ rw (p .0, p .1) (sweep-line (lineOf (has (a .occ)) 0 (a .from) t) (o .k) (a .end) (c .before .before .if1 .left) (has (o .set) t));
+      rest = λ t h. o .inv .rest t h ∙ sweep-line (lineOf (has (a .occ)) 0 (a .from) t) (o .k) (a .end) (c .before .before .if1 .left) (has (o .set) t);
     }
+
+stepped-requires : tie.Need-stepped-requires Inv-loop μ-loop Inv-lines μ-lines
+stepped-requires c κs =
+    let l = c .loop in
+    let w = step-small _ (l .inv .way) (omega arith) (l .inv .its) in
+    (w .0, w .1, c .before .ends-of .ensures)
 
 lines-less : tie.Need-lines-less Inv-loop μ-loop Inv-lines μ-lines
 lines-less c = search needs
 
 lines-again : tie.Need-lines-again Inv-loop μ-loop Inv-lines μ-lines
 lines-again c =
-    let w = c .before .before in
-    let a = w .before .before .before .before .args in
-    let k = w .before .before .before .lines .k in
-    let l = c .before .loop in
-    record {
-      rest = λ t h.
-          l .inv .rest t h
-          ∙ ap (λ b. b || ways (a .occ) (a .from) (a .end) (k + 1) t)
-          (walk-end (a .occ) (w .before .step-at .result) (l .n) (l .inv .square) (l .set) t (c .loop-test .left));
-    }
-
-stepped-requires : tie.Need-stepped-requires Inv-loop μ-loop Inv-lines μ-lines
-stepped-requires c κs =
-    let d = c .before .before .before .step-at in
-    let w = step-small (d .result) (c .before .before .before .before .before .lines .k) (omega arith) (d .ensures) in
-    (w .0, w .1, c .before .before .ends-of .ensures)
-
-lines-less-2 : tie.Need-lines-less-2 Inv-loop μ-loop Inv-lines μ-lines
-lines-less-2 c = search needs
-
-lines-again-2 : tie.Need-lines-again-2 Inv-loop μ-loop Inv-lines μ-lines
-lines-again-2 c =
-    let w = c .before .before .before .before in
-    let start = w .before .before .before .before in
+    let l = c .before .before .loop in
+    let start = c .before .before .before .before .before .before .before in
     let a = start .args in
-    let k = w .before .before .before .lines .k in
-    let step = w .before .step-at .result in
-    let l = c .before .before .before .loop in
     let lands = c .before .stepped .ensures (l .inv .square) (l .inv .on) (l .inv .is) in
     record {
       rest = λ t h.
           l .inv .rest t h
-          ∙ ap (λ b. b || ways (a .occ) (a .from) (a .end) (k + 1) t)
-          (walk-stop (a .occ) step (l .inv .square) _ (start .fits .occ .fits) lands (l .n) (l .set) t (c .before .before .loop-test .taken) h (c .if2 .taken));
+          ∙ ap (λ b. b || ways (a .occ) (a .from) (a .end) (c .before .before .before .before .before .before .lines .k + 1) t)
+          (gathers-last (l .inv .way) _ (l .inv .square) _ (l .inv .fits) (l .inv .its) lands (a .occ) (start .fits .occ .fits) (l .set) t h (c .if2 .taken));
     }
 
-add-n : tie.Need-add-n Inv-loop μ-loop Inv-lines μ-lines
-add-n c = search needs
-
 loop-less : tie.Need-loop-less Inv-loop μ-loop Inv-lines μ-lines
-loop-less c = search needs
+loop-less c =
+    let l = c .before .before .loop in
+    let start = c .before .before .before .before .before .before .before in
+    let lands = c .before .stepped .ensures (l .inv .square) (l .inv .on) (l .inv .is) in
+    rw (l .inv .is)
+    (nearer (l .inv .way) _ (l .inv .square) _ (l .inv .fits) (l .inv .its) lands (l .inv .on)
+    (free-board (l .inv .way) _ (l .inv .square) _ (l .inv .fits) (l .inv .its) lands (start .args .occ) (start .fits .occ .fits) (c .if2 .left)))
 
 loop-again : tie.Need-loop-again Inv-loop μ-loop Inv-lines μ-lines
 loop-again c =
-    let w = c .before .before .before .before in
-    let start = w .before .before .before .before in
+    let l = c .before .before .loop in
+    let start = c .before .before .before .before .before .before .before in
     let a = start .args in
-    let k = w .before .before .before .lines .k in
-    let step = w .before .step-at .result in
-    let l = c .before .before .before .loop in
     let lands = c .before .stepped .ensures (l .inv .square) (l .inv .on) (l .inv .is) in
     record {
-      square = next (l .inv .square) step;
-      on = walk-on (a .occ) step (l .inv .square) _ (start .fits .occ .fits) lands (c .if2 .left);
-      is = lands;
+      way = l .inv .way;
+      fits = l .inv .fits;
+      its = l .inv .its;
+      square = stepped (l .inv .square) (l .inv .way);
+      on = free-board (l .inv .way) _ (l .inv .square) _ (l .inv .fits) (l .inv .its) lands (a .occ) (start .fits .occ .fits) (c .if2 .left);
+      is = is-stepped (l .inv .square) (l .inv .way) _ _ (l .inv .its) lands;
       rest = λ t h.
           l .inv .rest t h
-          ∙ ap (λ b. b || ways (a .occ) (a .from) (a .end) (k + 1) t)
-          (walk-next (a .occ) step (l .inv .square) _ (start .fits .occ .fits) lands (l .n) (l .set) t (c .before .before .loop-test .taken) h (c .if2 .left));
+          ∙ ap (λ b. b || ways (a .occ) (a .from) (a .end) (c .before .before .before .before .before .before .lines .k + 1) t)
+          (gathers-on (l .inv .way) _ (l .inv .square) _ (l .inv .fits) (l .inv .its) lands (a .occ) (start .fits .occ .fits) (l .set) t h (c .if2 .left));
     }
 
 returns : tie.Need-returns Inv-loop μ-loop Inv-lines μ-lines
@@ -153,12 +143,9 @@ lines-spec =
     add-k
     shl-at
     loop-holds
+    stepped-requires
     lines-less
     lines-again
-    stepped-requires
-    lines-less-2
-    lines-again-2
-    add-n
     loop-less
     loop-again
     returns)

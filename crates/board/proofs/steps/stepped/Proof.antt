@@ -1,8 +1,8 @@
 use borrow.Author.Needs.{needs}
 use borrow.Author.Tests.{lt-ltb, le-ltb}
 use Rattle.board.specs.StepLaws.{stepBits, step-bit}
-use Rattle.board.proofs.lines.stepped.Statement.{statement}
-use Rattle.board.proofs.lines.stepped.Tie as tie
+use Rattle.board.proofs.steps.stepped.Statement.{statement}
+use Rattle.board.proofs.steps.stepped.Tie as tie
 
 sub-result : tie.Need-sub-result
 sub-result c = search needs

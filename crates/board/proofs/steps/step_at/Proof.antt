@@ -1,7 +1,7 @@
 use borrow.Author.Needs.{needs}
 use Rattle.board.specs.StepLaws.{step-is}
-use Rattle.board.proofs.lines.step_at.Statement.{statement}
-use Rattle.board.proofs.lines.step_at.Tie as tie
+use Rattle.board.proofs.steps.step_at.Statement.{statement}
+use Rattle.board.proofs.steps.step_at.Tie as tie
 
 array-read-result : tie.Need-array-read-result
 array-read-result c = search needs
