@@ -1,6 +1,6 @@
 -- The rows give the pair of any two squares: one computed test over all of them, against the list of 640 entries. Assumes nothing.
 use mathlib.Core.Path.{_≡_, refl, sym, ap, ap₂, _∙_}
-use mathlib.Core.Bool.{Bool, cond}
+use mathlib.Core.Bool.{Bool}
 use mathlib.Core.Logic.{⊎-elim}
 use Prim.Native.Nat.{ℕ, zero, suc, _+_, _*_, _/_, _%_, _^_, _<_, _≤_}
 use native.Mathlib.Nat.{one-mul, pow-suc, zero-div, mod-le, mod-eq-of-lt}
@@ -15,7 +15,7 @@ use Rattle.board.specs.SetLaws.{bit}
 use Rattle.numbering.specs.Kings.{pairOf}
 use Rattle.pairs.specs.Tables.{slotOf, pairs, pairIn}
 use Rattle.pairs.specs.TableLaws.{slot-past, slot-above, in-outside, in-off, lent-pair}
-use Rattle.pocket.specs.Rows.{rowOf, firstOf}
+use Rattle.pocket.specs.Rows.{rowOf, firstOf, pairByRow}
 
 -- ---- set bits, as antt computes them
 
@@ -43,26 +43,22 @@ bit-some black h = rw (bit-power black h) (pow-pos black)
 
 -- ---- the test
 
--- the pair by the rows, of a black square on the board
-byRow : ℕ → ℕ → ℕ
-byRow white black = cond (eqb (rowOf white / 2 ^ black % 2) 0) 65535 (firstOf white + onesIn 64 (rowOf white % 2 ^ black))
-
 right : ℕ → Bool
-right k = eqb (byRow (k / 64) (k % 64)) (pairIn pairs (k / 64) (k % 64))
+right k = eqb (pairByRow (k / 64) (k % 64)) (pairIn pairs (k / 64) (k % 64))
 
 -- the white squares a1 to d4
 all-right : T (allBelow right 1792)
-unfolding allBelow right byRow rowOf firstOf onesIn pairIn pairs slotOf
+unfolding allBelow right pairByRow rowOf firstOf onesIn pairIn pairs slotOf
 all-right = tt
 
-near : (white black : ℕ) → white < 28 → black < 64 → byRow white black ≡ pairIn pairs white black
+near : (white black : ℕ) → white < 28 → black < 64 → pairByRow white black ≡ pairIn pairs white black
 unfolding right
 near white black h k =
     let n : ℕ = white * 64 + black in
     let q : n / 64 ≡ white = omega arith in
     let r : n % 64 ≡ black = omega arith in
     let t = rw (q, r) at (below right 1792 all-right n (omega arith)) in
-    eqb→eq (byRow white black) (pairIn pairs white black) t
+    eqb→eq (pairByRow white black) (pairIn pairs white black) t
 
 -- further squares are outside the triangle
 slot-far : (white : ℕ) → 28 ≤ white → 10 ≤ slotOf white
@@ -78,11 +74,12 @@ row-far white h = simp (ne-eqb white 0 (λ e. omega arith), ne-eqb white 1 (λ e
 zero-bit : (d : ℕ) → 0 / d % 2 ≡ 0
 zero-bit d = rw (zero-div d)
 
-far : (white black : ℕ) → 28 ≤ white → byRow white black ≡ pairIn pairs white black
-unfolding byRow
+far : (white black : ℕ) → 28 ≤ white → pairByRow white black ≡ pairIn pairs white black
+unfolding pairByRow
 far white black h = rw (row-far white h, zero-bit (2 ^ black)) (in-outside pairs white black (slot-far white h))
 
-pub rows-pair : (white black : ℕ) → black < 64 → byRow white black ≡ pairOf white black
+-- The rows give the pair of any two squares.
+pub rows-pair : (white black : ℕ) → black < 64 → pairByRow white black ≡ pairOf white black
 rows-pair white black k =
     ⊎-elim (λ h. far white black h) (λ h. near white black h k) (le-or-lt 28 white)
     ∙ lent-pair pairs white black refl
@@ -97,13 +94,13 @@ module _ (white black : ℕ) where
 
   module _ (row : ℕ) (e : row ≡ rowOf white) (k : black < 64) where
     pub no-bit : row / 2 ^ black % 2 ≡ 0 → 65535 ≡ pairOf white black
-    unfolding byRow
+    unfolding pairByRow
     no-bit z = sym (rw (eq-eqb (rowOf white / 2 ^ black % 2) 0 (rw (← e) z))) ∙ rows-pair white black k
 
     pub bit-pair : (first : ℕ) → row < 18446744073709551616 → first ≡ firstOf white → (row / 2 ^ black % 2 ≡ 0 → ⊥) → first + ones (row % bit black) ≡ pairOf white black
-    unfolding byRow
+    unfolding pairByRow
     bit-pair first h f z =
-        let b : byRow white black ≡ firstOf white + onesIn 64 (rowOf white % 2 ^ black) = rw (ne-eqb (rowOf white / 2 ^ black % 2) 0 (rw (← e) z)) in
+        let b : pairByRow white black ≡ firstOf white + onesIn 64 (rowOf white % 2 ^ black) = rw (ne-eqb (rowOf white / 2 ^ black % 2) 0 (rw (← e) z)) in
         ap (λ (m : ℕ). first + ones (row % m)) (bit-power black k)
         ∙ ap (λ (m : ℕ). first + m) (ones-in 64 (row % 2 ^ black) (part-fits row (2 ^ black) h))
         ∙ ap₂ (λ (x y : ℕ). x + onesIn 64 (y % 2 ^ black)) f e

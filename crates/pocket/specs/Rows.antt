@@ -1,7 +1,8 @@
 -- The pair of two kings by rows of bits, a second way to it beside the list of 640 entries. Definitions only. Assumes nothing.
 use mathlib.Core.Bool.{cond}
-use Prim.Native.Nat.{ℕ}
+use Prim.Native.Nat.{ℕ, _+_, _/_, _%_, _^_}
 use lib.Dec.{eqb}
+use lib.Count.{onesIn}
 
 -- for each of the ten squares of the white king, the set of the black king's squares that form a pair with his
 unfoldable pub rowOf : ℕ → ℕ
@@ -30,3 +31,7 @@ firstOf white =
     (cond (eqb white 18) 347
     (cond (eqb white 19) 377
     (cond (eqb white 27) 432 0)))))))))
+
+-- the pair of a white square and a black one on the board, counted from the first of its row; 65535 where they form none
+unfoldable pub pairByRow : ℕ → ℕ → ℕ
+pairByRow white black = cond (eqb (rowOf white / 2 ^ black % 2) 0) 65535 (firstOf white + onesIn 64 (rowOf white % 2 ^ black))
