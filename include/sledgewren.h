@@ -31,6 +31,8 @@
  * as its length says. Buffers that one call is lent must not overlap.
  *
  * An answer is one integer. A refusal gives its number and nothing else: every other field is 0.
+ * The bit ranges below are proved to give each answer back, and no two answers of a function have
+ * one integer.
  */
 
 #ifndef SLEDGEWREN_H
@@ -230,6 +232,8 @@ uint32_t sledgewren_pocket_look_up(const uint8_t *pocket, size_t len, uint8_t ma
  *   bits 0-15 entry 0, 16-31 draws, 32-47 wins, 48-63 losses
  */
 uint64_t sledgewren_tallies(const uint8_t *pocket, size_t len);
+
+/*
  * Writes the true tables of the chosen endings as one set: a byte for each man, 0 for no and any
  * other for yes. The answer is 0 or a refusal. 14, where len is not what the choice needs, leaves
  * the bytes untouched; 10 leaves them all 0.

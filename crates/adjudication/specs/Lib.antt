@@ -1,6 +1,3 @@
 pub mod Reply
 pub mod TrueSlip
-pub mod Laws
-pub mod OneSlip
-pub mod Short
-pub mod Typed
+pub mod laws

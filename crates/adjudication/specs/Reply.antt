@@ -1,5 +1,5 @@
 -- The reply to one line over a held table (01, "The desk program"): its slip, the man whose table is held afterwards, and the table's bytes.
--- Definitions only. Assumes nothing.
+-- Definitions only.
 use mathlib.Core.Path.{_≡_}
 use mathlib.Core.Bool.{Bool, cond, not}
 use mathlib.Core.List.{List}
@@ -9,7 +9,8 @@ use Rattle.answers.specs.declared.Answer.{Answer}
 use Rattle.answers.specs.declared.Filled.{Filled}
 use Rattle.answers.specs.declared.Filled.the-variants.{Greatest, NoneDecided, Refused}
 use Rattle.position.specs.declared.Position.{Position}
-use Rattle.position.specs.Keyed.{standing}
+use Rattle.position.specs.Keyed.{kindOf}
+use Rattle.position.specs.Refusals.{standing}
 use Rattle.index.specs.Answers.{placedAt}
 use Rattle.endings.specs.Answers.{fillOf, lookUpOf}
 use Rattle.lines.specs.declared.Request.{Request}
@@ -28,16 +29,16 @@ Gives r o = r ≡ record { slip = padded (o .slip); held = o .held }
 
 -- a position looked up in the table that filling left; where filling gave up, no table is held
 abbrev pub filledReply : Position → Filled → List ℕ → Outcome
-filledReply p (Greatest n) t = record { slip = slipOf (lookUpOf t p); held = p .man; table = t }
-filledReply p NoneDecided t = record { slip = slipOf (lookUpOf t p); held = p .man; table = t }
+filledReply p (Greatest n) t = record { slip = slipOf (lookUpOf t p); held = kindOf p; table = t }
+filledReply p NoneDecided t = record { slip = slipOf (lookUpOf t p); held = kindOf p; table = t }
 filledReply p (Refused n) t = record { slip = slipOf (Answer.Refused n); held = 4; table = t }
 
 -- "fills the table of a position line's man whenever that isn't the one it holds"; a refused position asks for no table
 unfoldable pub lookUpReply : Position → ℕ → List ℕ → Outcome
 lookUpReply p held t =
     cond (not (eqb (standing p) 0)) (record { slip = slipOf (Answer.Refused (standing p)); held = held; table = t })
-    (cond (eqb (p .man) held) (record { slip = slipOf (lookUpOf t p); held = held; table = t })
-    (filledReply p (fillOf (p .man) t .answer) (fillOf (p .man) t .bytes)))
+    (cond (eqb (kindOf p) held) (record { slip = slipOf (lookUpOf t p); held = held; table = t })
+    (filledReply p (fillOf (kindOf p) t .answer) (fillOf (kindOf p) t .bytes)))
 
 abbrev pub requestReply : Request → ℕ → List ℕ → Outcome
 requestReply (Request.LookUp p) held t = lookUpReply p held t

@@ -1,19 +1,20 @@
 -- The slip of a line in terms of the rules of chess alone: no table is spoken of. And what the held table must be for it, and is afterwards.
--- Definitions only. Assumes nothing.
+-- Definitions only.
 use mathlib.Core.Path.{_≡_}
 use mathlib.Core.List.{List}
 use Prim.Native.Nat.{ℕ, _<_}
-use lib.ListN.{length, take}
+use lib.ListN.{length, getD, take}
 use Rattle.theory.specs.Value.{DepthIs}
 use Rattle.rules.specs.Rules.{Board}
 use Rattle.rules.specs.Chess.{chess}
 use Rattle.answers.specs.declared.Answer.{Answer}
 use Rattle.position.specs.declared.Position.{Position}
-use Rattle.position.specs.Keyed.{boardOf, standing}
+use Rattle.position.specs.Keyed.{boardOf, kindOf}
+use Rattle.position.specs.Refusals.{standing}
 use Rattle.index.specs.Answers.{placedAt}
 use Rattle.endings.specs.Chess.{tableSize}
 use Rattle.endings.specs.Truth.{TrueTable, TrueAnswer}
-use Rattle.endings.specs.FilledTrue.{Decided}
+use Rattle.endings.specs.FilledTrue.{Decided, Shallow}
 use Rattle.lines.specs.declared.Request.{Request}
 use Rattle.lines.specs.Grammar.{requestOf}
 use Rattle.slips.specs.Slip.{slipOf, placedSlip}
@@ -21,21 +22,22 @@ use Rattle.adjudication.specs.declared.Reply.{Reply}
 use Rattle.adjudication.specs.Reply.{Outcome, Gives, replyOf}
 
 pub data TrueSlip (line slip : List ℕ) : Type 0 where
-  -- a line of the wrong shape, a number with a wrong check, or a wrong byte in a man's, side's or square's place
+  -- a line of the wrong shape, a number with a wrong check, or with a wrong byte in the man's place
   refused : (n : ℕ) → requestOf line ≡ Request.Refused n → slip ≡ slipOf (Answer.Refused n) → TrueSlip line slip
   -- a number line: the position of the number, or its refusal
   placed : (man n : ℕ) → requestOf line ≡ Request.Back man n → slip ≡ placedSlip (placedAt man n) → TrueSlip line slip
-  -- a position line with a refusal from 4 to 6
+  -- a position line with a refusal from 1 to 6
   not-standing : (p : Position) → requestOf line ≡ Request.LookUp p → (standing p ≡ 0 → ⊥) → slip ≡ slipOf (Answer.Refused (standing p)) → TrueSlip line slip
-  -- a legal position: its true value and depth, and the first move that is truly best
-  answered : (p : Position) (a : Answer) → requestOf line ≡ Request.LookUp p → standing p ≡ 0 → TrueAnswer (boardOf p) a → slip ≡ slipOf a → TrueSlip line slip
+  -- a legal position of an ending no deeper than 253: its true value and depth, and the first move that is truly best
+  answered : (p : Position) (a : Answer) → requestOf line ≡ Request.LookUp p → standing p ≡ 0 → Shallow (kindOf p) → TrueAnswer (boardOf p) a → slip ≡ slipOf a → TrueSlip line slip
   -- refusal 10: a legal position of the ending is deeper than 253
-  too-deep : (p : Position) (n : ℕ) → requestOf line ≡ Request.LookUp p → 253 < n → Decided (p .man) n → slip ≡ slipOf (Answer.Refused 10) → TrueSlip line slip
+  too-deep : (p : Position) (n : ℕ) → requestOf line ≡ Request.LookUp p → standing p ≡ 0 → 253 < n → Decided (kindOf p) n → slip ≡ slipOf (Answer.Refused 10) → TrueSlip line slip
 
--- The table is as long as a table, and where a man is held it is his true one.
+-- The table is as long as a table, and where a man is held it is his true one, in bytes.
 pub record Held (held : ℕ) (t : List ℕ) : Type 0 where
   pub long : length t ≡ tableSize
   pub right : held < 4 → TrueTable held t
+  pub small : held < 4 → (n : ℕ) → getD t n 0 < 256
 
 -- What is promised of a line's reply r and of the table u that it leaves.
 pub record Answered (line : List ℕ) (held : ℕ) (t : List ℕ) (r : Reply) (u : List ℕ) : Type 0 where

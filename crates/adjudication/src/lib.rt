@@ -5,13 +5,15 @@ use filling::fill;
 use index::position_of;
 use lines::Request;
 use lines::parse;
-use listing::standing_refusal;
 use look_up::look_up;
 use position::Position;
+use position::man_in;
+use position::standing_refusal;
 use slips::Slip;
 use slips::answer_slip;
 use slips::placed_slip;
 ghost use mathlib.Core.Path.{_≡_};
+ghost use Rattle.position.specs.Keyed.{kindOf};
 ghost use Rattle.adjudication.specs.Reply.{Gives, lookUpReply, filledReply};
 ghost use Rattle.adjudication.specs.TrueSlip.{Answered};
 
@@ -25,17 +27,18 @@ pub struct Reply {
 }
 
 // A position looked up in a table that filling just left.
-fn after_fill(p: Position, filled: Filled, table: &[u8]) -> Reply
+fn after_fill(p: Position, kind: u8, filled: Filled, table: &[u8]) -> Reply
+    requires { ⌜ kind ≡ kindOf p ⌝ }
     ensures { λ r. ⌜ Gives r (filledReply p filled (now (table .entry))) ⌝ }
 {
     match filled {
         Filled::Greatest(_) => Reply {
             slip: answer_slip(look_up(table, p)),
-            held: p.man,
+            held: kind,
         },
         Filled::NoneDecided => Reply {
             slip: answer_slip(look_up(table, p)),
-            held: p.man,
+            held: kind,
         },
         Filled::Refused(n) => Reply {
             slip: answer_slip(Answer::Refused(n)),
@@ -48,6 +51,15 @@ fn after_fill(p: Position, filled: Filled, table: &[u8]) -> Reply
 fn look_up_line(p: Position, held: u8, table: &mut [u8]) -> Reply
     ensures { λ r. ⌜ Gives r (lookUpReply p held (now (table .entry))) × (now (table .exit) ≡ lookUpReply p held (now (table .entry)) .table) ⌝ }
 {
+    let first = p.first;
+    let man = man_in(first);
+    let kind = man.kind;
+    if kind == held {
+        return Reply {
+            slip: answer_slip(look_up(&*table, p)),
+            held,
+        };
+    }
     let refusal = standing_refusal(p);
     if refusal != 0 {
         return Reply {
@@ -55,15 +67,8 @@ fn look_up_line(p: Position, held: u8, table: &mut [u8]) -> Reply
             held,
         };
     }
-    let man = p.man;
-    if man == held {
-        return Reply {
-            slip: answer_slip(look_up(&*table, p)),
-            held,
-        };
-    }
-    let filled = fill(man, &mut *table);
-    after_fill(p, filled, &*table)
+    let filled = fill(kind, &mut *table);
+    after_fill(p, kind, filled, &*table)
 }
 
 // The slip of a line of any bytes and any length; the newline is not part of it. `held` is the man whose table the lent table is.

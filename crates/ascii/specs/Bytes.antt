@@ -1,4 +1,4 @@
--- The bytes of a quoted text, so that a definition shows the text itself. Definitions only. Assumes nothing.
+-- The bytes of a quoted text, so that a definition shows the text itself. Definitions only.
 use mathlib.Core.List.{List, [], _∷_}
 use Prim.Native.Nat.{ℕ}
 use Prim.Native.Char.{code}

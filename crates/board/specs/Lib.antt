@@ -2,14 +2,6 @@ pub mod Square
 pub mod Reach
 pub mod Walk
 pub mod Sets
-pub mod SquareLaws
-pub mod LineLaws
-pub mod WalkLaws
-pub mod WalkAttack
-pub mod ReachLaws
-pub mod Blocking
 pub mod SetLaws
-pub mod LowestLaws
-pub mod SweepLaws
 pub mod StepLaws
-pub mod WalkBits
+pub mod laws

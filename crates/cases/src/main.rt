@@ -6,13 +6,15 @@ use checking::check;
 use filling::fill;
 use index::Numbered;
 use index::Placed;
+use index::TABLE_SIZE;
 use index::number;
 use index::position_of;
 use listing::Counted;
 use listing::move_count;
-use listing::standing_refusal;
 use look_up::look_up;
 use position::Position;
+use position::lone;
+use position::standing_refusal;
 
 const QUEEN: u8 = 0;
 
@@ -29,16 +31,6 @@ fn say_number(label: &[u8], answer: &[u8], n: u64) {
     io::write_all(1, answer);
     io::print_decimal(1, n);
     io::write_all(1, b"\n");
-}
-
-fn placed(man: u8, side: u8, white: u8, square: u8, black: u8) -> Position {
-    Position {
-        man,
-        side,
-        white,
-        square,
-        black,
-    }
 }
 
 fn numbering(label: &[u8], p: Position) {
@@ -118,7 +110,7 @@ fn check_refusal(table: &[u8]) -> u8 {
 }
 
 fn look_up_refusal(table: &[u8]) -> u8 {
-    match look_up(table, placed(QUEEN, 0, 0, 1, 63)) {
+    match look_up(table, lone(QUEEN, 0, 0, 1, 63)) {
         Answer::Win(_, _) => 0,
         Answer::Loss(_, _) => 0,
         Answer::Draw(_) => 0,
@@ -141,47 +133,47 @@ fn length(label: &[u8], table: &mut [u8]) {
 fn numbers() {
     numbering(
         b"White Ka1 Qb1, Black Kh8, White to move: ",
-        placed(QUEEN, 0, 0, 1, 63),
+        lone(QUEEN, 0, 0, 1, 63),
     );
     numbering(
         b"White Ka1 Qa2, Black Kh8, White to move: ",
-        placed(QUEEN, 0, 0, 8, 63),
+        lone(QUEEN, 0, 0, 8, 63),
     );
     numbering(
         b"White Kh8 Qh7, Black Ka1, White to move: ",
-        placed(QUEEN, 0, 63, 55, 0),
+        lone(QUEEN, 0, 63, 55, 0),
     );
     numbering(
         b"White Ka1 Qh8, Black Kc1, White to move: ",
-        placed(QUEEN, 0, 0, 63, 2),
+        lone(QUEEN, 0, 0, 63, 2),
     );
     numbering_back(b"Number 2056: ", 2056);
     say_number(b"Highest used number: ", b"number ", highest_used() as u64);
     numbering_back(b"Number 59,127: ", 59127);
     numbering_back(b"Number 59,128: ", 59128);
     numbering_back(b"Number 59,136: ", 59136);
-    numbering(b"Kings on a1 and b2: ", placed(QUEEN, 0, 0, 63, 9));
-    numbering(b"Rook on a1 with its king: ", placed(ROOK, 0, 0, 0, 63));
+    numbering(b"Kings on a1 and b2: ", lone(QUEEN, 0, 0, 63, 9));
+    numbering(b"Rook on a1 with its king: ", lone(ROOK, 0, 0, 0, 63));
 }
 
 fn values() {
-    let mut table = [0u8; 59136];
+    let mut table = [0u8; TABLE_SIZE];
     fill(ROOK, &mut table);
     value(
         b"Ka3 Rh1 against Ka1, Black to move: ",
         &table,
-        placed(ROOK, 1, 16, 7, 0),
+        lone(ROOK, 1, 16, 7, 0),
     );
     fill(QUEEN, &mut table);
     value(
         b"Kb3 Qb2 against Ka1, Black to move: ",
         &table,
-        placed(QUEEN, 1, 17, 9, 0),
+        lone(QUEEN, 1, 17, 9, 0),
     );
     value(
         b"Ke5 Qb3 against Ka1, Black to move: ",
         &table,
-        placed(QUEEN, 1, 36, 17, 0),
+        lone(QUEEN, 1, 36, 17, 0),
     );
 }
 
@@ -197,11 +189,11 @@ fn main() {
     values();
     counting(
         b"Ka1 Ra5 against Ke5, Black to move: ",
-        placed(ROOK, 1, 0, 32, 36),
+        lone(ROOK, 1, 0, 32, 36),
     );
     legality(
         b"Kc1 Ra1 against Ke1, White to move: ",
-        placed(ROOK, 0, 2, 0, 4),
+        lone(ROOK, 0, 2, 0, 4),
     );
     lengths();
 }

@@ -1,5 +1,5 @@
 -- Check digits on typed numbers (02, P2): "two check digits after the five, by ISO 7064 MOD 97-10: the seven digits as one number leave 1 on
--- division by 97, and the check lies between 02 and 98". Definitions only. Assumes nothing.
+-- division by 97, and the check lies between 02 and 98". Definitions only.
 use mathlib.Core.Bool.{Bool, _&&_}
 use mathlib.Core.List.{List, [], _∷_, _++_, map}
 use Prim.Native.Nat.{ℕ, zero, suc, _+_, _-_, _*_, _/_, _%_}

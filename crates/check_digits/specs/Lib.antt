@@ -1,6 +1,2 @@
 pub mod Check
-pub mod ListLaws
-pub mod Finding
-pub mod OneCheck
-pub mod DigitLaws
-pub mod Run
+pub mod laws

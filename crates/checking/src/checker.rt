@@ -1,21 +1,22 @@
 // The checker.
 use super::numbers::is_right;
 use answers::Checked;
+use index::TABLE_SIZE;
 use pairs::pair_list;
+use position::BAD_MAN;
+use position::TABLE_LENGTH;
 ghost use mathlib.Core.Path.{_≡_};
 ghost use Rattle.endings.specs.Answers.{checkOf};
-
-const TABLE_SIZE: usize = 59136;
 
 // Accepted, the lowest wrong number, or a refusal, 1 or 7.
 pub fn check(man: u8, table: &[u8]) -> Checked
     ensures { λ r. ⌜ r ≡ checkOf man (now (table .entry)) ⌝ }
 {
     if 4 <= man {
-        return Checked::Refused(1);
+        return Checked::Refused(BAD_MAN);
     }
     if table.len() != TABLE_SIZE {
-        return Checked::Refused(7);
+        return Checked::Refused(TABLE_LENGTH);
     }
     let list = pair_list();
     let mut n: usize = 0;

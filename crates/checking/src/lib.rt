@@ -3,4 +3,3 @@ mod checker;
 mod numbers;
 
 pub use checker::check;
-pub use numbers::is_legal_number;

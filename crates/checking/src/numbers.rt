@@ -1,9 +1,10 @@
 // What stands at a number, and whether a byte is the one required there.
-use index::Placed;
-use index::position_of;
-use listing::standing_refusal;
+use pairs::PairList;
 use position::Position;
+use position::man_in;
+use successors::Standing;
 use successors::Verdict;
+use successors::legal_at;
 use successors::verdict_on;
 ghost use mathlib.Core.Path.{_≡_};
 ghost use lib.Dec.{eqb};
@@ -12,26 +13,26 @@ ghost use Rattle.numbered.specs.Numbered.{requiredByte};
 ghost use Rattle.rules.specs.Chess.{chess};
 ghost use Rattle.position.specs.Keyed.{boardOf};
 ghost use Rattle.pairs.specs.Tables.{pairs};
-ghost use Rattle.endings.specs.Chess.{legalNumber, byteOf};
-ghost use Rattle.endings.specs.Endings.{ending};
-
-// Whether the number is used and its position legal.
-pub fn is_legal_number(man: u8, n: u32) -> bool
-    ensures { λ r. ⌜ r ≡ legalNumber man n ⌝ }
-{
-    let placed = position_of(man, n);
-    match placed {
-        Placed::At(p) => standing_refusal(p) == 0,
-        Placed::Refused(_) => false,
-    }
-}
+ghost use Rattle.checking.specs.Right.{Alone};
+ghost use Rattle.endings.specs.Chess.{legalNumber, byteOf, ending};
 
 // Whether the byte is the one that the position's successors require.
-fn is_required(list: &[u16; 640], table: &[u8], p: Position, byte: u8) -> bool
-    requires { ⌜ now list ≡ pairs ⌝ }
+fn is_required(list: &PairList, table: &[u8], p: Position, byte: u8) -> bool
+    requires { ⌜ (now list ≡ pairs) × Alone p ⌝ }
     ensures { λ r. ⌜ r ≡ eqb byte (requiredAt chess (byteOf (now (table .entry))) (boardOf p)) ⌝ }
 {
-    let verdict = verdict_on(list, table, p, byte);
+    let first = p.first;
+    let m = man_in(first);
+    let verdict = verdict_on(
+        list,
+        table,
+        m.kind,
+        p.side,
+        p.white_king,
+        m.square,
+        p.black_king,
+        byte,
+    );
     match verdict {
         Verdict::Wrong => false,
         Verdict::Right(_) => true,
@@ -39,18 +40,13 @@ fn is_required(list: &[u16; 640], table: &[u8], p: Position, byte: u8) -> bool
 }
 
 // Whether the byte is the one required at the number.
-pub fn is_right(list: &[u16; 640], table: &[u8], man: u8, n: u32, byte: u8) -> bool
+pub fn is_right(list: &PairList, table: &[u8], man: u8, n: u32, byte: u8) -> bool
     requires { ⌜ now list ≡ pairs ⌝ }
     ensures { λ r. ⌜ r ≡ eqb byte (requiredByte chess (ending man) (now (table .entry)) n) ⌝ }
 {
-    let placed = position_of(man, n);
-    match placed {
-        Placed::At(p) => {
-            if standing_refusal(p) != 0 {
-                return byte == 0;
-            }
-            is_required(list, table, p, byte)
-        },
-        Placed::Refused(_) => byte == 0,
+    let standing = legal_at(man, n);
+    match standing {
+        Standing::Legal(p) => is_required(list, table, p, byte),
+        Standing::Nothing => byte == 0,
     }
 }

@@ -1,4 +1,5 @@
 // The desk: answers standard input line by line on standard output. Here it reads and writes; cutting into lines and answering is proved in the crate stream.
+use index::TABLE_SIZE;
 use libc::STDIN_FILENO;
 use libc::STDOUT_FILENO;
 use stream::State;
@@ -51,7 +52,7 @@ fn serve(state: State, table: &mut [u8], output: &mut [u8]) -> Desk {
 
 // A proved loop ends, and nothing says that the input does: the turns are counted down from a number that no run uses up.
 fn main() {
-    let mut table = [0u8; 59136];
+    let mut table = [0u8; TABLE_SIZE];
     let mut output = io::large_buffer();
     let mut desk = fresh(true);
     let mut turns = u64::MAX;

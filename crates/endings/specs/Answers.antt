@@ -1,4 +1,4 @@
--- What checking, filling and looking up answer (01, "Values and the table's bytes", "When the desk says no"). Definitions only. Assumes nothing.
+-- What checking, filling and looking up answer (01, "Values and the table's bytes", "When the desk says no"). Definitions only.
 use mathlib.Core.Bool.{Bool, cond, not}
 use mathlib.Core.List.{List}
 use mathlib.Core.Option.{Option, none, some}
@@ -13,13 +13,13 @@ use Rattle.rules.specs.declared.Move.{Move}
 use Rattle.rules.specs.Rules.{Board}
 use Rattle.rules.specs.Chess.{chess}
 use Rattle.position.specs.declared.Position.{Position}
-use Rattle.position.specs.Keyed.{boardOf, standing}
+use Rattle.position.specs.Keyed.{boardOf}
+use Rattle.position.specs.Refusals.{standing}
 use Rattle.answers.specs.declared.Advice.{Advice}
 use Rattle.answers.specs.declared.Answer.{Answer}
 use Rattle.answers.specs.declared.Checked.{Checked}
 use Rattle.answers.specs.declared.Filled.{Filled}
-use Rattle.endings.specs.Chess.{tableSize, byteOf}
-use Rattle.endings.specs.Endings.{ending}
+use Rattle.endings.specs.Chess.{tableSize, byteOf, ending}
 
 -- ---- checking: "It accepts, or names the lowest wrong number"; refusals 1 and 7
 

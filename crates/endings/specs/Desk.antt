@@ -1,19 +1,19 @@
 -- The desk's moves in a game, and what is promised of every game in which a side plays them (01, "Games"; demand 3). Definitions only.
--- Assumes nothing.
 use mathlib.Core.Path.{_≡_}
-use mathlib.Core.Bool.{Bool, false, cond}
+use mathlib.Core.Bool.{Bool, false, not, cond}
 use mathlib.Core.List.{List, [], _∷_}
 use mathlib.Core.Option.{Option, none, some}
 use Prim.Native.Nat.{ℕ, _≤_}
 use lib.ListN.{length}
+use Rattle.theory.specs.Game.{Game}
 use Rattle.theory.specs.Value.{Drawn}
-use Rattle.theory.specs.Play.{atPly, Over, Promised}
+use Rattle.theory.specs.Play.{atPly, Over, Mates, Unmated, Promised}
 use Rattle.rules.specs.declared.Piece.{Piece}
 use Rattle.rules.specs.declared.Move.{Move}
 use Rattle.rules.specs.Rules.{Board, empty}
 use Rattle.rules.specs.Chess.{chess}
 use Rattle.position.specs.declared.Position.{Position}
-use Rattle.position.specs.Keyed.{boardOf}
+use Rattle.position.specs.Keyed.{lone}
 use Rattle.answers.specs.declared.Advice.{Advice}
 use Rattle.answers.specs.declared.Advice.the-variants.{Play, NoMove}
 use Rattle.answers.specs.declared.Answer.{Answer}
@@ -28,7 +28,7 @@ squareOf [] = 0
 squareOf (m ∷ ms) = m .square
 
 abbrev pub keyed : ℕ → Board → Position
-keyed man b = record { man = man; side = b .side; white = b .white; square = squareOf (b .men); black = b .black }
+keyed man b = lone man (b .side) (b .white) (squareOf (b .men)) (b .black)
 
 -- the move inside an answer
 abbrev pub given : Advice → Option Move
@@ -45,13 +45,23 @@ moveIn (Refused n) = none
 unfoldable pub deskMove : ℕ → List ℕ → Board → Option Move
 deskMove man t b = cond (empty (b .men)) none (moveIn (lookUpOf t (keyed man b)))
 
--- What is promised of the game ms from the keyed position p, in which `side` plays the desk's moves by the table t.
-pub record GamePromise (man : ℕ) (t : List ℕ) (side : Bool) (p : Position) (ms : List Move) : Type 0 where
+-- What is promised to the side that plays the desk's moves, by what the first position is called: won in n, the side to move mates within n plies;
+-- lost in n, the other side does; whoever plays them is not mated in fewer than n plies, and from a draw never.
+abbrev pub Told : Answer → Bool → Board → List Move → Type 0
+Told (Win n a) side b ms = (chess .turn b ≡ side → Mates chess side b ms n) × Unmated chess side b ms n
+Told (Loss n a) side b ms = (chess .turn b ≡ not side → Mates chess side b ms n) × Unmated chess side b ms n
+Told (Draw a) side b ms = (n : ℕ) → Unmated chess side b ms n
+Told (Refused n) side b ms = ⊥
+
+-- What is promised of the game ms from the board b, in which `side` plays the desk's moves by the table t.
+pub record GamePromise (man : ℕ) (t : List ℕ) (side : Bool) (b : Board) (ms : List Move) : Type 0 where
   -- what the first position is called is look-up's answer for it, and that is its true value and depth
-  pub called : TrueAnswer (boardOf p) (lookUpOf t p)
+  pub called : TrueAnswer b (lookUpOf t (keyed man b))
+  -- and that it is called so is enough
+  pub told : Told (lookUpOf t (keyed man b)) side b ms
   -- no position of the game, bare kings apart, is refused at look-up: each gets its true answer, a legal move in it wherever the game is not over
-  pub answers : (i : ℕ) → i ≤ length ms → empty (atPly chess (boardOf p) ms i .men) ≡ false → TrueAnswer (atPly chess (boardOf p) ms i) (lookUpOf t (keyed man (atPly chess (boardOf p) ms i)))
+  pub answers : (i : ℕ) → i ≤ length ms → empty (atPly chess b ms i .men) ≡ false → TrueAnswer (atPly chess b ms i) (lookUpOf t (keyed man (atPly chess b ms i)))
   -- bare kings end the game, drawn
-  pub bare : (i : ℕ) → i ≤ length ms → atPly chess (boardOf p) ms i .men ≡ [] → Over chess (atPly chess (boardOf p) ms i) × Drawn chess (atPly chess (boardOf p) ms i)
+  pub bare : (i : ℕ) → i ≤ length ms → atPly chess b ms i .men ≡ [] → Over chess (atPly chess b ms i) × Drawn chess (atPly chess b ms i)
   -- won, lost, drawn, and both sides following: the theory's promise, over chess boards and the rules' moves
-  pub promised : Promised chess (byteOf t) (deskMove man t) side (boardOf p) ms
+  pub promised : Promised chess (byteOf t) (deskMove man t) side b ms

@@ -1,15 +1,6 @@
-pub mod Ending
 pub mod Chess
-pub mod IndexLaws
-pub mod Endings
-pub mod Halves
 pub mod Answers
 pub mod Truth
-pub mod Checking
-pub mod LookingUp
-pub mod OneAnswer
 pub mod Desk
-pub mod Games
 pub mod FilledTrue
-pub mod LastNumbers
-pub mod Bench
+pub mod laws

@@ -1,4 +1,4 @@
--- A true table and a true answer, by the rules of chess (demand 2). Definitions only. Assumes nothing.
+-- A true table and a true answer, by the rules of chess (demand 2). Definitions only.
 use mathlib.Core.Path.{_≡_}
 use mathlib.Core.Bool.{false}
 use mathlib.Core.List.{List, [], _∷_, _++_}
@@ -10,16 +10,14 @@ use Rattle.theory.specs.Value.{WonIn, LostIn, Drawn, TrueByte}
 use Rattle.rules.specs.declared.Move.{Move}
 use Rattle.rules.specs.Rules.{Board, legal, moves}
 use Rattle.rules.specs.Chess.{chess, played}
-use Rattle.position.specs.declared.Position.{Position}
-use Rattle.position.specs.Keyed.{boardOf}
 use Rattle.numbering.specs.Number.{numberOf}
 use Rattle.answers.specs.declared.Advice.{Advice}
 use Rattle.answers.specs.declared.Answer.{Answer}
-use Rattle.endings.specs.Chess.{tableSize, legalNumber}
+use Rattle.endings.specs.Chess.{Lone, tableSize, legalNumber}
 
 -- Every legal position's byte is its true value and depth, and every byte of an unused number or illegal position is 0.
 pub record TrueTable (man : ℕ) (t : List ℕ) : Type 0 where
-  pub legal-true : (p : Position) → p .man ≡ man → T (legal (boardOf p)) → TrueByte chess (boardOf p) (getD t (numberOf (boardOf p)) 0)
+  pub legal-true : (b : Board) → T (legal b) → Lone man b → TrueByte chess b (getD t (numberOf b) 0)
   pub others-zero : (n : ℕ) → n < tableSize → legalNumber man n ≡ false → getD t n 0 ≡ 0
 
 -- "The move is the first in list order": m is in the list and is what is sought, and nothing before it is

@@ -1,13 +1,12 @@
 // The table's bytes before the first pass, and where a depth is too great for a byte.
-use checking::is_legal_number;
+use successors::is_legal_number;
 ghost use mathlib.Core.Path.{_≡_};
 ghost use Prim.Native.Nat.{ℕ};
 ghost use lib.ListN.{length};
 ghost use Rattle.finite.specs.Mapped.{mapFrom};
 ghost use Rattle.numbered.specs.Numbered.{startByte};
 ghost use Rattle.rules.specs.Chess.{chess};
-ghost use Rattle.endings.specs.Chess.{tableSize};
-ghost use Rattle.endings.specs.Endings.{ending};
+ghost use Rattle.endings.specs.Chess.{tableSize, ending};
 
 // 1 at each legal position's number, 0 elsewhere.
 pub fn start(man: u8, table: &mut [u8])

@@ -4,15 +4,17 @@ use super::bytes::start;
 use super::pass::pass;
 use super::pass::some_settles;
 use answers::Filled;
+use index::TABLE_SIZE;
 use pairs::pair_list;
+use position::BAD_MAN;
+use position::TABLE_LENGTH;
+use position::TOO_DEEP;
 ghost use mathlib.Core.Path.{_≡_};
 ghost use Rattle.numbered.specs.Numbered.{ended as endedOf};
 ghost use Rattle.endings.specs.Answers.{resultOf, fillOf};
 
-const TABLE_SIZE: usize = 59136;
-
 // The first depth that no byte holds.
-const TOO_DEEP: u8 = 254;
+const DEPTHS: u8 = 254;
 
 // How filling ends where pass k settles nothing.
 fn ended(k: u8) -> Filled
@@ -30,23 +32,23 @@ pub fn fill(man: u8, table: &mut [u8]) -> Filled
     ensures { λ r. ⌜ (r ≡ fillOf man (now (table .entry)) .answer) × (now (table .exit) ≡ fillOf man (now (table .entry)) .bytes) ⌝ }
 {
     if 4 <= man {
-        return Filled::Refused(1);
+        return Filled::Refused(BAD_MAN);
     }
     if table.len() != TABLE_SIZE {
-        return Filled::Refused(7);
+        return Filled::Refused(TABLE_LENGTH);
     }
     let list = pair_list();
     start(man, &mut *table);
     let mut k: u8 = 0;
-    while k < TOO_DEEP {
+    while k < DEPTHS {
         if !pass(&list, man, k, &mut *table) {
             return ended(k);
         }
         k += 1;
     }
-    if some_settles(&list, &*table, man, TOO_DEEP) {
+    if some_settles(&list, &*table, man, DEPTHS) {
         clear(&mut *table);
-        return Filled::Refused(10);
+        return Filled::Refused(TOO_DEEP);
     }
-    ended(TOO_DEEP)
+    ended(DEPTHS)
 }

@@ -1,7 +1,11 @@
 // One pass: the numbers that hold 1 and whose successors' bytes require depth k.
+use index::HALF;
 use index::Placed;
+use index::TABLE_SIZE;
 use index::position_of;
-use listing::standing_refusal;
+use pairs::PairList;
+use position::man_in;
+use successors::is_legal_number;
 use successors::requires_depth;
 ghost use mathlib.Core.Path.{_≡_};
 ghost use mathlib.Core.Bool.{false, cond};
@@ -11,13 +15,12 @@ ghost use lib.ListN.{length};
 ghost use Rattle.numbered.specs.Numbered.{settles as settlesOf, someSettles, passed};
 ghost use Rattle.rules.specs.Chess.{chess};
 ghost use Rattle.pairs.specs.Tables.{pairs};
-ghost use Rattle.endings.specs.Chess.{tableSize};
-ghost use Rattle.endings.specs.Endings.{ending};
-ghost use Rattle.filling.specs.Laws.{Settle};
+ghost use Rattle.endings.specs.Chess.{tableSize, ending};
+ghost use Rattle.filling.specs.Settling.{Settle};
 ghost use Rattle.filling.specs.Quiet.{Quiet};
 
 // Whether pass k settles the number. Legality is asked last, of the few that would be settled.
-pub fn settles(list: &[u16; 640], table: &[u8], man: u8, k: u8, n: usize) -> bool
+pub fn settles(list: &PairList, table: &[u8], man: u8, k: u8, n: usize) -> bool
     requires { ⌜ (n < tableSize) × (length (now table) ≡ tableSize) × (now list ≡ pairs) ⌝ }
     ensures { λ r. ⌜ r ≡ settlesOf chess (ending man) k (now (table .entry)) n ⌝ }
 {
@@ -27,17 +30,28 @@ pub fn settles(list: &[u16; 640], table: &[u8], man: u8, k: u8, n: usize) -> boo
     let placed = position_of(man, n as u32);
     match placed {
         Placed::At(p) => {
-            if !requires_depth(list, table, p, k) {
+            let first = p.first;
+            let m = man_in(first);
+            if !requires_depth(
+                list,
+                table,
+                m.kind,
+                p.side,
+                p.white_king,
+                m.square,
+                p.black_king,
+                k,
+            ) {
                 return false;
             }
-            standing_refusal(p) == 0
+            is_legal_number(man, n as u32)
         },
         Placed::Refused(_) => false,
     }
 }
 
 // Settles the number if pass k does; whether it did.
-fn settle(list: &[u16; 640], table: &mut [u8], man: u8, k: u8, n: usize) -> bool
+fn settle(list: &PairList, table: &mut [u8], man: u8, k: u8, n: usize) -> bool
     requires { ⌜ (n < tableSize) × (length (now table) ≡ tableSize) × (k < 254) × (now list ≡ pairs) ⌝ }
     ensures { λ r. ⌜ Settle chess (ending man) k (now (table .entry)) n r (now (table .exit)) ⌝ }
 {
@@ -68,7 +82,7 @@ fn may_settle(table: &[u8], k: u8, from: usize, to: usize) -> bool
 }
 
 // Settles the number if pass k does, which is asked only where it may; whether it did.
-fn settle_where(list: &[u16; 640], may: bool, table: &mut [u8], man: u8, k: u8, n: usize) -> bool
+fn settle_where(list: &PairList, may: bool, table: &mut [u8], man: u8, k: u8, n: usize) -> bool
     requires { ⌜ (n < tableSize) × (length (now table) ≡ tableSize) × (k < 254) × (now list ≡ pairs) × (may ≡ false → settlesOf chess (ending man) k (now table) n ≡ false) ⌝ }
     ensures { λ r. ⌜ Settle chess (ending man) k (now (table .entry)) n r (now (table .exit)) ⌝ }
 {
@@ -82,19 +96,19 @@ fn settle_where(list: &[u16; 640], may: bool, table: &mut [u8], man: u8, k: u8, 
 fn of_half(n: usize, white: bool, black: bool) -> bool
     ensures { λ r. ⌜ r ≡ cond (ltb n 29568) white black ⌝ }
 {
-    if n < 29568 { white } else { black }
+    if n < HALF { white } else { black }
 }
 
 // Pass k, in place; whether it settled a number. Successors have the other side to move, so they lie in the other half.
-pub fn pass(list: &[u16; 640], man: u8, k: u8, table: &mut [u8]) -> bool
+pub fn pass(list: &PairList, man: u8, k: u8, table: &mut [u8]) -> bool
     requires { ⌜ (k < 254) × (length (now table) ≡ tableSize) × (now list ≡ pairs) ⌝ }
     ensures { λ r. ⌜ (r ≡ someSettles chess (ending man) k (now (table .entry))) × (now (table .exit) ≡ passed chess (ending man) k (now (table .entry))) ⌝ }
 {
-    let white = may_settle(&*table, k, 29568, 59136);
-    let black = may_settle(&*table, k, 0, 29568);
+    let white = may_settle(&*table, k, HALF, TABLE_SIZE);
+    let black = may_settle(&*table, k, 0, HALF);
     let mut any = false;
     let mut n: usize = 0;
-    while n < 59136 {
+    while n < TABLE_SIZE {
         let may = of_half(n, white, black);
         any = settle_where(list, may, &mut *table, man, k, n) | any;
         n += 1;
@@ -103,12 +117,12 @@ pub fn pass(list: &[u16; 640], man: u8, k: u8, table: &mut [u8]) -> bool
 }
 
 // Whether pass k would settle a number.
-pub fn some_settles(list: &[u16; 640], table: &[u8], man: u8, k: u8) -> bool
+pub fn some_settles(list: &PairList, table: &[u8], man: u8, k: u8) -> bool
     requires { ⌜ (length (now table) ≡ tableSize) × (now list ≡ pairs) ⌝ }
     ensures { λ r. ⌜ r ≡ someSettles chess (ending man) k (now (table .entry)) ⌝ }
 {
     let mut n: usize = 0;
-    while n < 59136 {
+    while n < TABLE_SIZE {
         if settles(list, table, man, k, n) {
             return true;
         }

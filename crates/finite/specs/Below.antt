@@ -1,5 +1,4 @@
 -- A Boolean test over every number below a bound, which the checker computes, and the law that turns it into a fact at each.
--- Assumes nothing.
 use mathlib.Core.Path.{_≡_, refl, subst, sym}
 use mathlib.Core.Bool.{Bool, true, false, not, _&&_}
 use mathlib.Core.Logic.{⊎-elim}

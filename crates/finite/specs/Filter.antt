@@ -1,4 +1,4 @@
--- The members of a list that pass a test, in the list's order. Assumes nothing.
+-- The members of a list that pass a test, in the list's order.
 use mathlib.Core.Path.{_≡_, refl, sym, subst}
 use mathlib.Core.Logic.{_⊎_, inl, inr}
 use mathlib.Core.Bool.{Bool, true, false}

@@ -1,5 +1,5 @@
 -- Tests over the members of a list: some, all, the first that passes; and what each says of the members.
--- `x ∈ l` is a place of x in l, mathlib's `List·Memᴰ x l`. Assumes nothing.
+-- `x ∈ l` is a place of x in l, mathlib's `List·Memᴰ x l`.
 use mathlib.Core.Path.{_≡_, refl, sym, ap, subst, _∙_}
 use mathlib.Core.Logic.{_⊎_, inl, inr}
 use mathlib.Core.Bool.{Bool, true, false, not, _&&_, _||_, cond}

@@ -1,4 +1,4 @@
--- A run of numbers, as a list; and one of them that passes a test, as a loop over the run finds it. Assumes nothing.
+-- A run of numbers, as a list; and one of them that passes a test, as a loop over the run finds it.
 use mathlib.Core.Path.{_≡_, sym}
 use mathlib.Core.Logic.{⊎-elim}
 use mathlib.Core.Bool.{Bool, false, _||_}

@@ -1,6 +1,5 @@
 -- The class of a thing under finitely many maps, numbered by the least key that an allowed image has. Laws for any such maps:
 -- the number is the same throughout a class, and where keys of allowed things are their own, things with one number are of one class.
--- Assumes nothing.
 use mathlib.Core.Path.{_≡_, refl, ap, subst, sym, _∙_}
 use mathlib.Core.List.{List, [], _∷_, List·Memᴰ·head, List·Memᴰ·tail}
 use mathlib.Core.Logic.{_⊎_, inl, inr, ⊎-elim}

@@ -1,4 +1,4 @@
--- Laws of a piece that lies at a place or is written over it. Assumes nothing.
+-- Laws of a piece that lies at a place or is written over it.
 use mathlib.Core.Path.{_≡_, refl, sym, ap, _∙_}
 use mathlib.Core.List.{List, [], _∷_, _++_, append-assoc}
 use Prim.Native.Nat.{ℕ, suc, _+_, _≤_}

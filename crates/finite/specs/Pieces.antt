@@ -1,4 +1,4 @@
--- A piece of a list: that it lies at a place, and a list with it written over a place. Definitions only. Assumes nothing.
+-- A piece of a list: that it lies at a place, and a list with it written over a place. Definitions only.
 use mathlib.Core.Path.{_≡_}
 use mathlib.Core.List.{List, _++_}
 use Prim.Native.Nat.{ℕ, _+_}

@@ -1,6 +1,5 @@
 -- The numbers that pass a test, numbered from 0 in rising order: `rank ok k` of them lie below k. Laws of that numbering for any test, and
 -- a table of it checked in a single pass.
--- Assumes nothing.
 use mathlib.Core.Path.{_≡_, refl, ap, ap₂, subst, sym, _∙_}
 use mathlib.Core.Bool.{Bool, true, false, not, cond, _&&_}
 use mathlib.Core.Logic.{⊎-elim, _⊎_}

@@ -1,4 +1,4 @@
--- Tests over a list that was mapped, over two lists one after the other, and over those members that pass another test. Assumes nothing.
+-- Tests over a list that was mapped, over two lists one after the other, and over those members that pass another test.
 use mathlib.Core.Path.{_≡_, refl, sym}
 use mathlib.Core.Bool.{Bool, true, false, _&&_, _||_, or-assoc}
 use mathlib.Core.List.{List, [], _∷_, _++_, map, List·Memᴰ·head, List·Memᴰ·tail}

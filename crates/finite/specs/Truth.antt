@@ -1,4 +1,4 @@
--- Boolean tests as facts: a test that passes is a proof of `T`, and back. Assumes nothing.
+-- Boolean tests as facts: a test that passes is a proof of `T`, and back.
 use mathlib.Core.Path.{_≡_, refl, sym, subst}
 use mathlib.Core.Logic.{_⊎_, inl, inr}
 use mathlib.Core.Bool.{Bool, true, false, not, _&&_, _||_, cond, Bool·beq}

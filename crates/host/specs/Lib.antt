@@ -1,10 +1,7 @@
 pub mod Words
 pub mod TypedWord
-pub mod TypedLaws
 pub mod OpinionWord
-pub mod Laws
-pub mod LineTrue
 pub mod PocketWords
-pub mod PocketWordLaws
 pub mod SetWords
-pub mod SetLaws
+pub mod TypedReading
+pub mod laws

@@ -1,4 +1,4 @@
--- The word of a second opinion (include/sledgewren.h). Definitions only. Assumes nothing.
+-- The word of a second opinion (include/sledgewren.h). Definitions only.
 use Prim.Native.Nat.{ℕ, _+_, _*_, _^_}
 use Rattle.search.specs.declared.Opinion.{Opinion}
 use Rattle.search.specs.Opinions.{valuesOf}

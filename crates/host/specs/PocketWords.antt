@@ -1,4 +1,4 @@
--- The word of each answer of the pocket edition (include/sledgewren.h): which bits hold its refusal and its values. Definitions only. Assumes nothing.
+-- The word of each answer of the pocket edition (include/sledgewren.h): which bits hold its refusal and its values. Definitions only.
 use Prim.Native.Nat.{ℕ, _+_, _*_, _^_}
 use Rattle.pocket.specs.declared.Packed.{Packed}
 use Rattle.pocket.specs.declared.Tallied.{Tallied}

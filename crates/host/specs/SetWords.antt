@@ -1,4 +1,4 @@
--- The word of each answer about a set (include/sledgewren.h), and a choice from its four bytes. Definitions only. Assumes nothing.
+-- The word of each answer about a set (include/sledgewren.h), and a choice from its four bytes. Definitions only.
 use mathlib.Core.Bool.{Bool, not}
 use Prim.Native.Nat.{ℕ, _+_, _*_, _^_}
 use lib.Dec.{eqb}

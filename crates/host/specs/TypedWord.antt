@@ -1,4 +1,4 @@
--- The word of a number written with its check (include/sledgewren.h). Definitions only. Assumes nothing.
+-- The word of a number written with its check (include/sledgewren.h). Definitions only.
 use mathlib.Core.List.{List, [], _∷_}
 use Prim.Native.Nat.{ℕ, _+_, _*_, _^_}
 use Rattle.typed.specs.declared.Written.{Written}

@@ -8,7 +8,6 @@ mod pockets;
 mod set_file;
 mod tables;
 mod typed_number;
-mod words;
 
 pub use desk::sledgewren_answer_line;
 pub use lists::sledgewren_moves;

@@ -1,13 +1,15 @@
 // The move list, written to lent bytes.
 use listing::MoveList;
+use listing::ROOM;
 use listing::legal_moves;
-use position::Position;
+use position::lone;
 ghost use mathlib.Core.Path.{_≡_};
 ghost use lib.ListN.{length};
-ghost use Rattle.host.specs.Words.{keyed, moveBytes, WroteList, listingOf};
+ghost use Rattle.position.specs.Keyed.{lone as loneOf};
+ghost use Rattle.host.specs.Words.{moveBytes, WroteList, listingOf};
 
-// From-square and to-square of 35 moves.
-const LIST_BYTES: usize = 70;
+// From-square and to-square of each move.
+const LIST_BYTES: usize = 2 * ROOM;
 
 // The answer where another length is lent.
 const NO_LIST: u32 = 255;
@@ -19,7 +21,7 @@ fn write_moves(list: MoveList, bytes: &mut [u8])
 {
     let moves = list.moves;
     let mut i: usize = 0;
-    while i < 35 {
+    while i < ROOM {
         let m = moves[i];
         bytes[2 * i] = m.from;
         bytes[2 * i + 1] = m.to;
@@ -37,18 +39,12 @@ pub extern "C" fn sledgewren_moves(
     black: u8,
     moves: &mut [u8],
 ) -> u32
-    ensures { λ r. ⌜ WroteList (listingOf (keyed man side white square black) (now (moves .entry))) r (now (moves .exit)) ⌝ }
+    ensures { λ r. ⌜ WroteList (listingOf (loneOf man side white square black) (now (moves .entry))) r (now (moves .exit)) ⌝ }
 {
     if moves.len() != LIST_BYTES {
         return NO_LIST;
     }
-    let listed = legal_moves(Position {
-        man,
-        side,
-        white,
-        square,
-        black,
-    });
+    let listed = legal_moves(lone(man, side, white, square, black));
     let list = listed.list;
     write_moves(list, &mut *moves);
     listed.refusal as u32 + list.count as u32 * 0x100

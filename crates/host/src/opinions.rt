@@ -1,10 +1,10 @@
 // The second opinion on a position, and its word.
-use position::Position;
+use position::lone;
 use search::Opinion;
 use search::second_opinion;
 ghost use mathlib.Core.Path.{_≡_};
 ghost use Rattle.search.specs.Opinions.{opinionOf};
-ghost use Rattle.host.specs.Words.{keyed};
+ghost use Rattle.position.specs.Keyed.{lone as loneOf};
 ghost use Rattle.host.specs.OpinionWord.{opinionWord};
 
 fn opinion_word(o: Opinion) -> u32
@@ -28,14 +28,8 @@ pub extern "C" fn sledgewren_second_opinion(
     black: u8,
     plies: u8,
 ) -> u32
-    ensures { λ r. ⌜ r ≡ opinionWord (opinionOf (keyed man side white square black) plies) ⌝ }
+    ensures { λ r. ⌜ r ≡ opinionWord (opinionOf (loneOf man side white square black) plies) ⌝ }
 {
-    let p = Position {
-        man,
-        side,
-        white,
-        square,
-        black,
-    };
+    let p = lone(man, side, white, square, black);
     opinion_word(second_opinion(p, plies))
 }

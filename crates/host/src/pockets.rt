@@ -5,11 +5,11 @@ use super::pocket_words::tallied_word;
 use pocket::look_up;
 use pocket::pack;
 use pocket::tally;
-use position::Position;
+use position::lone;
 ghost use mathlib.Core.Path.{_≡_};
 ghost use Rattle.pocket.specs.Pocket.{packOf, pocketLookUpOf};
 ghost use Rattle.pocket.specs.Tally.{tallyOf};
-ghost use Rattle.host.specs.Words.{keyed};
+ghost use Rattle.position.specs.Keyed.{lone as loneOf};
 ghost use Rattle.host.specs.PocketWords.{packedWord, toldWord, talliedWord};
 
 // Refusal 7 leaves the pocket as it was.
@@ -30,15 +30,9 @@ pub extern "C" fn sledgewren_pocket_look_up(
     square: u8,
     black: u8,
 ) -> u32
-    ensures { λ r. ⌜ r ≡ toldWord (pocketLookUpOf (now (pocket .entry)) (keyed man side white square black)) ⌝ }
+    ensures { λ r. ⌜ r ≡ toldWord (pocketLookUpOf (now (pocket .entry)) (loneOf man side white square black)) ⌝ }
 {
-    let p = Position {
-        man,
-        side,
-        white,
-        square,
-        black,
-    };
+    let p = lone(man, side, white, square, black);
     pocket_word(look_up(pocket, p))
 }
 

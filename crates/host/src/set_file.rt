@@ -1,5 +1,4 @@
 // A set of tables in one file: written, and an ending found in it.
-use super::words::filled_word;
 use sets::Choice;
 use sets::Found;
 use sets::Written;
@@ -7,6 +6,7 @@ use table_set::fill_ending;
 use table_set::find;
 use table_set::start;
 use table_set::write;
+use words::filled_word;
 ghost use mathlib.Core.Path.{_≡_};
 ghost use Rattle.sets.specs.Answers.{writeOf, startOf, fillInOf, findOf};
 ghost use Rattle.host.specs.Words.{filledWord};

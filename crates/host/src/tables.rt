@@ -1,14 +1,15 @@
 // Filling a table, checking one, and looking a position up.
-use super::words::answer_word;
-use super::words::checked_word;
-use super::words::filled_word;
 use checking::check;
 use filling::fill;
 use look_up::look_up;
-use position::Position;
+use position::lone;
+use words::answer_word;
+use words::checked_word;
+use words::filled_word;
 ghost use mathlib.Core.Path.{_≡_};
 ghost use Rattle.endings.specs.Answers.{fillOf, checkOf, lookUpOf};
-ghost use Rattle.host.specs.Words.{keyed, filledWord, checkedWord, answerWord};
+ghost use Rattle.position.specs.Keyed.{lone as loneOf};
+ghost use Rattle.host.specs.Words.{filledWord, checkedWord, answerWord};
 
 // Refusals 1 and 7 leave the table as it was, 10 all zero.
 #[no_mangle]
@@ -36,14 +37,8 @@ pub extern "C" fn sledgewren_look_up(
     square: u8,
     black: u8,
 ) -> u64
-    ensures { λ r. ⌜ r ≡ answerWord (lookUpOf (now (table .entry)) (keyed man side white square black)) ⌝ }
+    ensures { λ r. ⌜ r ≡ answerWord (lookUpOf (now (table .entry)) (loneOf man side white square black)) ⌝ }
 {
-    let p = Position {
-        man,
-        side,
-        white,
-        square,
-        black,
-    };
+    let p = lone(man, side, white, square, black);
     answer_word(look_up(table, p))
 }

@@ -1,5 +1,5 @@
 -- The number by a lent list of pairs, and its frame: what the kings and the side to move fix of it, whatever square the man stands on. A frame is
--- made once for all the moves of a man. Definitions only. Assumes nothing.
+-- made once for all the moves of a man. Definitions only.
 use mathlib.Core.Bool.{Bool, true, cond, _&&_}
 use mathlib.Core.List.{List}
 use Prim.Native.Nat.{ℕ, _+_, _*_, _/_, _%_}

@@ -1,7 +1,5 @@
 pub mod Answers
-pub mod AnswerLaws
 pub mod NumberLaws
 pub mod BackLaws
-pub mod Count
 pub mod Frames
-pub mod FrameLaws
+pub mod laws

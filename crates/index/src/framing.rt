@@ -1,5 +1,7 @@
 // The number by its frame: made once, a frame serves all the squares that the man may go to.
 use crate::Frame;
+use pairs::PAIR_COUNT;
+use pairs::PairList;
 use pairs::pair_in;
 use position::transposed;
 ghost use mathlib.Core.Path.{_≡_};
@@ -74,7 +76,7 @@ fn exchanged(exchange: u8, s: u8) -> u8
 }
 
 // The frame of two kings and a side to move, by a lent list of pairs.
-pub fn frame_of(list: &[u16; 640], side: u8, white: u8, black: u8) -> Frame
+pub fn frame_of(list: &PairList, side: u8, white: u8, black: u8) -> Frame
     ensures { λ r. ⌜ r ≡ frameOf (now (list .entry)) side white black ⌝ }
 {
     let flip = flip_of(white);
@@ -83,7 +85,7 @@ pub fn frame_of(list: &[u16; 640], side: u8, white: u8, black: u8) -> Frame
     let exchange = exchange_of(w, b);
     let pair = pair_in(list, exchanged(exchange, w), exchanged(exchange, b));
     Frame {
-        base: (side as u32 * 462 + pair as u32) * 64,
+        base: (side as u32 * PAIR_COUNT + pair as u32) * 64,
         flip: flip,
         exchange: exchange,
     }

@@ -1,19 +1,27 @@
 // The number of a position, and the position of a number.
+use pairs::PAIR_COUNT;
+use position::BAD_MAN;
+use position::NUMBER_TOO_HIGH;
+use position::NUMBER_UNUSED;
 use position::Position;
+use position::Slot;
+use position::lone;
 
 mod framing;
 
 pub use framing::frame_of;
 pub use framing::number_in;
 ghost use mathlib.Core.Path.{_≡_};
-ghost use Rattle.numbering.specs.Number.{numberOf};
-ghost use Rattle.position.specs.Keyed.{boardOf};
+ghost use mathlib.Core.List.{_++_};
+ghost use Prim.Native.Nat.{ℕ, _+_, _*_, _^_, _≤_, _<_};
+ghost use Rattle.numbering.specs.Number.{keyFrom, numberOf};
+ghost use Rattle.position.specs.Keyed.{slotMen, boardOf, lone as loneOf};
 ghost use Rattle.index.specs.Answers.{numbered, unused, placedAt};
 
-// How many pairs the kings form, and how many numbers there are.
-const PAIRS: u32 = 462;
+// How many numbers one side to move has, and how many there are: a table's bytes.
+pub const HALF: usize = PAIR_COUNT as usize * 64;
 
-const NUMBERS: u32 = 59136;
+pub const TABLE_SIZE: usize = 2 * HALF;
 
 // What the kings and the side to move fix of a number, whatever square the man stands on.
 pub struct Frame {
@@ -37,14 +45,36 @@ pub enum Placed {
     Refused(u8),
 }
 
+// A key with the digit of one man more.
+fn with_man(key: u32, slot: Slot) -> u32
+    requires { ⌜ key < 2 ^ 24 ⌝ }
+    ensures { λ r. ⌜ (r ≡ keyFrom key (slotMen slot)) × (r ≤ key * 64 + 255) ⌝ }
+{
+    match slot {
+        Slot::Absent => key,
+        Slot::Present(m) => key * 64 + m.square as u32,
+    }
+}
+
+// The key of a position with the pair of its kings.
+pub fn key_of(p: Position, pair: u16) -> u32
+    ensures { λ r. ⌜ r ≡ keyFrom (p .side * 462 + pair) (slotMen (p .first) ++ slotMen (p .second)) ⌝ }
+{
+    let first = p.first;
+    let second = p.second;
+    with_man(
+        with_man(p.side as u32 * PAIR_COUNT + pair as u32, first),
+        second,
+    )
+}
+
 // The number with no refusal asked: for a position that is known to meet none. On any bytes it is the key of the normal position, with 65535 for
 // kings that form no pair.
 pub fn number_of(p: Position) -> u32
     ensures { λ r. ⌜ r ≡ numberOf (boardOf p) ⌝ }
 {
     let n = p.normalised();
-    let pair = pairs::pair_of(n.white, n.black);
-    (n.side as u32 * PAIRS + pair as u32) * 64 + n.square as u32
+    key_of(n, pairs::pair_of(n.white_king, n.black_king))
 }
 
 pub fn number(p: Position) -> Numbered
@@ -58,12 +88,9 @@ pub fn number(p: Position) -> Numbered
 }
 
 // Whether the number of what stands so is unused.
-fn is_unused(p: Position) -> bool
-    ensures { λ r. ⌜ r ≡ unused p ⌝ }
+fn is_unused(white: u8, square: u8, black: u8) -> bool
+    ensures { λ r. ⌜ ((kind side : ℕ) → r ≡ unused (loneOf kind side white square black)) ⌝ }
 {
-    let white = p.white;
-    let square = p.square;
-    let black = p.black;
     if white == square {
         return true;
     }
@@ -79,25 +106,21 @@ fn is_unused(p: Position) -> bool
     square % 8 < square / 8
 }
 
-pub fn position_of(man: u8, n: u32) -> Placed
-    ensures { λ r. ⌜ r ≡ placedAt man n ⌝ }
+pub fn position_of(kind: u8, n: u32) -> Placed
+    ensures { λ r. ⌜ r ≡ placedAt kind n ⌝ }
 {
-    if 4 <= man {
-        return Placed::Refused(1);
+    if 4 <= kind {
+        return Placed::Refused(BAD_MAN);
     }
-    if NUMBERS <= n {
-        return Placed::Refused(8);
+    if TABLE_SIZE as u32 <= n {
+        return Placed::Refused(NUMBER_TOO_HIGH);
     }
-    let kings = pairs::kings_of((n / 64 % PAIRS) as u16);
-    let p = Position {
-        man: man,
-        side: (n / 64 / PAIRS) as u8,
-        white: (kings / 64) as u8,
-        square: (n % 64) as u8,
-        black: (kings % 64) as u8,
-    };
-    if is_unused(p) {
-        return Placed::Refused(9);
+    let kings = pairs::kings_of((n / 64 % PAIR_COUNT) as u16);
+    let white = (kings / 64) as u8;
+    let square = (n % 64) as u8;
+    let black = (kings % 64) as u8;
+    if is_unused(white, square, black) {
+        return Placed::Refused(NUMBER_UNUSED);
     }
-    Placed::At(p)
+    Placed::At(lone(kind, (n / 64 / PAIR_COUNT) as u8, white, square, black))
 }

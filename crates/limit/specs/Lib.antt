@@ -1,3 +1,1 @@
-pub mod Sums
-pub mod Reaching
-pub mod Limit
+pub mod laws

@@ -1,5 +1,5 @@
--- The request of one input line, for any list of bytes (01, "The desk program", "When the desk says no"; 02, P2). Definitions only. Assumes nothing.
-use mathlib.Core.Bool.{Bool, true, false, cond, not, _&&_, _||_}
+-- The request of one input line, for any list of bytes (01, "The desk program", "When the desk says no"; 02, P2). Definitions only.
+use mathlib.Core.Bool.{Bool, true, false, cond, not, _&&_}
 use mathlib.Core.List.{List, [], _∷_}
 use Prim.Native.Nat.{ℕ, _+_, _-_, _*_}
 use Prim.Native.Char.{code}
@@ -8,6 +8,7 @@ use lib.ListN.{getD}
 use Rattle.ascii.specs.Bytes.{bytes}
 use Rattle.check_digits.specs.Check.{rightNumber}
 use Rattle.position.specs.declared.Position.{Position}
+use Rattle.position.specs.Keyed.{lone}
 use Rattle.lines.specs.declared.Request.{Request}
 
 abbrev pub between : ℕ → ℕ → ℕ → Bool
@@ -58,23 +59,10 @@ digitOf b = cond (between (code "0") (code "9") b) (b - code "0") 0
 
 -- ---- requests
 
--- the parts of a position line, each out of range where its byte is wrong
+-- the parts of a position line, each out of range where its byte is wrong: "any other wrong byte in a man's, side's or square's place is 1, 2 or 3"
 unfoldable pub keyedOf : List ℕ → Position
 keyedOf line =
-    record {
-      man = manOf (getD line 0 0);
-      side = sideOf (getD line 2 0);
-      white = squareOf (getD line 4 0) (getD line 5 0);
-      square = squareOf (getD line 7 0) (getD line 8 0);
-      black = squareOf (getD line 10 0) (getD line 11 0);
-    }
-
--- "any other wrong byte in a man's, side's or square's place is 1, 2 or 3"; "the lowest number counts"
-unfoldable pub keyedRequest : Position → Request
-keyedRequest p =
-    cond (leb 4 (p .man)) (Request.Refused 1)
-    (cond (leb 2 (p .side)) (Request.Refused 2)
-    (cond (leb 64 (p .white) || (leb 64 (p .square) || leb 64 (p .black))) (Request.Refused 3) (Request.LookUp p)))
+    lone (manOf (getD line 0 0)) (sideOf (getD line 2 0)) (squareOf (getD line 4 0) (getD line 5 0)) (squareOf (getD line 7 0) (getD line 8 0)) (squareOf (getD line 10 0) (getD line 11 0))
 
 -- the number that five digits name
 unfoldable pub fiveDigits : List ℕ → ℕ
@@ -98,4 +86,4 @@ numberRequest line =
 -- "Another length, .. a space out of place or missing, or a non-digit in a digit's place is refusal 12"; "a line's shape comes first". "The old
 -- nine-byte line becomes refusal 12", as another length
 unfoldable pub requestOf : List ℕ → Request
-requestOf line = cond (hasShape positionShape line) (keyedRequest (keyedOf line)) (cond (hasShape numberShape line) (numberRequest line) (Request.Refused 12))
+requestOf line = cond (hasShape positionShape line) (Request.LookUp (keyedOf line)) (cond (hasShape numberShape line) (numberRequest line) (Request.Refused 12))

@@ -1,8 +1,3 @@
 pub mod Grammar
-pub mod Shapes
-pub mod NumberLines
 pub mod Typed
-pub mod TypedLaws
-pub mod WrittenLines
-pub mod Run
-pub mod Requests
+pub mod laws

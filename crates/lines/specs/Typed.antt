@@ -1,4 +1,4 @@
--- Numbers as a clerk types them: what the theorems on altered and exchanged digits speak of. Definitions only. Assumes nothing.
+-- Numbers as a clerk types them: what the theorems on altered and exchanged digits speak of. Definitions only.
 use mathlib.Core.List.{List, _∷_, _++_, map}
 use Prim.Native.Nat.{ℕ}
 use Prim.Native.Char.{code}

@@ -7,14 +7,19 @@ use fields::digit_value;
 use fields::man_code;
 use fields::side_code;
 use fields::square_named;
+use position::BAD_CHECK;
+use position::BAD_LINE;
+use position::BAD_MAN;
 use position::Position;
+use position::lone;
 use shape::shaped;
 ghost use mathlib.Core.Path.{_≡_};
 ghost use Prim.Native.Nat.{_≤_};
 ghost use lib.ListN.{length};
-ghost use Rattle.lines.specs.Grammar.{requestOf, keyedOf, keyedRequest, numberRequest, fiveDigits, typedCheck};
+ghost use Rattle.lines.specs.Grammar.{requestOf, keyedOf, numberRequest, fiveDigits, typedCheck};
 
-// What a line asks: to look a position up, or for the position of a man's number; or its refusal.
+// What a line asks: to look a position up, or for the position of a man's number; or its refusal. A wrong byte in a position's part puts it out of
+// range, and the position is refused with it.
 pub enum Request {
     LookUp(Position),
     Back(u8, u32),
@@ -26,12 +31,12 @@ pub fn parse(line: &[u8]) -> Request
     ensures { λ r. ⌜ r ≡ requestOf (now (line .entry)) ⌝ }
 {
     if shaped(b". . .. .. ..", line) {
-        return keyed_request(keyed(line));
+        return Request::LookUp(keyed(line));
     }
     if shaped(b". # 0000000", line) {
         return number_request(line);
     }
-    Request::Refused(12)
+    Request::Refused(BAD_LINE)
 }
 
 // The parts of a line with the shape of a position line.
@@ -39,34 +44,13 @@ fn keyed(line: &[u8]) -> Position
     requires { ⌜ length (now line) ≡ 12 ⌝ }
     ensures { λ r. ⌜ r ≡ keyedOf (now (line .entry)) ⌝ }
 {
-    Position {
-        man: man_code(line[0]),
-        side: side_code(line[2]),
-        white: square_named(line[4], line[5]),
-        square: square_named(line[7], line[8]),
-        black: square_named(line[10], line[11]),
-    }
-}
-
-// A look-up of the position, or the refusal of a part that is out of range.
-fn keyed_request(p: Position) -> Request
-    ensures { λ r. ⌜ r ≡ keyedRequest p ⌝ }
-{
-    let man = p.man;
-    let side = p.side;
-    let white = p.white;
-    let square = p.square;
-    let black = p.black;
-    if 4 <= man {
-        return Request::Refused(1);
-    }
-    if 2 <= side {
-        return Request::Refused(2);
-    }
-    if (64 <= white) | ((64 <= square) | (64 <= black)) {
-        return Request::Refused(3);
-    }
-    Request::LookUp(p)
+    lone(
+        man_code(line[0]),
+        side_code(line[2]),
+        square_named(line[4], line[5]),
+        square_named(line[7], line[8]),
+        square_named(line[10], line[11]),
+    )
 }
 
 // The number of a line with the shape of a number line.
@@ -100,11 +84,11 @@ fn number_request(line: &[u8]) -> Request
     let five = five_digits(line);
     let check = typed_check(line);
     if !is_right(five * 100 + check) {
-        return Request::Refused(13);
+        return Request::Refused(BAD_CHECK);
     }
     let man = man_code(line[0]);
     if man < 4 {
         return Request::Back(man, five);
     }
-    Request::Refused(1)
+    Request::Refused(BAD_MAN)
 }

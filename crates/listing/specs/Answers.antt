@@ -1,4 +1,4 @@
--- The answers of the move list and of the count, on any bytes (01, "When the desk says no"). Definitions only. Assumes nothing.
+-- The answers of the move list and of the count, on any bytes (01, "When the desk says no"). Definitions only.
 use mathlib.Core.Path.{_≡_}
 use mathlib.Core.Bool.{cond}
 use mathlib.Core.List.{List, []}
@@ -8,7 +8,8 @@ use lib.ListN.{length}
 use Rattle.rules.specs.declared.Move.{Move}
 use Rattle.rules.specs.Rules.{moves}
 use Rattle.position.specs.declared.Position.{Position}
-use Rattle.position.specs.Keyed.{boardOf, standing}
+use Rattle.position.specs.Keyed.{boardOf}
+use Rattle.position.specs.Refusals.{standing}
 use Rattle.listing.specs.declared.Listed.{Listed}
 use Rattle.listing.specs.declared.Counted.{Counted}
 use Rattle.listing.specs.declared.Counted.the-variants.{Count, Refused}

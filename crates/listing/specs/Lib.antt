@@ -1,5 +1,4 @@
 pub mod Lists
 pub mod Answers
-pub mod KeyedSetup
 pub mod ListLaws
-pub mod AnswerLaws
+pub mod laws

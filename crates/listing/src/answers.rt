@@ -1,32 +1,30 @@
 // The move list and the count of moves.
 use super::Counted;
 use super::Listed;
-use super::keyed::setup_of;
-use super::keyed::standing_refusal;
 use super::lists::moves_of;
 use super::lists::no_moves;
 use board::lowest;
 use board::size;
 use board::without;
 use moves::legal_targets;
-use moves::own;
 use position::Position;
+use position::own;
+use position::standing_refusal;
 ghost use mathlib.Core.Path.{_≡_};
 ghost use lib.ListN.{length};
-ghost use Rattle.rules.specs.Rules.{moves};
+ghost use Rattle.rules.specs.Rules.{canMove, allMoves};
 ghost use Rattle.position.specs.Keyed.{boardOf};
 ghost use Rattle.listing.specs.Answers.{listed, Counts};
 
-// How many moves there are, whatever else is wrong with the position.
-fn count_of(p: Position) -> u8
-    ensures { λ r. ⌜ r ≡ length (moves (boardOf p)) ⌝ }
+// How many moves there are, bare kings or not.
+pub fn count_of(p: Position) -> u8
+    ensures { λ r. ⌜ r ≡ length (allMoves (canMove (boardOf p))) ⌝ }
 {
-    let s = setup_of(p);
     let mut count: u32 = 0;
-    let mut rest = own(s, p.side);
+    let mut rest = own(p, p.side);
     while rest != 0 {
         let from = lowest(rest);
-        count += size(legal_targets(s, from));
+        count += size(legal_targets(p, from));
         rest = without(rest, from);
     }
     count as u8

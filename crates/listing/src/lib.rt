@@ -2,18 +2,18 @@
 use rules::Move;
 
 mod answers;
-mod keyed;
 mod lists;
 
+pub use answers::count_of;
 pub use answers::legal_moves;
 pub use answers::move_count;
-pub use keyed::setup_of;
-pub use keyed::standing_refusal;
-pub use lists::moves_of;
+
+// How many moves a list has room for.
+pub const ROOM: usize = 35;
 
 // The moves, in order; the places from `count` on hold zero.
 pub struct MoveList {
-    pub moves: [Move; 35],
+    pub moves: [Move; ROOM],
     pub count: u8,
 }
 

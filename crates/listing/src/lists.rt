@@ -1,18 +1,19 @@
 // Move lists: an empty one, moves added to one, and all moves of a position.
 use super::MoveList;
-use super::keyed::setup_of;
+use super::ROOM;
 use board::lowest;
 use board::without;
 use moves::legal_targets;
-use moves::own;
 use position::Position;
-use rules::Move;
+use position::own;
+use rules::ZERO_MOVE;
+use rules::move_of;
 ghost use mathlib.Core.Path.{_≡_};
-ghost use mathlib.Core.List.{[], map};
+ghost use mathlib.Core.List.{[]};
 ghost use Prim.Native.Nat.{_+_, _≤_};
 ghost use lib.ListN.{length};
 ghost use Rattle.board.specs.Sets.{members};
-ghost use Rattle.rules.specs.Rules.{moveOf, moves};
+ghost use Rattle.rules.specs.Rules.{canMove, movesOnto, allMoves};
 ghost use Rattle.position.specs.Keyed.{boardOf};
 ghost use Rattle.listing.specs.Lists.{room, listOf};
 ghost use Rattle.listing.specs.ListLaws.{appended};
@@ -21,7 +22,7 @@ pub fn no_moves() -> MoveList
     ensures { λ r. ⌜ r ≡ listOf [] ⌝ }
 {
     MoveList {
-        moves: [Move { from: 0, to: 0 }; 35],
+        moves: [ZERO_MOVE; ROOM],
         count: 0,
     }
 }
@@ -29,30 +30,30 @@ pub fn no_moves() -> MoveList
 // The list with a move from a square to each of the targets added, in rising order.
 fn add_moves(list: MoveList, from: u8, targets: u64) -> MoveList
     requires { ⌜ list .count + length (members targets) ≤ room ⌝ }
-    ensures { λ r. ⌜ r ≡ appended list (map (moveOf from) (members targets)) ⌝ }
+    ensures { λ r. ⌜ r ≡ appended list (movesOnto from (members targets)) ⌝ }
 {
     let mut moves = list.moves;
     let mut count = list.count;
     let mut rest = targets;
     while rest != 0 {
         let to = lowest(rest);
-        moves[count as usize] = Move { from, to };
+        moves[count as usize] = move_of(from, to);
         count += 1;
         rest = without(rest, to);
     }
     MoveList { moves, count }
 }
 
-// All moves of a position, whatever else is wrong with it.
+// All moves of a position, bare kings or not.
 pub fn moves_of(p: Position) -> MoveList
-    ensures { λ r. ⌜ r ≡ listOf (moves (boardOf p)) ⌝ }
+    requires { ⌜ length (allMoves (canMove (boardOf p))) ≤ room ⌝ }
+    ensures { λ r. ⌜ r ≡ listOf (allMoves (canMove (boardOf p))) ⌝ }
 {
-    let s = setup_of(p);
     let mut list = no_moves();
-    let mut rest = own(s, p.side);
+    let mut rest = own(p, p.side);
     while rest != 0 {
         let from = lowest(rest);
-        list = add_moves(list, from, legal_targets(s, from));
+        list = add_moves(list, from, legal_targets(p, from));
         rest = without(rest, from);
     }
     list

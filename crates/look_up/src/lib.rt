@@ -1,16 +1,18 @@
 // Looking a position up in its ending's table.
 use answers::Advice;
 use answers::Answer;
-use listing::standing_refusal;
+use index::TABLE_SIZE;
 use pairs::pair_list;
+use position::INCONSISTENT;
 use position::Position;
+use position::TABLE_LENGTH;
+use position::man_in;
+use position::standing_refusal;
 use successors::Verdict;
 use successors::byte_of;
 use successors::verdict_on;
 ghost use mathlib.Core.Path.{_≡_};
 ghost use Rattle.endings.specs.Answers.{answerOf, lookUpOf};
-
-const TABLE_SIZE: usize = 59136;
 
 // What a byte that stands says of the side to move.
 fn answer(byte: u8, advice: Advice) -> Answer
@@ -34,13 +36,18 @@ pub fn look_up(table: &[u8], p: Position) -> Answer
         return Answer::Refused(refusal);
     }
     if table.len() != TABLE_SIZE {
-        return Answer::Refused(7);
+        return Answer::Refused(TABLE_LENGTH);
     }
     let list = pair_list();
-    let byte = byte_of(&list, table, p);
-    let verdict = verdict_on(&list, table, p, byte);
+    let first = p.first;
+    let m = man_in(first);
+    let side = p.side;
+    let white = p.white_king;
+    let black = p.black_king;
+    let byte = byte_of(&list, table, side, white, m.square, black);
+    let verdict = verdict_on(&list, table, m.kind, side, white, m.square, black, byte);
     match verdict {
-        Verdict::Wrong => Answer::Refused(11),
+        Verdict::Wrong => Answer::Refused(INCONSISTENT),
         Verdict::Right(advice) => answer(byte, advice),
     }
 }

@@ -1,11 +1,11 @@
 // A move made: the piece set on its target, one that stood there taken off, the other side to move.
-use super::Setup;
-use super::Slot;
+use position::Position;
+use position::Slot;
+use position::other;
 use rules::Piece;
 ghost use mathlib.Core.Path.{_≡_};
-ghost use Prim.Native.Nat.{_-_};
 ghost use Rattle.rules.specs.Rules.{carried as carriedTo};
-ghost use Rattle.moves.specs.Setups.{slotAfter, after};
+ghost use Rattle.moves.specs.After.{slotAfter, after};
 
 // Where a piece on s stands after a move.
 pub fn carried(from: u8, to: u8, s: u8) -> u8
@@ -31,22 +31,16 @@ fn slot_after(from: u8, to: u8, slot: Slot) -> Slot
     }
 }
 
-// The other side.
-pub fn other(side: u8) -> u8
-    ensures { λ r. ⌜ r ≡ 1 - side ⌝ }
+// The position after a move.
+pub fn make(p: Position, from: u8, to: u8) -> Position
+    ensures { λ r. ⌜ r ≡ after p from to ⌝ }
 {
-    if side == 0 { 1 } else { 0 }
-}
-
-pub fn make(s: Setup, from: u8, to: u8) -> Setup
-    ensures { λ r. ⌜ r ≡ after s from to ⌝ }
-{
-    let first = s.first;
-    let second = s.second;
-    Setup {
-        side: other(s.side),
-        white: carried(from, to, s.white),
-        black: carried(from, to, s.black),
+    let first = p.first;
+    let second = p.second;
+    Position {
+        side: other(p.side),
+        white_king: carried(from, to, p.white_king),
+        black_king: carried(from, to, p.black_king),
         first: slot_after(from, to, first),
         second: slot_after(from, to, second),
     }

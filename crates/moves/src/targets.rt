@@ -1,28 +1,28 @@
 // The legal targets of a piece.
-use super::Setup;
-use super::attack::attack_set;
-use super::attack::attacked_over;
-use super::attack::in_check;
-use super::attack::king_square;
 use super::making::make;
-use super::making::other;
-use super::occupancy::occupied;
-use super::occupancy::own;
-use super::occupancy::pieces_of;
 use board::has as has_square;
 use board::lowest;
 use board::minus;
 use board::targets;
 use board::with;
 use board::without;
+use position::Position;
+use position::attack_set;
+use position::attacked_over;
+use position::in_check;
+use position::king_square;
+use position::occupied;
+use position::other;
+use position::own;
+use position::pieces_of;
 use rules::Piece;
 ghost use mathlib.Core.Path.{_≡_};
 ghost use mathlib.Core.Bool.{_&&_, not};
 ghost use Prim.Native.Nat.{ℕ, _<_};
 ghost use Rattle.board.specs.Sets.{has, setOf};
 ghost use Rattle.rules.specs.Rules.{inCheck, moved, canMove};
-ghost use Rattle.moves.specs.Setups.{setupBoard};
-ghost use Rattle.moves.specs.Over.{goesFrom, goesOver};
+ghost use Rattle.position.specs.Keyed.{boardOf};
+ghost use Rattle.position.specs.Over.{goesFrom, goesOver};
 
 // The squares where a piece may go, if it is of this side and stands on `from`.
 fn goes_set(occ: u64, side: u8, from: u8, m: Piece) -> u64
@@ -38,25 +38,25 @@ fn goes_set(occ: u64, side: u8, from: u8, m: Piece) -> u64
 }
 
 // The squares where the piece of the side to move on `from` may go.
-fn goes_over(s: Setup, occ: u64, from: u8) -> u64
-    ensures { λ r. ⌜ ((t : ℕ) → t < 64 → has r t ≡ goesOver (has occ) (setupBoard s) from t) ⌝ }
+fn goes_over(p: Position, occ: u64, from: u8) -> u64
+    ensures { λ r. ⌜ ((t : ℕ) → t < 64 → has r t ≡ goesOver (has occ) (boardOf p) from t) ⌝ }
 {
-    let p = pieces_of(s);
-    let side = s.side;
-    goes_set(occ, side, from, p.white)
-        | (goes_set(occ, side, from, p.black)
-            | (goes_set(occ, side, from, p.first) | goes_set(occ, side, from, p.second)))
+    let all = pieces_of(p);
+    let side = p.side;
+    goes_set(occ, side, from, all.white)
+        | (goes_set(occ, side, from, all.black)
+            | (goes_set(occ, side, from, all.first) | goes_set(occ, side, from, all.second)))
 }
 
 // Those of some targets where a move leaves the mover's king out of check, each by making the move.
-fn tested(s: Setup, from: u8, free: u64) -> u64
-    ensures { λ r. ⌜ ((t : ℕ) → t < 64 → has r t ≡ (has free t && not (inCheck (moved (setupBoard s) from t) (s .side)))) ⌝ }
+fn tested(p: Position, from: u8, free: u64) -> u64
+    ensures { λ r. ⌜ ((t : ℕ) → t < 64 → has r t ≡ (has free t && not (inCheck (moved (boardOf p) from t) (p .side)))) ⌝ }
 {
     let mut safe: u64 = 0;
     let mut rest = free;
     while rest != 0 {
         let t = lowest(rest);
-        if !in_check(make(s, from, t), s.side) {
+        if !in_check(make(p, from, t), p.side) {
             safe = with(safe, t);
         }
         rest = without(rest, t);
@@ -66,23 +66,23 @@ fn tested(s: Setup, from: u8, free: u64) -> u64
 
 // The legal targets of the piece on a square. A king's are tested by one set of attacked squares, another piece's by one look at its
 // king; only a piece that may be pinned, and one that shares its square with a piece of the other side, has its moves made.
-pub fn legal_targets(s: Setup, from: u8) -> u64
-    ensures { λ r. ⌜ r ≡ setOf (canMove (setupBoard s) from) ⌝ }
+pub fn legal_targets(p: Position, from: u8) -> u64
+    ensures { λ r. ⌜ r ≡ setOf (canMove (boardOf p) from) ⌝ }
 {
-    let side = s.side;
+    let side = p.side;
     let foe = other(side);
-    let occ = occupied(s);
-    let free = minus(goes_over(s, occ, from), own(s, side));
-    if has_square(own(s, foe), from) {
-        return tested(s, from, free);
+    let occ = occupied(p);
+    let free = minus(goes_over(p, occ, from), own(p, side));
+    if has_square(own(p, foe), from) {
+        return tested(p, from, free);
     }
     let rest = without(occ, from);
-    let king = king_square(s, side);
+    let king = king_square(p, side);
     if king == from {
-        return minus(free, attack_set(s, rest, foe));
+        return minus(free, attack_set(p, rest, foe));
     }
-    if attacked_over(s, rest, foe, king) {
-        return tested(s, from, free);
+    if attacked_over(p, rest, foe, king) {
+        return tested(p, from, free);
     }
     free
 }

@@ -1,7 +1,9 @@
 // Answers lines of five numbers (man, side, white king, man's square, black king) with the legal moves, as the second program does.
 use listing::Counted;
 use listing::MoveList;
+use listing::ROOM;
 use position::Position;
+use position::lone;
 
 // The numbers of a line so far, and which of them comes next.
 struct Line {
@@ -44,7 +46,7 @@ fn show_list(list: MoveList) {
     let moves = list.moves;
     let count = list.count;
     let mut i: u8 = 0;
-    while i < count && i < 35 {
+    while i < count && (i as usize) < ROOM {
         let m = moves[i as usize];
         io::write_all(1, b" ");
         show_square(m.from);
@@ -71,13 +73,7 @@ fn answer(p: Position) {
 
 fn answer_line(line: Line) {
     let numbers = line.numbers;
-    answer(Position {
-        man: numbers[0],
-        side: numbers[1],
-        white: numbers[2],
-        square: numbers[3],
-        black: numbers[4],
-    });
+    answer(lone(numbers[0], numbers[1], numbers[2], numbers[3], numbers[4]));
 }
 
 fn answer_all(input: &[u8]) {

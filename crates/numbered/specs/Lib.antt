@@ -1,4 +1,2 @@
 pub mod Numbered
-pub mod Acceptance
-pub mod Passing
-pub mod Filling
+pub mod laws

@@ -1,5 +1,5 @@
 -- A table over numbered positions of any game: what its bytes stand for, when it is accepted, when it is true, and filling it by passes
--- (01, "Values and the table's bytes"). One set of definitions for every size of table. Definitions only. Assumes nothing.
+-- (01, "Values and the table's bytes"). One set of definitions for every size of table. Definitions only.
 use mathlib.Core.Path.{_≡_}
 use mathlib.Core.Bool.{Bool, false, cond, not, _&&_}
 use mathlib.Core.List.{List}
@@ -14,27 +14,34 @@ use Rattle.theory.specs.Value.{TrueByte}
 use Rattle.theory.specs.Required.{requiredAt, Closed}
 use Rattle.theory.specs.Alike.{Alike}
 
--- Positions D with numbers below `size`. A class of positions that go alike has one number; `at` gives one position of it. Positions of D
--- without a number (after a capture) are read elsewhere: their bytes are true.
-pub record Numbering (G : Game) : Type 1 where
-  pub D : G .Pos → Type 0
-  pub closed : Closed G D
+-- How the positions of a table are numbered: below `size`, one number for each class of positions that go alike, `at` giving one position of it. A
+-- position without a number (after a capture) is read elsewhere. No law is asked here, so that tables that nobody accepted yet may be read there.
+pub record Numbering (G : Game) : Type 0 where
   pub size : ℕ
   pub inside : G .Pos → Bool  -- the position has a number
   pub number : G .Pos → ℕ
   pub at : ℕ → G .Pos
-  pub live : ℕ → Bool  -- the number is used, and its position is one of D
-  pub number-live : (p : G .Pos) → D p → T (inside p) → (number p < size) × T (live (number p))
-  pub live-at : (n : ℕ) → n < size → T (live n) → D (at n) × T (inside (at n)) × (number (at n) ≡ n)
+  pub live : ℕ → Bool  -- the number is used, and its position is legal
   pub outer : G .Pos → ℕ  -- the byte of a position without a number
-  pub outer-true : (p : G .Pos) → D p → inside p ≡ false → TrueByte G p (outer p)
-  pub outer-next : (p q : G .Pos) → D p → inside p ≡ false → q ∈ next G p → inside q ≡ false
+
+-- The laws of a numbering: the positions D, closed under moves, have live numbers that lead back to a position that goes alike, and a move from a
+-- position without a number leads to another such.
+pub record Lawful (G : Game) (N : Numbering G) : Type 1 where
+  pub D : G .Pos → Type 0
+  pub closed : Closed G D
+  pub number-live : (p : G .Pos) → D p → T (N .inside p) → (N .number p < N .size) × T (N .live (N .number p))
+  pub live-at : (n : ℕ) → n < N .size → T (N .live n) → D (N .at n) × T (N .inside (N .at n)) × (N .number (N .at n) ≡ n)
+  pub outer-next : (p q : G .Pos) → D p → N .inside p ≡ false → q ∈ next G p → N .inside q ≡ false
   pub Same : G .Pos → G .Pos → Type 0  -- the positions go alike
   pub alike : Alike G G Same
-  pub same-inside : (p q : G .Pos) → Same p q → inside p ≡ inside q
-  pub same-number : (p q : G .Pos) → Same p q → T (inside p) → number p ≡ number q
-  pub same-outer : (p q : G .Pos) → Same p q → inside p ≡ false → outer p ≡ outer q
-  pub same-at : (p : G .Pos) → D p → T (inside p) → Same p (at (number p))
+  pub same-inside : (p q : G .Pos) → Same p q → N .inside p ≡ N .inside q
+  pub same-number : (p q : G .Pos) → Same p q → T (N .inside p) → N .number p ≡ N .number q
+  pub same-outer : (p q : G .Pos) → Same p q → N .inside p ≡ false → N .outer p ≡ N .outer q
+  pub same-at : (p : G .Pos) → D p → T (N .inside p) → Same p (N .at (N .number p))
+
+-- what is read elsewhere is true
+abbrev pub OuterTrue : (G : Game) (N : Numbering G) → Lawful G N → Type 0
+OuterTrue G N L = (p : G .Pos) → L .D p → N .inside p ≡ false → TrueByte G p (N .outer p)
 
 -- How filling ends: no position is decided (which is not depth 0), or the greatest depth, or a depth above 253.
 pub data Result : Type 0 where

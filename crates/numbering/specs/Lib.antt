@@ -2,9 +2,4 @@ pub mod Kings
 pub mod Normal
 pub mod Number
 pub mod KingMaps
-pub mod PairLaws
-pub mod MenLaws
-pub mod Numberable
-pub mod NormalLaws
-pub mod ClassLaws
-pub mod AtLaws
+pub mod laws

@@ -1,4 +1,4 @@
--- Normal boards, one of each class, and the map that makes a board normal (01, "The number of a position"). Definitions only. Assumes nothing.
+-- Normal boards, one of each class, and the map that makes a board normal (01, "The number of a position"). Definitions only.
 use mathlib.Core.Bool.{Bool, false, not, _&&_, _||_}
 use mathlib.Core.List.{List, [], _∷_}
 use Prim.Native.Nat.{ℕ, _/_, _%_}

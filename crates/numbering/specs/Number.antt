@@ -1,4 +1,4 @@
--- The number of a board with any list of men, and the board of a number (01, "The number of a position"). Definitions only. Assumes nothing.
+-- The number of a board with any list of men, and the board of a number (01, "The number of a position"). Definitions only.
 use mathlib.Core.Bool.{Bool, false, _&&_}
 use mathlib.Core.List.{List, [], _∷_, map}
 use Prim.Native.Nat.{ℕ, _+_, _*_, _/_, _%_}

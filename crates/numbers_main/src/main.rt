@@ -1,7 +1,9 @@
 // Goes over all numbers of each man, and back, and prints counts and checksums as the second program does.
 use index::Numbered;
 use index::Placed;
+use index::TABLE_SIZE;
 use position::Position;
+use position::man_in;
 use std::num::wrapping_add_u32;
 
 // The used numbers of each side, the unused ones, a checksum of the positions and one of their numbers.
@@ -20,9 +22,10 @@ fn folded(sum: u64, value: u32) -> u64 {
 
 fn with_position(sum: u64, p: Position) -> u64 {
     let side = folded(sum, p.side as u32);
-    let white = folded(side, p.white as u32);
-    let square = folded(white, p.square as u32);
-    folded(square, p.black as u32)
+    let first = p.first;
+    let white = folded(side, p.white_king as u32);
+    let square = folded(white, man_in(first).square as u32);
+    folded(square, p.black_king as u32)
 }
 
 // The position's number; a refusal shows as a number that none has.
@@ -77,7 +80,7 @@ fn counted(man: u8) -> Tally {
         numbers: 1,
     };
     let mut n: u32 = 0;
-    while n < 59136 {
+    while n < TABLE_SIZE as u32 {
         t = with_number(t, man, n);
         n += 1;
     }

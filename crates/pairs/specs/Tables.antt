@@ -1,5 +1,5 @@
 -- The constant lists of the pairs of kings, as the code has them (01: "A constant list gives the pair for each of the ten white squares and 64
--- black squares, or says that there is none"). Definitions only. Assumes nothing.
+-- black squares, or says that there is none"). Definitions only.
 use mathlib.Core.Bool.{cond}
 use mathlib.Core.List.{List, [], _∷_}
 use Prim.Native.Nat.{ℕ, zero, suc, _+_, _-_, _*_, _/_, _%_}

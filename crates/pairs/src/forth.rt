@@ -1,10 +1,11 @@
 // The pair of two kings' squares, by a constant list.
+use super::PairList;
 ghost use mathlib.Core.Path.{_≡_};
 ghost use Rattle.numbering.specs.Kings.{pairOf};
 ghost use Rattle.pairs.specs.Tables.{slotOf, pairs, pairIn};
 
 // The pair for each of the ten white squares and 64 black squares; 65535: there is none.
-const PAIRS: [u16; 640] = [
+const PAIRS: PairList = [
     65535,
     65535,
     0,
@@ -648,7 +649,7 @@ const PAIRS: [u16; 640] = [
 ];
 
 // The list itself. The back end builds a constant anew at each place that reads it; who reads it often makes it once and lends it.
-pub fn pair_list() -> [u16; 640]
+pub fn pair_list() -> PairList
     ensures { λ r. ⌜ r ≡ pairs ⌝ }
 {
     PAIRS
@@ -670,7 +671,7 @@ fn slot_of(white: u8) -> u8
 }
 
 // The pair of any two bytes by a lent list; 65535 where they are no two squares that the list speaks of.
-pub fn pair_in(list: &[u16; 640], white: u8, black: u8) -> u16
+pub fn pair_in(list: &PairList, white: u8, black: u8) -> u16
     ensures { λ r. ⌜ r ≡ pairIn (now (list .entry)) white black ⌝ }
 {
     let slot = slot_of(white);

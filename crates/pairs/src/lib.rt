@@ -6,3 +6,9 @@ pub use back::kings_of;
 pub use forth::pair_in;
 pub use forth::pair_list;
 pub use forth::pair_of;
+
+// How many pairs there are.
+pub const PAIR_COUNT: u32 = 462;
+
+// The pair for each of the ten white squares and 64 black squares.
+pub type PairList = [u16; 640];

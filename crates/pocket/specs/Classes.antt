@@ -1,5 +1,4 @@
--- The classes of a table's bytes that a pocket tells apart: 0, a draw, a win (3, 5, .. 255) and a loss (2, 4, .. 254). Definitions only. Assumes
--- nothing.
+-- The classes of a table's bytes that a pocket tells apart: 0, a draw, a win (3, 5, .. 255) and a loss (2, 4, .. 254). Definitions only.
 use mathlib.Core.Path.{_≡_}
 use mathlib.Core.Bool.{Bool, _&&_}
 use mathlib.Core.Logic.{_↔_}

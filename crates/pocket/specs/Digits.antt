@@ -1,4 +1,4 @@
--- A number's digits to base 4, the lowest first. Definitions only. Assumes nothing.
+-- A number's digits to base 4, the lowest first. Definitions only.
 use Prim.Native.Nat.{ℕ, zero, suc, _+_, _*_, _/_, _%_}
 use lib.Dec.{eqb}
 use Rattle.board.specs.Sets.{digit}

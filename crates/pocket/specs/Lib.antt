@@ -4,13 +4,4 @@ pub mod Classes
 pub mod Digits
 pub mod Tally
 pub mod Rows
-pub mod PackLaws
-pub mod LookUpLaws
-pub mod RowLaws
-pub mod Unpacking
-pub mod Agreement
-pub mod Refusals
-pub mod DigitLaws
-pub mod WordLaws
-pub mod TallyLaws
-pub mod PackedTallies
+pub mod laws

@@ -1,4 +1,4 @@
--- The pocket edition of a table (02, P1): what packing and the pocket look-up answer. Definitions only. Assumes nothing.
+-- The pocket edition of a table (02, P1): what packing and the pocket look-up answer. Definitions only.
 use mathlib.Core.Bool.{cond, not}
 use mathlib.Core.List.{List}
 use Prim.Native.Nat.{ℕ, _+_, _*_, _/_, _%_, _^_}
@@ -6,7 +6,8 @@ use lib.Dec.{leb, eqb}
 use lib.ListN.{length, getD}
 use Rattle.finite.specs.Mapped.{mapFrom}
 use Rattle.position.specs.declared.Position.{Position}
-use Rattle.position.specs.Keyed.{boardOf, standing}
+use Rattle.position.specs.Keyed.{boardOf}
+use Rattle.position.specs.Refusals.{standing}
 use Rattle.numbering.specs.Number.{numberOf}
 use Rattle.answers.specs.declared.Answer.{Answer}
 use Rattle.answers.specs.declared.Answer.the-variants.{Win, Loss, Draw, Refused}

@@ -1,4 +1,4 @@
--- The pair of two kings by rows of bits, a second way to it beside the list of 640 entries. Definitions only. Assumes nothing.
+-- The pair of two kings by rows of bits, a second way to it beside the list of 640 entries. Definitions only.
 use mathlib.Core.Bool.{cond}
 use Prim.Native.Nat.{ℕ, _+_, _/_, _%_, _^_}
 use lib.Dec.{eqb}

@@ -1,4 +1,4 @@
--- The pocket's four tallies (02, P1: "each the exact count of numbers with one of the four entries"). Definitions only. Assumes nothing.
+-- The pocket's four tallies (02, P1: "each the exact count of numbers with one of the four entries"). Definitions only.
 use mathlib.Core.Path.{_≡_}
 use mathlib.Core.Bool.{Bool, cond, not}
 use mathlib.Core.List.{List}

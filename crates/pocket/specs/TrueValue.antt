@@ -1,4 +1,4 @@
--- The true value of a board, by the rules of chess; no table is spoken of. Definitions only. Assumes nothing.
+-- The true value of a board, by the rules of chess; no table is spoken of. Definitions only.
 use mathlib.Core.Path.{_≡_}
 use Prim.Native.Nat.{ℕ}
 use Rattle.theory.specs.Value.{WonIn, LostIn, Drawn}

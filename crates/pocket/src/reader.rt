@@ -1,8 +1,10 @@
 // Looking a position up in its ending's pocket.
 use super::rows::number_by_rows;
 use crate::PocketAnswer;
-use listing::standing_refusal;
+use position::INCONSISTENT;
 use position::Position;
+use position::TABLE_LENGTH;
+use position::standing_refusal;
 ghost use mathlib.Core.Path.{_≡_};
 ghost use Rattle.pocket.specs.Pocket.{entryAt, toldBy, entryTells, pocketLookUpOf};
 
@@ -24,7 +26,7 @@ fn answer(entry: u8) -> PocketAnswer
     ensures { λ r. ⌜ toldBy r ≡ entryTells entry ⌝ }
 {
     if entry == 0 {
-        return PocketAnswer::Refused(11);
+        return PocketAnswer::Refused(INCONSISTENT);
     }
     if entry == 1 {
         return PocketAnswer::Draw;
@@ -44,7 +46,7 @@ pub fn look_up(pocket: &[u8], p: Position) -> PocketAnswer
         return PocketAnswer::Refused(refusal);
     }
     if pocket.len() != POCKET_SIZE {
-        return PocketAnswer::Refused(7);
+        return PocketAnswer::Refused(TABLE_LENGTH);
     }
     answer(entry_at(pocket, number_by_rows(p)))
 }

@@ -1,4 +1,5 @@
 // The number of a position by rows of bits, one for each of the ten squares of the white king: no list is built to read one pair.
+use index::key_of;
 use position::Position;
 ghost use mathlib.Core.Path.{_≡_};
 ghost use Prim.Native.Nat.{_≤_};
@@ -66,6 +67,5 @@ pub fn number_by_rows(p: Position) -> u32
     ensures { λ r. ⌜ r ≡ numberOf (boardOf p) ⌝ }
 {
     let n = p.normalised();
-    let pair = pair_of(n.white, n.black);
-    (n.side as u32 * 462 + pair as u32) * 64 + n.square as u32
+    key_of(n, pair_of(n.white_king, n.black_king))
 }

@@ -1,24 +1,36 @@
--- A position as keyed, the board it stands for, and its refusals (01, "When the desk says no"). Definitions only. Assumes nothing.
-use mathlib.Core.Bool.{cond, _||_}
-use mathlib.Core.List.{[], _∷_}
-use Prim.Native.Nat.{ℕ, _-_}
-use lib.Dec.{leb, eqb}
-use Rattle.rules.specs.Rules.{Board, pieceOf, touching, inCheck}
+-- A position as keyed, and the board it stands for. Definitions only.
+use mathlib.Core.List.{List, [], _∷_, _++_}
+use Prim.Native.Nat.{ℕ}
+use Rattle.rules.specs.declared.Piece.{Piece}
+use Rattle.rules.specs.Rules.{Board, pieceOf}
+use Rattle.position.specs.declared.Slot.{Slot}
+use Rattle.position.specs.declared.Slot.the-variants.{Absent, Present}
 use Rattle.position.specs.declared.Position.{Position}
 
--- two kings and one white man
+-- the men in a slot
+abbrev pub slotMen : Slot → List Piece
+slotMen Absent = []
+slotMen (Present m) = m ∷ []
+
 unfoldable pub boardOf : Position → Board
-boardOf p = record { side = p .side; white = p .white; black = p .black; men = pieceOf (p .man) 0 (p .square) ∷ [] }
+boardOf p = record { side = p .side; white = p .«white_king»; black = p .«black_king»; men = slotMen (p .first) ++ slotMen (p .second) }
 
--- Refusals 1 to 5, which numbering asks: the lowest that applies, 0 where none does.
-unfoldable pub placing : Position → ℕ
-placing p =
-    cond (leb 4 (p .man)) 1
-    (cond (leb 2 (p .side)) 2
-    (cond (leb 64 (p .white) || (leb 64 (p .square) || leb 64 (p .black))) 3
-    (cond (eqb (p .white) (p .square) || (eqb (p .white) (p .black) || eqb (p .square) (p .black))) 4
-    (cond (touching (boardOf p)) 5 0))))
+-- two kings and one man, White's: his kind, the side to move, the white king's square, the man's, the black king's
+abbrev pub lone : ℕ → ℕ → ℕ → ℕ → ℕ → Position
+lone kind side white square black = record { side = side; «white_king» = white; «black_king» = black; first = Present (pieceOf kind 0 square); second = Absent }
 
--- Refusals 1 to 6, which the move list and look-up ask: 6 where the side not to move is in check.
-unfoldable pub standing : Position → ℕ
-standing p = cond (eqb (placing p) 0) (cond (inCheck (boardOf p) (1 - p .side)) 6 0) (placing p)
+-- an absent man: off the board, with no steps
+abbrev pub nobody : Piece
+nobody = pieceOf 4 0 64
+
+-- the man in a slot
+abbrev pub manOf : Slot → Piece
+manOf Absent = nobody
+manOf (Present m) = m
+
+-- the first man's kind and square
+abbrev pub kindOf : Position → ℕ
+kindOf p = manOf (p .first) .kind
+
+abbrev pub squareOf : Position → ℕ
+squareOf p = manOf (p .first) .square

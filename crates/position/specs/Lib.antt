@@ -1,5 +1,6 @@
 pub mod Keyed
+pub mod Refusals
+pub mod Over
+pub mod Pieces
 pub mod Maps
-pub mod MapLaws
-pub mod PlacedLaws
-pub mod Legality
+pub mod laws

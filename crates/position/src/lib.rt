@@ -1,45 +1,115 @@
 // A position as it is keyed, the refusals it may meet, and the position under the board's maps.
-use board::has;
-use board::targets;
+use rules::Piece;
 ghost use mathlib.Core.Path.{_≡_};
-ghost use Rattle.position.specs.Keyed.{placing};
+ghost use Prim.Native.Nat.{_-_};
+ghost use Rattle.position.specs.Keyed.{manOf, lone as loneOf};
 
+mod attack;
 mod maps;
+mod occupancy;
+mod refusals;
 
+pub use attack::attack_set;
+pub use attack::attacked_over;
+pub use attack::in_check;
+pub use attack::king_square;
 pub use maps::transposed;
+pub use occupancy::occupied;
+pub use occupancy::own;
+pub use occupancy::pieces_of;
+pub use refusals::placing_refusal;
+pub use refusals::standing_refusal;
 
-// As keyed: any bytes may come in.
-pub struct Position {
-    pub man: u8,
-    pub side: u8,
-    pub white: u8,
-    pub square: u8,
-    pub black: u8,
+// The numbers of the refusals.
+pub const BAD_MAN: u8 = 1;
+
+pub const BAD_SIDE: u8 = 2;
+
+pub const BAD_SQUARE: u8 = 3;
+
+pub const SHARED_SQUARE: u8 = 4;
+
+pub const KINGS_TOUCH: u8 = 5;
+
+pub const OTHER_IN_CHECK: u8 = 6;
+
+pub const TABLE_LENGTH: u8 = 7;
+
+pub const NUMBER_TOO_HIGH: u8 = 8;
+
+pub const NUMBER_UNUSED: u8 = 9;
+
+pub const TOO_DEEP: u8 = 10;
+
+pub const INCONSISTENT: u8 = 11;
+
+pub const BAD_LINE: u8 = 12;
+
+pub const BAD_CHECK: u8 = 13;
+
+pub const WRONG_SET: u8 = 14;
+
+pub const NOT_IN_SET: u8 = 15;
+
+pub const TOO_MANY_PLIES: u8 = 16;
+
+// Room for a piece besides the kings.
+pub enum Slot {
+    Absent,
+    Present(Piece),
 }
 
-// Refusals 1 to 5, the lowest that applies; 0 where none does.
-pub fn placing_refusal(p: Position) -> u8
-    ensures { λ r. ⌜ r ≡ placing p ⌝ }
+// The side to move, the kings' squares, and up to two men. As keyed: any bytes may come in.
+pub struct Position {
+    pub side: u8,
+    pub white_king: u8,
+    pub black_king: u8,
+    pub first: Slot,
+    pub second: Slot,
+}
+
+// The same, each as a piece; an absent one stands off the board and has no steps.
+pub struct Pieces {
+    pub white: Piece,
+    pub black: Piece,
+    pub first: Piece,
+    pub second: Piece,
+}
+
+// The position with one man, White's.
+pub fn lone(kind: u8, side: u8, white: u8, square: u8, black: u8) -> Position
+    ensures { λ r. ⌜ r ≡ loneOf kind side white square black ⌝ }
 {
-    let man = p.man;
-    let side = p.side;
-    let white = p.white;
-    let square = p.square;
-    let black = p.black;
-    if 4 <= man {
-        return 1;
+    Position {
+        side,
+        white_king: white,
+        black_king: black,
+        first: Slot::Present(Piece {
+            kind,
+            colour: 0,
+            square,
+        }),
+        second: Slot::Absent,
     }
-    if 2 <= side {
-        return 2;
+}
+
+// The man in a slot; one that stands off the board where there is none.
+pub fn man_in(slot: Slot) -> Piece
+    ensures { λ r. ⌜ r ≡ manOf slot ⌝ }
+{
+    match slot {
+        Slot::Absent => Piece {
+            kind: 4,
+            colour: 0,
+            square: 64,
+        },
+        Slot::Present(m) => m,
     }
-    if (64 <= white) | ((64 <= square) | (64 <= black)) {
-        return 3;
-    }
-    if (white == square) | ((white == black) | (square == black)) {
-        return 4;
-    }
-    if has(targets(0, 5, white), black) {
-        return 5;
-    }
-    0
+}
+
+// The other side.
+pub fn other(side: u8) -> u8
+    ensures { λ r. ⌜ r ≡ 1 - side ⌝ }
+{
+    if side == 0 { 1 } else { 0 }
 }

@@ -1,10 +1,13 @@
 // A position under the board's maps. What is off the board stays where it is.
 use crate::Position;
+use crate::Slot;
+use rules::Piece;
 ghost use mathlib.Core.Path.{_≡_};
+ghost use mathlib.Core.List.{_++_};
 ghost use Rattle.symmetry.specs.Symmetry.{mapped, filesReversed, ranksReversed, exchange};
-ghost use Rattle.numbering.specs.Normal.{turn, swaps as swapsOf};
-ghost use Rattle.position.specs.Keyed.{boardOf};
-ghost use Rattle.position.specs.Maps.{mappedPosition, normalPosition};
+ghost use Rattle.numbering.specs.Normal.{firstAbove, turn, swaps as swapsOf};
+ghost use Rattle.position.specs.Keyed.{slotMen, boardOf};
+ghost use Rattle.position.specs.Maps.{mappedSlot, mappedPosition, normalPosition};
 
 // The square with its file reversed.
 fn file_reversed(s: u8) -> u8
@@ -36,48 +39,119 @@ pub fn transposed(s: u8) -> u8
     s % 8 * 8 + s / 8
 }
 
+// The men in a slot, likewise.
+fn slot_file_reversed(slot: Slot) -> Slot
+    ensures { λ r. ⌜ r ≡ mappedSlot filesReversed slot ⌝ }
+{
+    match slot {
+        Slot::Absent => Slot::Absent,
+        Slot::Present(m) => Slot::Present(Piece {
+            kind: m.kind,
+            colour: m.colour,
+            square: file_reversed(m.square),
+        }),
+    }
+}
+
+fn slot_rank_reversed(slot: Slot) -> Slot
+    ensures { λ r. ⌜ r ≡ mappedSlot ranksReversed slot ⌝ }
+{
+    match slot {
+        Slot::Absent => Slot::Absent,
+        Slot::Present(m) => Slot::Present(Piece {
+            kind: m.kind,
+            colour: m.colour,
+            square: rank_reversed(m.square),
+        }),
+    }
+}
+
+fn slot_transposed(slot: Slot) -> Slot
+    ensures { λ r. ⌜ r ≡ mappedSlot exchange slot ⌝ }
+{
+    match slot {
+        Slot::Absent => Slot::Absent,
+        Slot::Present(m) => Slot::Present(Piece {
+            kind: m.kind,
+            colour: m.colour,
+            square: transposed(m.square),
+        }),
+    }
+}
+
+// Whether the man in the slot stands above the diagonal.
+fn is_above(slot: Slot) -> bool
+    ensures { λ r. ⌜ r ≡ firstAbove (slotMen slot) ⌝ }
+{
+    match slot {
+        Slot::Absent => false,
+        Slot::Present(m) => m.square % 8 < m.square / 8,
+    }
+}
+
+// Whether the first man off the diagonal does.
+fn men_above(first: Slot, second: Slot) -> bool
+    ensures { λ r. ⌜ r ≡ firstAbove (slotMen first ++ slotMen second) ⌝ }
+{
+    match first {
+        Slot::Absent => is_above(second),
+        Slot::Present(m) => {
+            if m.square % 8 == m.square / 8 {
+                return is_above(second);
+            }
+            m.square % 8 < m.square / 8
+        },
+    }
+}
+
 impl Position {
     pub fn files_reversed(self) -> Position
         ensures { λ r. ⌜ r ≡ mappedPosition filesReversed self ⌝ }
     {
+        let first = self.first;
+        let second = self.second;
         Position {
-            man: self.man,
             side: self.side,
-            white: file_reversed(self.white),
-            square: file_reversed(self.square),
-            black: file_reversed(self.black),
+            white_king: file_reversed(self.white_king),
+            black_king: file_reversed(self.black_king),
+            first: slot_file_reversed(first),
+            second: slot_file_reversed(second),
         }
     }
 
     pub fn ranks_reversed(self) -> Position
         ensures { λ r. ⌜ r ≡ mappedPosition ranksReversed self ⌝ }
     {
+        let first = self.first;
+        let second = self.second;
         Position {
-            man: self.man,
             side: self.side,
-            white: rank_reversed(self.white),
-            square: rank_reversed(self.square),
-            black: rank_reversed(self.black),
+            white_king: rank_reversed(self.white_king),
+            black_king: rank_reversed(self.black_king),
+            first: slot_rank_reversed(first),
+            second: slot_rank_reversed(second),
         }
     }
 
     pub fn exchanged(self) -> Position
         ensures { λ r. ⌜ r ≡ mappedPosition exchange self ⌝ }
     {
+        let first = self.first;
+        let second = self.second;
         Position {
-            man: self.man,
             side: self.side,
-            white: transposed(self.white),
-            square: transposed(self.square),
-            black: transposed(self.black),
+            white_king: transposed(self.white_king),
+            black_king: transposed(self.black_king),
+            first: slot_transposed(first),
+            second: slot_transposed(second),
         }
     }
 
     // The white king on the files a to d and the ranks 1 to 4.
     fn turned(self) -> Position
-        ensures { λ r. ⌜ r ≡ mappedPosition (turn (self .white)) self ⌝ }
+        ensures { λ r. ⌜ r ≡ mappedPosition (turn (self .«white_king»)) self ⌝ }
     {
-        let white = self.white;
+        let white = self.white_king;
         if 3 < white % 8 {
             let p = self.files_reversed();
             if 3 < white / 8 {
@@ -95,9 +169,10 @@ impl Position {
     fn swaps(self) -> bool
         ensures { λ r. ⌜ r ≡ swapsOf (boardOf self) ⌝ }
     {
-        let white = self.white;
-        let square = self.square;
-        let black = self.black;
+        let white = self.white_king;
+        let black = self.black_king;
+        let first = self.first;
+        let second = self.second;
         if white % 8 < white / 8 {
             return true;
         }
@@ -110,7 +185,7 @@ impl Position {
         if black % 8 != black / 8 {
             return false;
         }
-        square % 8 < square / 8
+        men_above(first, second)
     }
 
     // The normal position of the same class.

@@ -1,4 +1,4 @@
--- Chess as a game of `theory`, its moves one by one, and its sixteen symmetries: a legal board and its images have one value. Assumes nothing.
+-- Chess as a game of `theory`, its moves one by one, and its sixteen symmetries: a legal board and its images have one value.
 use mathlib.Core.Path.{_≡_, refl, sym, ap, ap₂, _∙_, subst}
 use mathlib.Core.Bool.{Bool, true, false, cond, not, _&&_}
 use mathlib.Core.List.{List, [], _∷_, List·Memᴰ·head, List·Memᴰ·not-nil}
@@ -10,16 +10,18 @@ use Rattle.finite.specs.Truth.{and-right, same-test}
 use Rattle.finite.specs.Members.{_∈_, map-in, map-out}
 use Rattle.theory.specs.Game.{Game, next}
 use Rattle.theory.specs.Value.{won, lost, TrueByte}
-use Rattle.theory.specs.Alike.{Alike, Automorphism, automorphism-alike, alike-won, alike-lost, alike-byte}
+use Rattle.theory.specs.Alike.{Alike, Automorphism}
+use Rattle.theory.specs.laws.Alike.{automorphism-alike, alike-won, alike-lost, alike-byte}
 use Rattle.symmetry.specs.Symmetry.{Symmetry, mapped, inverse}
 use Rattle.rules.specs.declared.Move.{Move}
 use Rattle.rules.specs.Rules.{Board, empty, inCheck, legal, moved, canMove, moveOf, allMoves, moves, mated}
-use Rattle.rules.specs.MoveLists.{in-allMoves, of-allMoves}
-use Rattle.rules.specs.Legal.{legal-facts}
-use Rattle.rules.specs.CanMove.{can-on}
-use Rattle.rules.specs.Closed.{closed, moved-side}
-use Rattle.rules.specs.Changed.{changed, changed-back, changed-forth}
-use Rattle.rules.specs.ChangedRules.{legal-changed, check-changed, moved-changed, canMove-changed, bare-changed}
+use Rattle.rules.specs.laws.MoveLists.{in-allMoves, of-allMoves}
+use Rattle.rules.specs.laws.Legal.{legal-facts}
+use Rattle.rules.specs.laws.CanMove.{can-on}
+use Rattle.rules.specs.laws.Closed.{closed, moved-side}
+use Rattle.rules.specs.Changed.{changed}
+use Rattle.rules.specs.laws.Changed.{changed-back, changed-forth}
+use Rattle.rules.specs.laws.ChangedRules.{legal-changed, check-changed, moved-changed, canMove-changed, bare-changed}
 
 empty-nil : {A : Type 0} (l : List A) → T (empty l) → l ≡ []
 empty-nil [] t = refl

@@ -1,9 +1,5 @@
 pub mod Rules
-pub mod Legal
-pub mod MoveLists
-pub mod CanMove
-pub mod Closed
-pub mod Taken
 pub mod Changed
-pub mod ChangedRules
 pub mod Chess
+pub mod Reordered
+pub mod laws

@@ -1,6 +1,6 @@
 -- The rules of chess (FIDE Laws, articles 1 to 3) over a board with any list of pieces besides the kings; no pawn, castling or claims.
 -- Sides and colours: White 0, Black 1. Kinds: queen 0, rook 1, bishop 2, knight 3, king 5. Total: any numbers have a meaning.
--- Definitions only. Assumes nothing.
+-- Definitions only.
 use mathlib.Core.Bool.{Bool, true, false, cond, not, _&&_}
 use mathlib.Core.List.{List, [], _∷_, map, flatMap}
 use Prim.Native.Nat.{ℕ, _-_}
@@ -117,9 +117,21 @@ canMove b from to = goes b from to && not (stands b (b .side) to) && not (inChec
 abbrev pub moveOf : ℕ → ℕ → Move
 moveOf from to = record { from = from; to = to }
 
--- the moves from a square, by target
+-- what an unused place of a list holds
+abbrev pub zeroMove : Move
+zeroMove = moveOf 0 0
+
+-- the moves from a square to a target: one
+abbrev pub movesTo : ℕ → ℕ → List Move
+movesTo from to = moveOf from to ∷ []
+
+-- the moves from a square to each of some targets
+unfoldable pub movesOnto : ℕ → List ℕ → List Move
+movesOnto from targets = flatMap (movesTo from) targets
+
+-- the legal moves from a square, by target
 unfoldable pub movesFrom : (ℕ → ℕ → Bool) → ℕ → List Move
-movesFrom can from = map (moveOf from) (filter (can from) squares)
+movesFrom can from = movesOnto from (filter (can from) squares)
 
 -- "Moves are listed by from-square, then to-square" (01)
 unfoldable pub allMoves : (ℕ → ℕ → Bool) → List Move

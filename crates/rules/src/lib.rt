@@ -1,3 +1,6 @@
+ghost use mathlib.Core.Path.{_≡_};
+ghost use Rattle.rules.specs.Rules.{moveOf};
+
 // A piece on a square. Kinds: queen 0, rook 1, bishop 2, knight 3, king 5. Colours: White 0, Black 1.
 pub struct Piece {
     pub kind: u8,
@@ -9,4 +12,14 @@ pub struct Piece {
 pub struct Move {
     pub from: u8,
     pub to: u8,
+}
+
+// What an unused place of a list holds.
+pub const ZERO_MOVE: Move = Move { from: 0, to: 0 };
+
+// The maker of moves.
+pub fn move_of(from: u8, to: u8) -> Move
+    ensures { λ r. ⌜ r ≡ moveOf from to ⌝ }
+{
+    Move { from, to }
 }

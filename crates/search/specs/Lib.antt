@@ -1,12 +1,4 @@
 pub mod Tried
-pub mod MoverLaws
-pub mod CheckLaws
-pub mod TriedLaws
-pub mod WithinLaws
 pub mod Opinions
-pub mod OpinionLaws
 pub mod TrueOpinion
-pub mod Exactly
-pub mod Sixteen
-pub mod Agreement
-pub mod Stalemate
+pub mod laws

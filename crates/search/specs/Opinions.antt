@@ -1,5 +1,5 @@
 -- The second opinion on a position as keyed (02, P7): "For k from 0 to 6 it answers the exact depth if at most k, else 'not within k'; a larger
--- k is refusal 16, and 1 to 6 are asked too." Definitions only. Assumes nothing.
+-- k is refusal 16, and 1 to 6 are asked too." Definitions only.
 use mathlib.Core.Bool.{Bool, cond, _||_}
 use Prim.Native.Nat.{ℕ, suc, _%_}
 use lib.Dec.{eqb, leb}
@@ -8,7 +8,8 @@ use Rattle.theory.specs.Value.{won, lost}
 use Rattle.rules.specs.Rules.{Board}
 use Rattle.rules.specs.Chess.{chess}
 use Rattle.position.specs.declared.Position.{Position}
-use Rattle.position.specs.Keyed.{boardOf, standing}
+use Rattle.position.specs.Keyed.{boardOf}
+use Rattle.position.specs.Refusals.{standing}
 use Rattle.search.specs.declared.Opinion.{Opinion}
 
 -- the most plies that may be asked

@@ -1,7 +1,7 @@
 -- What the search goes through: the squares where moves start, the moves left to try, what they are tried for, and aim at a king.
--- Definitions only. Assumes nothing.
+-- Definitions only.
 use mathlib.Core.Bool.{Bool, cond, _&&_}
-use mathlib.Core.List.{List, _++_, map, flatMap}
+use mathlib.Core.List.{List, _++_, flatMap}
 use Prim.Native.Nat.{ℕ, _-_}
 use lib.Dec.{T, eqb}
 use Rattle.theory.specs.Value.{won, lost}
@@ -9,10 +9,10 @@ use Rattle.board.specs.Reach.{reaches}
 use Rattle.board.specs.Sets.{has, members, setOf}
 use Rattle.rules.specs.declared.Piece.{Piece}
 use Rattle.rules.specs.declared.Move.{Move}
-use Rattle.rules.specs.Rules.{Board, empty, inCheck, stands, moved, moveOf, movesFrom, canMove}
+use Rattle.rules.specs.Rules.{Board, empty, inCheck, stands, moved, movesOnto, movesFrom, canMove}
 use Rattle.rules.specs.Chess.{chess, played}
-use Rattle.moves.specs.declared.Setup.{Setup}
-use Rattle.moves.specs.Setups.{setupBoard}
+use Rattle.position.specs.declared.Position.{Position}
+use Rattle.position.specs.Keyed.{boardOf}
 
 -- the squares of the pieces of the side to move; with bare kings the game is over (01, "Games")
 unfoldable pub moversOf : Board → ℕ
@@ -24,7 +24,7 @@ movesOn b rest = flatMap (movesFrom (canMove b)) (members rest)
 
 -- the moves from a square to those targets that are left, and then those of the movers that are left
 unfoldable pub movesLeft : Board → ℕ → ℕ → ℕ → List Move
-movesLeft b from targets rest = map (moveOf from) (members targets) ++ movesOn b rest
+movesLeft b from targets rest = movesOnto from (members targets) ++ movesOn b rest
 
 -- a move leaves the other side lost, or won, within k - 1
 abbrev pub losing : ℕ → Board → Move → Bool
@@ -38,5 +38,5 @@ abbrev pub aims : (ℕ → Bool) → ℕ → ℕ → ℕ → Piece → Bool
 aims occ from at t m = eqb (m .square) from && reaches occ (m .kind) at t
 
 -- the set holds each target of a legal move from a square that gives check
-abbrev pub HoldsChecks : Setup → ℕ → ℕ → Type 0
-HoldsChecks s from set = (t : ℕ) → T (canMove (setupBoard s) from t) → T (inCheck (moved (setupBoard s) from t) (1 - s .side)) → T (has set t)
+abbrev pub HoldsChecks : Position → ℕ → ℕ → Type 0
+HoldsChecks s from set = (t : ℕ) → T (canMove (boardOf s) from t) → T (inCheck (moved (boardOf s) from t) (1 - s .side)) → T (has set t)

@@ -1,4 +1,4 @@
--- What is true of a second opinion, by the rules of chess and by a table's look-up. Definitions only. Assumes nothing.
+-- What is true of a second opinion, by the rules of chess and by a table's look-up. Definitions only.
 use mathlib.Core.Path.{_≡_}
 use mathlib.Core.Bool.{cond}
 use mathlib.Core.Logic.{_↔_}

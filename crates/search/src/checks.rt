@@ -1,21 +1,20 @@
 // Moves that may give check: for the last ply only these are tried, since mate is check.
 use board::targets;
 use board::without;
-use moves::Setup;
-use moves::Slot;
-use moves::attacked_over;
-use moves::king_square;
 use moves::legal_targets;
-use moves::occupied;
-use moves::other;
+use position::Position;
+use position::Slot;
+use position::attacked_over;
+use position::king_square;
+use position::occupied;
+use position::other;
 use rules::Piece;
 ghost use mathlib.Core.Path.{_≡_};
-ghost use mathlib.Core.List.{map};
 ghost use Prim.Native.Nat.{ℕ, _<_};
 ghost use Rattle.finite.specs.Members.{any};
 ghost use Rattle.board.specs.Sets.{has, members, setOf};
-ghost use Rattle.rules.specs.Rules.{pieces, moveOf, canMove};
-ghost use Rattle.moves.specs.Setups.{slotMen, setupBoard};
+ghost use Rattle.rules.specs.Rules.{pieces, movesOnto, canMove};
+ghost use Rattle.position.specs.Keyed.{slotMen, boardOf};
 ghost use Rattle.search.specs.Tried.{losing, aims, HoldsChecks};
 
 const KING: u8 = 5;
@@ -43,18 +42,18 @@ fn aimed_slot(occ: u64, from: u8, at: u8, slot: Slot) -> u64
 }
 
 // The same of all pieces.
-fn aimed_all(s: Setup, occ: u64, from: u8, at: u8) -> u64
-    ensures { λ r. ⌜ ((t : ℕ) → t < 64 → has r t ≡ any (aims (has occ) from at t) (pieces (setupBoard s))) ⌝ }
+fn aimed_all(s: Position, occ: u64, from: u8, at: u8) -> u64
+    ensures { λ r. ⌜ ((t : ℕ) → t < 64 → has r t ≡ any (aims (has occ) from at t) (pieces (boardOf s))) ⌝ }
 {
     let white = Piece {
         kind: KING,
         colour: 0,
-        square: s.white,
+        square: s.white_king,
     };
     let black = Piece {
         kind: KING,
         colour: 1,
-        square: s.black,
+        square: s.black_king,
     };
     let first = s.first;
     let second = s.second;
@@ -65,7 +64,7 @@ fn aimed_all(s: Setup, occ: u64, from: u8, at: u8) -> u64
 
 // Holds each target of a legal move from a square that gives check: all squares, where another piece attacks the king once the mover's
 // square is clear, and else those from which the mover attacks him.
-fn checking(s: Setup, from: u8) -> u64
+fn checking(s: Position, from: u8) -> u64
     ensures { λ r. ⌜ HoldsChecks s from r ⌝ }
 {
     let foe = other(s.side);
@@ -81,8 +80,8 @@ fn checking(s: Setup, from: u8) -> u64
 }
 
 // The targets to try from a square for a win within k plies.
-pub fn tried(s: Setup, from: u8, k: u8) -> u64
-    ensures { λ r. ⌜ any (losing k (setupBoard s)) (map (moveOf from) (members r)) ≡ any (losing k (setupBoard s)) (map (moveOf from) (members (setOf (canMove (setupBoard s) from)))) ⌝ }
+pub fn tried(s: Position, from: u8, k: u8) -> u64
+    ensures { λ r. ⌜ any (losing k (boardOf s)) (movesOnto from (members r)) ≡ any (losing k (boardOf s)) (movesOnto from (members (setOf (canMove (boardOf s) from)))) ⌝ }
 {
     let targets = legal_targets(s, from);
     if k != 1 {

@@ -1,19 +1,19 @@
 // The squares where moves start, and whether there is a move.
 use board::lowest;
 use board::without;
-use moves::Setup;
-use moves::Slot;
 use moves::legal_targets;
-use moves::own;
+use position::Position;
+use position::Slot;
+use position::own;
 ghost use mathlib.Core.Path.{_≡_};
 ghost use mathlib.Core.Bool.{not};
 ghost use Rattle.rules.specs.Rules.{empty, moves};
-ghost use Rattle.moves.specs.Setups.{setupBoard};
+ghost use Rattle.position.specs.Keyed.{boardOf};
 ghost use Rattle.search.specs.Tried.{moversOf};
 
 // Whether there are only the kings.
-fn is_bare(s: Setup) -> bool
-    ensures { λ r. ⌜ r ≡ empty (setupBoard s .men) ⌝ }
+fn is_bare(s: Position) -> bool
+    ensures { λ r. ⌜ r ≡ empty (boardOf s .men) ⌝ }
 {
     let first = s.first;
     let second = s.second;
@@ -27,8 +27,8 @@ fn is_bare(s: Setup) -> bool
 }
 
 // The squares where moves start: those of the pieces of the side to move, and none with bare kings, where the game is over.
-pub fn movers(s: Setup) -> u64
-    ensures { λ r. ⌜ r ≡ moversOf (setupBoard s) ⌝ }
+pub fn movers(s: Position) -> u64
+    ensures { λ r. ⌜ r ≡ moversOf (boardOf s) ⌝ }
 {
     if is_bare(s) {
         return 0;
@@ -37,8 +37,8 @@ pub fn movers(s: Setup) -> u64
 }
 
 // Whether the side to move has a legal move.
-pub fn can_move(s: Setup) -> bool
-    ensures { λ r. ⌜ r ≡ not (empty (moves (setupBoard s))) ⌝ }
+pub fn can_move(s: Position) -> bool
+    ensures { λ r. ⌜ r ≡ not (empty (moves (boardOf s))) ⌝ }
 {
     let mut rest = movers(s);
     while rest != 0 {

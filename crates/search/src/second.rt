@@ -2,20 +2,19 @@
 use super::Opinion;
 use super::within::lost_within;
 use super::within::won_within;
-use listing::setup_of;
-use listing::standing_refusal;
-use moves::Setup;
 use position::Position;
+use position::TOO_MANY_PLIES;
+use position::standing_refusal;
 ghost use mathlib.Core.Path.{_≡_};
-ghost use Rattle.moves.specs.Setups.{setupBoard};
+ghost use Rattle.position.specs.Keyed.{boardOf};
 ghost use Rattle.search.specs.Opinions.{askedIn, opinionOf};
 
 // The most plies that may be asked.
 const MOST: u8 = 6;
 
 // Whether the position is won within n plies, where n is odd, or lost, where it is even: no win is even and no loss odd.
-fn is_decided(s: Setup, n: u8) -> bool
-    ensures { λ r. ⌜ r ≡ askedIn (setupBoard s) n ⌝ }
+fn is_decided(s: Position, n: u8) -> bool
+    ensures { λ r. ⌜ r ≡ askedIn (boardOf s) n ⌝ }
 {
     if n % 2 == 1 {
         return won_within(s, n);
@@ -32,12 +31,11 @@ pub fn second_opinion(p: Position, k: u8) -> Opinion
         return Opinion::Refused(refusal);
     }
     if MOST < k {
-        return Opinion::Refused(16);
+        return Opinion::Refused(TOO_MANY_PLIES);
     }
-    let s = setup_of(p);
     let mut n: u8 = 0;
     while n <= k {
-        if is_decided(s, n) {
+        if is_decided(p, n) {
             if n % 2 == 1 {
                 return Opinion::Win(n);
             }

@@ -4,18 +4,18 @@ use super::movers::can_move;
 use super::movers::movers;
 use board::lowest;
 use board::without;
-use moves::Setup;
-use moves::in_check;
 use moves::legal_targets;
 use moves::make;
+use position::Position;
+use position::in_check;
 ghost use mathlib.Core.Path.{_≡_};
 ghost use Rattle.theory.specs.Value.{won, lost};
 ghost use Rattle.rules.specs.Chess.{chess};
-ghost use Rattle.moves.specs.Setups.{setupBoard};
+ghost use Rattle.position.specs.Keyed.{boardOf};
 
 // Won within k plies: some move leaves the other side lost within k - 1. Leaves at the first such move.
-pub fn won_within(s: Setup, k: u8) -> bool
-    ensures { λ r. ⌜ r ≡ won chess k (setupBoard s) ⌝ }
+pub fn won_within(s: Position, k: u8) -> bool
+    ensures { λ r. ⌜ r ≡ won chess k (boardOf s) ⌝ }
 {
     if k == 0 {
         return false;
@@ -37,8 +37,8 @@ pub fn won_within(s: Setup, k: u8) -> bool
 }
 
 // Lost within k plies: it is mate, or there are moves and each leaves the other side won within k - 1. Leaves at the first that does not.
-pub fn lost_within(s: Setup, k: u8) -> bool
-    ensures { λ r. ⌜ r ≡ lost chess k (setupBoard s) ⌝ }
+pub fn lost_within(s: Position, k: u8) -> bool
+    ensures { λ r. ⌜ r ≡ lost chess k (boardOf s) ⌝ }
 {
     if !can_move(s) {
         if in_check(s, s.side) {

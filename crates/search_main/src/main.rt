@@ -1,6 +1,8 @@
 // Answers lines of five numbers (man, side, white king, man's square, black king) with the second opinion within 0 to 7 plies, as the second
 // program does.
 use position::Position;
+use position::lone;
+use position::man_in;
 use search::Opinion;
 use search::second_opinion;
 
@@ -63,15 +65,17 @@ fn show_opinion(o: Opinion, k: u8) {
 }
 
 fn show_position(p: Position) {
-    show_number(p.man);
+    let first = p.first;
+    let man = man_in(first);
+    show_number(man.kind);
     io::write_all(1, b" ");
     show_number(p.side);
     io::write_all(1, b" ");
-    show_number(p.white);
+    show_number(p.white_king);
     io::write_all(1, b" ");
-    show_number(p.square);
+    show_number(man.square);
     io::write_all(1, b" ");
-    show_number(p.black);
+    show_number(p.black_king);
 }
 
 fn answer_within(p: Position, k: u8) {
@@ -94,13 +98,7 @@ fn answer(p: Position) {
 
 fn answer_line(line: Line) {
     let numbers = line.numbers;
-    answer(Position {
-        man: numbers[0],
-        side: numbers[1],
-        white: numbers[2],
-        square: numbers[3],
-        black: numbers[4],
-    });
+    answer(lone(numbers[0], numbers[1], numbers[2], numbers[3], numbers[4]));
 }
 
 fn answer_all(input: &[u8]) {

@@ -1,4 +1,4 @@
--- One file for all four endings (02, P4): what its reader and its writer answer. Definitions only. Assumes nothing.
+-- One file for all four endings (02, P4): what its reader and its writer answer. Definitions only.
 use mathlib.Core.Bool.{Bool, true, false, cond, not, _&&_, _||_}
 use mathlib.Core.List.{List, [], _∷_, _++_}
 use Prim.Native.Nat.{ℕ, zero, suc, _+_}

@@ -1,4 +1,4 @@
--- One file for all four endings (02, P4): how a set is laid out. Definitions only. Assumes nothing.
+-- One file for all four endings (02, P4): how a set is laid out. Definitions only.
 use mathlib.Core.Path.{_≡_}
 use mathlib.Core.Bool.{Bool, true, false, cond, _&&_}
 use mathlib.Core.List.{List, [], _∷_, _++_}

@@ -1,13 +1,3 @@
 pub mod Layout
 pub mod Answers
-pub mod Sizes
-pub mod WordLaws
-pub mod Rising
-pub mod Choices
-pub mod Right
-pub mod Codes
-pub mod Altered
-pub mod Finish
-pub mod ByEndings
-pub mod Kept
-pub mod Deep
+pub mod laws

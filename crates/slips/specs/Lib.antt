@@ -1,5 +1,3 @@
 pub mod Slip
 pub mod Appending
-pub mod Padding
-pub mod Lengths
-pub mod Run
+pub mod laws

@@ -1,4 +1,4 @@
--- The bytes of an answer's slip (01, "The desk program"). Definitions only. Assumes nothing.
+-- The bytes of an answer's slip (01, "The desk program"). Definitions only.
 use mathlib.Core.Bool.{cond}
 use mathlib.Core.List.{List, [], _∷_, _++_}
 use Prim.Native.Nat.{ℕ, _+_, _-_, _/_, _%_}
@@ -6,6 +6,7 @@ use Prim.Native.Char.{code}
 use lib.Dec.{ltb, eqb}
 use lib.ListN.{length, replicate}
 use Rattle.ascii.specs.Bytes.{bytes}
+use Rattle.position.specs.Keyed.{squareOf}
 use Rattle.index.specs.declared.Placed.{Placed}
 use Rattle.answers.specs.declared.Advice.{Advice}
 use Rattle.answers.specs.declared.Advice.the-variants.{Play, NoMove}
@@ -52,7 +53,7 @@ answerText (Answer.Refused n) = counted (bytes "refused ") n
 
 -- `w a1 b1 h8`: side, white king, man's square, black king
 unfoldable pub placedText : Placed → List ℕ
-placedText (Placed.At p) = sideLetter (p .side) ∷ gapped (p .white) ++ gapped (p .square) ++ gapped (p .black)
+placedText (Placed.At p) = sideLetter (p .side) ∷ gapped (p .«white_king») ++ gapped (squareOf p) ++ gapped (p .«black_king»)
 placedText (Placed.Refused n) = counted (bytes "refused ") n
 
 -- "a newline ends the line"

@@ -5,6 +5,7 @@ use answers::Advice;
 use answers::Answer;
 use index::Placed;
 use position::Position;
+use position::man_in;
 use writing::blank;
 use writing::with_byte;
 use writing::with_number;
@@ -48,9 +49,10 @@ fn position_slip(p: Position) -> Slip
     ensures { λ r. ⌜ r ≡ padded (placedSlip (Placed.At p)) ⌝ }
 {
     let side = with_byte(blank(), side_letter(p.side));
-    let white = with_gap(side, p.white);
-    let man = with_gap(white, p.square);
-    let black = with_gap(man, p.black);
+    let first = p.first;
+    let white = with_gap(side, p.white_king);
+    let man = with_gap(white, man_in(first).square);
+    let black = with_gap(man, p.black_king);
     with_byte(black, b'\n')
 }
 

@@ -1,7 +1,7 @@
 -- The desk's input as bytes that come one after the other, and as the lines of a whole text (01, "The desk program"): what is answered in all.
--- Definitions only. Assumes nothing.
+-- Definitions only.
 use mathlib.Core.Bool.{cond}
-use mathlib.Core.List.{List, [], _∷_, _++_}
+use mathlib.Core.List.{List, [], _∷_, _++_, foldl}
 use Prim.Native.Nat.{ℕ}
 use Prim.Native.Char.{code}
 use lib.Dec.{eqb}
@@ -38,9 +38,8 @@ longer s b = record { line = s .line ++ b ∷ []; held = s .held; table = s .tab
 unfoldable pub took : Run → ℕ → Run
 took s b = cond (eqb b (code "\n")) (ended s) (longer s b)
 
-unfoldable pub tookAll : Run → List ℕ → Run
-tookAll s [] = s
-tookAll s (b ∷ bs) = tookAll (took s b) bs
+abbrev pub tookAll : Run → List ℕ → Run
+tookAll = foldl took
 
 -- "(the last may lack it)": at the end an unfinished line is answered, and an empty one is none; "Empty input writes nothing"
 abbrev pub closedBy : List ℕ → Run → Run

@@ -5,8 +5,7 @@ use slips::Slip;
 ghost use mathlib.Core.Path.{_≡_};
 ghost use lib.ListN.{take};
 ghost use Rattle.adjudication.specs.TrueSlip.{Answered};
-ghost use Rattle.stream.specs.Stream.{Run, ended, longer, took, tookAll, closed};
-ghost use Rattle.stream.specs.Keeping.{Follows, Changes, Starts, Empties, put, putAll};
+ghost use Rattle.stream.specs.Keeping.{sheet, put, putAll, started, emptied, withByte, kept, lineAnswered, byteTaken, allTaken, lastAnswered};
 
 // What is kept from byte to byte: the unfinished line, the man whose table is held, and how much of the output waits.
 // Of a line the first 13 bytes are kept: any longer one has another length too.
@@ -19,7 +18,7 @@ pub struct State {
 
 // No line, no table and nothing to write.
 pub fn start() -> State
-    ensures { λ r. ⌜ Starts r ⌝ }
+    ensures { λ r. ⌜ r ≡ started ⌝ }
 {
     State {
         line: [0; 13],
@@ -31,7 +30,7 @@ pub fn start() -> State
 
 // What waited is written: the output begins anew.
 pub fn flushed(state: State) -> State
-    ensures { λ r. ⌜ Empties state r ⌝ }
+    ensures { λ r. ⌜ r ≡ emptied state ⌝ }
 {
     let line = state.line;
     State {
@@ -44,7 +43,7 @@ pub fn flushed(state: State) -> State
 
 // The state with one byte more of its line.
 fn with_byte(state: State, b: u8) -> State
-    ensures { λ r. ⌜ Changes (λ (s : Run). longer s b) state r ⌝ }
+    ensures { λ r. ⌜ r ≡ withByte state b ⌝ }
 {
     let at = state.len;
     if at >= 13 {
@@ -58,7 +57,7 @@ fn with_byte(state: State, b: u8) -> State
 
 // Writes a byte after what waits, and answers how much waits then. A full output stays as it is.
 fn write_byte(b: u8, waiting: usize, output: &mut [u8]) -> usize
-    ensures { λ r. ⌜ record { bytes = now (output .exit); used = r } ≡ put (record { bytes = now (output .entry); used = waiting }) b ⌝ }
+    ensures { λ r. ⌜ sheet (now (output .exit)) r ≡ put (sheet (now (output .entry)) waiting) b ⌝ }
 {
     if waiting >= output.len() {
         return waiting;
@@ -69,7 +68,7 @@ fn write_byte(b: u8, waiting: usize, output: &mut [u8]) -> usize
 
 // Writes a text after what waits.
 fn write_text(text: &[u8], waiting: usize, output: &mut [u8]) -> usize
-    ensures { λ r. ⌜ record { bytes = now (output .exit); used = r } ≡ putAll (record { bytes = now (output .entry); used = waiting }) (now (text .entry)) ⌝ }
+    ensures { λ r. ⌜ sheet (now (output .exit)) r ≡ putAll (sheet (now (output .entry)) waiting) (now (text .entry)) ⌝ }
 {
     let mut end = waiting;
     let mut i = 0;
@@ -82,7 +81,7 @@ fn write_text(text: &[u8], waiting: usize, output: &mut [u8]) -> usize
 
 // Writes a slip after what waits.
 fn append(slip: Slip, waiting: usize, output: &mut [u8]) -> usize
-    ensures { λ r. ⌜ record { bytes = now (output .exit); used = r } ≡ putAll (record { bytes = now (output .entry); used = waiting }) (take (slip .len) (slip .bytes)) ⌝ }
+    ensures { λ r. ⌜ sheet (now (output .exit)) r ≡ putAll (sheet (now (output .entry)) waiting) (take (slip .len) (slip .bytes)) ⌝ }
 {
     let bytes = slip.bytes;
     let end = slip.len as usize;
@@ -105,7 +104,7 @@ fn reply_to(line: &[u8], len: u8, held: u8, table: &mut [u8]) -> Reply
 
 // Answers the line that ends here.
 fn end_line(state: State, table: &mut [u8], output: &mut [u8]) -> State
-    ensures { λ r. ⌜ Follows ended state (now (table .entry)) (now (output .entry)) r (now (table .exit)) (now (output .exit)) ⌝ }
+    ensures { λ r. ⌜ kept r (now (table .exit)) (now (output .exit)) ≡ lineAnswered (kept state (now (table .entry)) (now (output .entry))) ⌝ }
 {
     let line = state.line;
     let reply = reply_to(&line, state.len, state.held, &mut *table);
@@ -119,7 +118,7 @@ fn end_line(state: State, table: &mut [u8], output: &mut [u8]) -> State
 
 // Takes one byte.
 fn take_byte(b: u8, state: State, table: &mut [u8], output: &mut [u8]) -> State
-    ensures { λ r. ⌜ Follows (λ (s : Run). took s b) state (now (table .entry)) (now (output .entry)) r (now (table .exit)) (now (output .exit)) ⌝ }
+    ensures { λ r. ⌜ kept r (now (table .exit)) (now (output .exit)) ≡ byteTaken (kept state (now (table .entry)) (now (output .entry))) b ⌝ }
 {
     if b == b'\n' {
         return end_line(state, &mut *table, &mut *output);
@@ -129,7 +128,7 @@ fn take_byte(b: u8, state: State, table: &mut [u8], output: &mut [u8]) -> State
 
 // Takes the bytes that came.
 pub fn take_all(input: &[u8], start: State, table: &mut [u8], output: &mut [u8]) -> State
-    ensures { λ r. ⌜ Follows (λ (s : Run). tookAll s (now (input .entry))) start (now (table .entry)) (now (output .entry)) r (now (table .exit)) (now (output .exit)) ⌝ }
+    ensures { λ r. ⌜ kept r (now (table .exit)) (now (output .exit)) ≡ allTaken (kept start (now (table .entry)) (now (output .entry))) (now (input .entry)) ⌝ }
 {
     let mut state = start;
     let mut i = 0;
@@ -142,7 +141,7 @@ pub fn take_all(input: &[u8], start: State, table: &mut [u8], output: &mut [u8])
 
 // Answers the last line where it lacks its newline.
 pub fn close(state: State, table: &mut [u8], output: &mut [u8]) -> State
-    ensures { λ r. ⌜ Follows closed state (now (table .entry)) (now (output .entry)) r (now (table .exit)) (now (output .exit)) ⌝ }
+    ensures { λ r. ⌜ kept r (now (table .exit)) (now (output .exit)) ≡ lastAnswered (kept state (now (table .entry)) (now (output .entry))) ⌝ }
 {
     if state.len == 0 {
         return state;

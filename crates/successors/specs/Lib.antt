@@ -1,4 +1,2 @@
 pub mod Successors
-pub mod ByteLaws
-pub mod JudgeLaws
-pub mod VerdictLaws
+pub mod laws

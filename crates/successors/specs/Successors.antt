@@ -1,4 +1,4 @@
--- The byte of a board by a lent list of pairs, and a byte held against those of a board's successors. Definitions only. Assumes nothing.
+-- The byte of a board by a lent list of pairs, and a byte held against those of a board's successors. Definitions only.
 use mathlib.Core.Bool.{Bool, cond, _&&_, _||_}
 use mathlib.Core.List.{List}
 use mathlib.Core.Option.{Option, none, some}
@@ -13,9 +13,11 @@ use Rattle.rules.specs.declared.Move.{Move}
 use Rattle.rules.specs.Rules.{Board, empty, inCheck, moves}
 use Rattle.rules.specs.Chess.{chess, played}
 use Rattle.answers.specs.declared.Advice.{Advice}
-use Rattle.position.specs.declared.Position.{Position}
 use Rattle.index.specs.Frames.{numberBy}
+use Rattle.index.specs.Answers.{positionAt}
+use Rattle.endings.specs.Chess.{legalNumber}
 use Rattle.endings.specs.Answers.{adviceOf}
+use Rattle.successors.specs.declared.Standing.{Standing}
 use Rattle.successors.specs.declared.Judged.{Judged}
 use Rattle.successors.specs.declared.Verdict.{Verdict}
 
@@ -23,9 +25,13 @@ use Rattle.successors.specs.declared.Verdict.{Verdict}
 unfoldable pub byteBy : List ℕ → List ℕ → Board → ℕ
 byteBy list t b = cond (empty (b .men)) 1 (getD t (numberBy list b) 0)
 
+-- the legal position at a number
+unfoldable pub standingAt : ℕ → ℕ → Standing
+standingAt kind n = cond (legalNumber kind n) (Standing.Legal (positionAt kind n)) Standing.Nothing
+
 -- a king stands where the move starts, so that the pair of kings changes
-abbrev pub kingMoves : Position → ℕ → Bool
-kingMoves p from = eqb (p .white) from || eqb (p .black) from
+abbrev pub kingMoves : ℕ → ℕ → ℕ → Bool
+kingMoves white black from = eqb white from || eqb black from
 
 -- the move in an answer, back from `adviceOf`
 abbrev pub moveIn : Advice → Option Move

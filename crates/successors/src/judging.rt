@@ -5,22 +5,22 @@ use super::after::frame_for;
 use answers::Advice;
 use board::lowest;
 use board::without;
-use listing::setup_of;
 use moves::legal_targets;
-use moves::own;
-use position::Position;
+use pairs::PairList;
+use position::lone;
+use position::own;
 use rule::refutes;
 use rule::suits;
-use rules::Move;
+use rules::move_of;
 ghost use mathlib.Core.Path.{_≡_};
 ghost use mathlib.Core.Bool.{cond};
-ghost use mathlib.Core.List.{map};
+ghost use Prim.Native.Nat.{ℕ};
 ghost use mathlib.Core.Option.{none, some};
 ghost use Rattle.theory.specs.Play.{suits as suitsOf};
 ghost use Rattle.theory.specs.Judge.{firstOf};
 ghost use Rattle.board.specs.Sets.{members};
-ghost use Rattle.rules.specs.Rules.{moveOf, moves};
-ghost use Rattle.position.specs.Keyed.{boardOf};
+ghost use Rattle.rules.specs.Rules.{moveOf, movesOnto, moves};
+ghost use Rattle.position.specs.Keyed.{boardOf, lone as loneOf};
 ghost use Rattle.endings.specs.Answers.{adviceOf};
 ghost use Rattle.successors.specs.Successors.{byteBy, moveIn, judgedOf, judgedFrom};
 
@@ -32,7 +32,7 @@ fn first_of(found: Advice, byte: u16, c: u8, from: u8, to: u8) -> Advice
         Advice::Play(m) => Advice::Play(m),
         Advice::NoMove => {
             if suits(byte, c) {
-                return Advice::Play(Move { from, to });
+                return Advice::Play(move_of(from, to));
             }
             Advice::NoMove
         },
@@ -41,22 +41,25 @@ fn first_of(found: Advice, byte: u16, c: u8, from: u8, to: u8) -> Advice
 
 // The moves from a square to these targets.
 fn judge_targets(
-    list: &[u16; 640],
+    list: &PairList,
     table: &[u8],
-    p: Position,
+    side: u8,
+    white: u8,
+    square: u8,
+    black: u8,
     from: u8,
     targets: u64,
     byte: u16,
     before: Advice,
 ) -> Judged
-    ensures { λ r. ⌜ r ≡ judgedOf (judgedFrom (byteBy (now (list .entry)) (now (table .entry))) byte (boardOf p) (moveIn before) (map (moveOf from) (members targets))) ⌝ }
+    ensures { λ r. ⌜ ((kind : ℕ) → r ≡ judgedOf (judgedFrom (byteBy (now (list .entry)) (now (table .entry))) byte (boardOf (loneOf kind side white square black)) (moveIn before) (movesOnto from (members targets)))) ⌝ }
 {
-    let f = frame_for(list, p, from);
+    let f = frame_for(list, side, white, black, from);
     let mut found = before;
     let mut rest = targets;
     while rest != 0 {
         let to = lowest(rest);
-        let c = byte_after(list, table, p, f, from, to);
+        let c = byte_after(list, table, side, white, square, black, f, from, to);
         if refutes(byte, c) {
             return Judged::Refuted;
         }
@@ -67,15 +70,35 @@ fn judge_targets(
 }
 
 // All the moves.
-pub fn judge(list: &[u16; 640], table: &[u8], p: Position, byte: u16) -> Judged
-    ensures { λ r. ⌜ r ≡ judgedOf (judgedFrom (byteBy (now (list .entry)) (now (table .entry))) byte (boardOf p) none (moves (boardOf p))) ⌝ }
+pub fn judge(
+    list: &PairList,
+    table: &[u8],
+    kind: u8,
+    side: u8,
+    white: u8,
+    square: u8,
+    black: u8,
+    byte: u16,
+) -> Judged
+    ensures { λ r. ⌜ r ≡ judgedOf (judgedFrom (byteBy (now (list .entry)) (now (table .entry))) byte (boardOf (loneOf kind side white square black)) none (moves (boardOf (loneOf kind side white square black)))) ⌝ }
 {
-    let s = setup_of(p);
+    let p = lone(kind, side, white, square, black);
     let mut found = Advice::NoMove;
-    let mut rest = own(s, p.side);
+    let mut rest = own(p, side);
     while rest != 0 {
         let from = lowest(rest);
-        let judged = judge_targets(list, table, p, from, legal_targets(s, from), byte, found);
+        let judged = judge_targets(
+            list,
+            table,
+            side,
+            white,
+            square,
+            black,
+            from,
+            legal_targets(p, from),
+            byte,
+            found,
+        );
         match judged {
             Judged::Refuted => {
                 return Judged::Refuted;

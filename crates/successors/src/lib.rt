@@ -1,13 +1,23 @@
 // A byte of a table held against those of a position's successors: whether it is the one required, and the move that it advises.
 use answers::Advice;
+use position::Position;
 
 mod after;
 mod judging;
+mod numbers;
 mod verdicts;
 
 pub use after::byte_of;
+pub use numbers::is_legal_number;
+pub use numbers::legal_at;
 pub use verdicts::requires_depth;
 pub use verdicts::verdict_on;
+
+// What stands at a number: a legal position, or nothing that is one.
+pub enum Standing {
+    Legal(Position),
+    Nothing,
+}
 
 // A byte held against some successors: one refutes it, or the first move found that suits.
 pub enum Judged {

@@ -1,5 +1,2 @@
 pub mod Symmetry
-pub mod SymmetryLaws
-pub mod ReachMapped
-pub mod Opposite
-pub mod LongestLine
+pub mod laws

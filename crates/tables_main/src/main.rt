@@ -1,6 +1,8 @@
 // Fills each man's table and prints its counts of bytes and its checksum, as the second program does.
 use answers::Filled;
 use filling::fill;
+use index::HALF;
+use index::TABLE_SIZE;
 ghost use Prim.Native.Nat.{_<_};
 
 // How often the byte stands in this half of a table.
@@ -76,12 +78,12 @@ fn print_filled(filled: Filled) {
 }
 
 fn print_man(man: u8, name: &[u8]) {
-    let mut table = [0u8; 59136];
+    let mut table = [0u8; TABLE_SIZE];
     let filled = fill(man, &mut table);
     io::write_all(1, name);
     print_filled(filled);
-    print_side(b"white\n", &table[0..29568]);
-    print_side(b"black\n", &table[29568..]);
+    print_side(b"white\n", &table[0..HALF]);
+    print_side(b"black\n", &table[HALF..]);
     print_line(b"checksum ", checksum(&table));
 }
 

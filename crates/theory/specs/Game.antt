@@ -1,5 +1,5 @@
 -- A game of two sides: positions, legal moves in list order, what a move leaves, mate, and the side to move. No chess here.
--- Definitions only. Assumes nothing.
+-- Definitions only.
 use mathlib.Core.Path.{_≡_}
 use mathlib.Core.Bool.{Bool, not}
 use mathlib.Core.List.{List, [], map}

@@ -1,5 +1,5 @@
 -- A position's byte held against its successors' bytes in one pass: a successor's byte that refutes it ends the pass; else the first move
--- that suits is kept. Where nothing refutes and a move suits, the byte is the one required. Assumes nothing.
+-- that suits is kept. Where nothing refutes and a move suits, the byte is the one required.
 use mathlib.Core.Path.{_≡_, refl, sym, ap, subst, _∙_}
 use mathlib.Core.Logic.{_⊎_, inl, inr, _↔_}
 use mathlib.Core.Bool.{Bool, true, false, not, _&&_, _||_, cond}
@@ -11,11 +11,12 @@ use lib.Dec.{T, T-not, not-T, leb, eqb, leb→le, le→leb, eqb→eq, eqb-refl}
 use Rattle.finite.specs.Truth.{and-left, and-right, and-both, fails, true-not-false}
 use Rattle.finite.specs.Members.{_∈_, any, any-in, any-out, first, first-in, first-out, none-in, nil-or, map-in, map-out}
 use Rattle.theory.specs.Required.{Loss, Rule, winning, required}
-use Rattle.theory.specs.Better.{winning-is}
-use Rattle.theory.specs.RuleLaws.{required-rule, rule-one}
-use Rattle.theory.specs.Verdict.{spoils, requires, verdict}
+use Rattle.theory.specs.laws.Better.{winning-is}
+use Rattle.theory.specs.laws.RuleLaws.{required-rule, rule-one}
+use Rattle.theory.specs.Verdict.{spoils, requires}
+use Rattle.theory.specs.laws.Verdict.{verdict}
 use Rattle.theory.specs.Play.{suits}
-use Rattle.theory.specs.Choice.{suits-draw, suits-less, draw-suits, less-suits}
+use Rattle.theory.specs.laws.Choice.{suits-draw, suits-less, draw-suits, less-suits}
 
 -- With the byte c at a successor the byte b is not required: a draw wants no loss there, a depth nothing that spoils it.
 unfoldable pub refutes : ℕ → ℕ → Bool

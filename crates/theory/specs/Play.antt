@@ -1,5 +1,5 @@
 -- Games in which a side plays the moves that a table gives, and what is promised of them (01, "Games"; demand 3). The promise is proved
--- in `Games`. Definitions only. Assumes nothing.
+-- in `Games`. Definitions only.
 use mathlib.Core.Path.{_≡_}
 use mathlib.Core.Logic.{_⊎_, _↔_}
 use mathlib.Core.Bool.{Bool, not, cond}

@@ -1,5 +1,5 @@
 -- The table's rule: the byte required of a position, from whether it is mate and the bytes at its successors. `Rule` is 01's words;
--- `required` is what a loop computes; `required-is` of `RuleLaws` shows that they agree. Definitions only. Assumes nothing.
+-- `required` is what a loop computes; `required-is` of `RuleLaws` shows that they agree. Definitions only.
 use mathlib.Core.Path.{_≡_}
 use mathlib.Core.Bool.{Bool, true, false, _&&_, _||_, cond}
 use mathlib.Core.List.{List, [], _∷_, map}

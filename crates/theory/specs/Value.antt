@@ -1,5 +1,5 @@
 -- Won, lost, drawn, and the depth in plies (01, "Values and the table's bytes"; "within" as request P7 words it). What 01 says of them is
--- proved in `Depth`. Definitions only. Assumes nothing.
+-- proved in `Depth`. Definitions only.
 use mathlib.Core.Path.{_≡_}
 use mathlib.Core.Bool.{Bool, false, _&&_, _||_}
 use Prim.Native.Nat.{ℕ, zero, suc, _+_, _≤_}

@@ -1,5 +1,5 @@
 -- A game of nine spots with a win, a loss, a draw, a stalemate and a cycle: it meets the theory's premises, its table is checked by one
--- computed test, and the theorem about games speaks of it. Assumes nothing.
+-- computed test, and the theorem about games speaks of it.
 use mathlib.Core.Path.{_≡_, refl, sym, subst, _∙_}
 use mathlib.Core.Bool.{Bool, true, false, not, _&&_}
 use mathlib.Core.List.{List, [], _∷_, map, List·Memᴰ·head, List·Memᴰ·tail}
@@ -14,12 +14,12 @@ use Rattle.finite.specs.Below.{allBelow, below}
 use Rattle.theory.specs.Game.{Game, next}
 use Rattle.theory.specs.Value.{won, lost, WonIn, DepthIs}
 use Rattle.theory.specs.Required.{required, best, better, back, winning, requiredAt, Closed, Consistent}
-use Rattle.theory.specs.Step.{required-moves}
-use Rattle.theory.specs.Consistency.{consistent-depth}
-use Rattle.theory.specs.Depth.{depth-odd}
+use Rattle.theory.specs.laws.Step.{required-moves}
+use Rattle.theory.specs.laws.Consistency.{consistent-depth}
+use Rattle.theory.specs.laws.Depth.{depth-odd}
 use Rattle.theory.specs.Play.{suits, LegalGame, Follows, firstSuited, Promised, IsMated, after}
-use Rattle.theory.specs.Choice.{first-chooses}
-use Rattle.theory.specs.Games.{promised}
+use Rattle.theory.specs.laws.Choice.{first-chooses}
+use Rattle.theory.specs.laws.Games.{promised}
 
 pub record Spot : Type 0 where
   pub node : ℕ

@@ -1,5 +1,5 @@
 -- What the part that writes a number with its check answers: "it refuses 8 and 9"; and what it is for a line that carries what it wrote.
--- Definitions only. Assumes nothing.
+-- Definitions only.
 use mathlib.Core.Path.{_≡_}
 use mathlib.Core.List.{List, _∷_, _++_}
 use Prim.Native.Nat.{ℕ}

@@ -1,7 +1,7 @@
--- `adjudication::after_fill` meets its contract. Assumes nothing.
+-- `adjudication::after_fill` meets its contract.
 use mathlib.Core.Path.{_∙_}
 use borrow.Author.Needs.{needs}
-use Rattle.adjudication.specs.Laws.{after-greatest, after-none, after-refused}
+use Rattle.adjudication.specs.laws.Laws.{after-greatest, after-none, after-refused}
 use Rattle.adjudication.proofs.after_fill.Statement.{statement}
 use Rattle.adjudication.proofs.after_fill.Tie as tie
 
@@ -30,10 +30,10 @@ answer-slip-requires-3 : tie.Need-answer-slip-requires-3
 answer-slip-requires-3 c κs = tt
 
 returns : tie.Need-returns
-returns c = after-greatest _ _ _ _ _ _ (c .before .before .enum-told .given .1) (c .before .look-up .ensures) (c .answer-slip .ensures)
+returns c = after-greatest _ _ (c .before .before .before .before .before .pre) _ _ _ _ _ (c .before .before .enum-told .given .1) (c .before .look-up .ensures) (c .answer-slip .ensures)
 
 returns-2 : tie.Need-returns-2
-returns-2 c = after-none _ _ _ _ _ (c .before .before .enum-told2 .given .1) (c .before .look-up2 .ensures) (c .answer-slip2 .ensures)
+returns-2 c = after-none _ _ (c .before .before .before .before .before .pre) _ _ _ _ (c .before .before .enum-told2 .given .1) (c .before .look-up2 .ensures) (c .answer-slip2 .ensures)
 
 returns-3 : tie.Need-returns-3
 returns-3 c = after-refused _ _ _ _ _ (c .before .before .filled .given .1) (c .answer-slip3 .ensures)

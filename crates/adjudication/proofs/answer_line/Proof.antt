@@ -1,7 +1,7 @@
--- `adjudication::answer_line` meets its contract. Assumes nothing.
+-- `adjudication::answer_line` meets its contract.
 use mathlib.Core.Path.{_∙_}
 use borrow.Author.Needs.{needs}
-use Rattle.adjudication.specs.Laws.{position-line, number-line, refused-line}
+use Rattle.adjudication.specs.laws.Laws.{position-line, number-line, refused-line}
 use Rattle.adjudication.proofs.answer_line.Statement.{statement}
 use Rattle.adjudication.proofs.answer_line.Tie as tie
 

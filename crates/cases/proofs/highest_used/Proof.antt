@@ -1,4 +1,4 @@
--- `cases::highest_used` ends: the number falls. Assumes nothing.
+-- `cases::highest_used` ends: the number falls.
 use borrow.Author.Needs.{needs}
 use Rattle.cases.proofs.highest_used.Statement.{statement}
 use Rattle.cases.proofs.highest_used.Tie as tie

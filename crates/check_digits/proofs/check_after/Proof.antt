@@ -1,4 +1,4 @@
--- `check_digits::check_after` meets its contract. Assumes nothing.
+-- `check_digits::check_after` meets its contract.
 use borrow.Author.Needs.{needs}
 use Rattle.check_digits.specs.Check.{checkAfter}
 use Rattle.check_digits.proofs.check_after.Statement.{statement}

@@ -1,4 +1,4 @@
--- `check_digits::is_right` meets its contract. Assumes nothing.
+-- `check_digits::is_right` meets its contract.
 use mathlib.Core.Path.{refl}
 use Rattle.check_digits.specs.Check.{rightNumber}
 use Rattle.check_digits.proofs.is_right.Statement.{statement}

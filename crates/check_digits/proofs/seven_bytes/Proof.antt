@@ -1,4 +1,4 @@
--- `check_digits::seven_bytes` meets its contract, digit by digit. Assumes nothing.
+-- `check_digits::seven_bytes` meets its contract, digit by digit.
 use borrow.Author.Needs.{needs}
 use Rattle.check_digits.specs.Check.{digitBytes, digits, withCheck}
 use Rattle.check_digits.proofs.seven_bytes.Statement.{statement}

@@ -1,4 +1,4 @@
--- `desk::flush` is safe: it writes no more than the output holds. Assumes nothing.
+-- `desk::flush` is safe: it writes no more than the output holds.
 use lib.Seq.{length-take-le}
 use borrow.Author.Needs.{needs}
 use Rattle.desk.proofs.flush.Statement.{statement}

@@ -1,8 +1,8 @@
--- `index::number` meets its contract: the refusal, or the number. Assumes nothing.
+-- `index::number` meets its contract: the refusal, or the number.
 use mathlib.Core.Path.{ap, sym, _∙_}
 use borrow.Author.Needs.{needs}
 use Rattle.index.specs.declared.Numbered.{Numbered}
-use Rattle.index.specs.AnswerLaws.{numbered-is, numbered-refused}
+use Rattle.index.specs.laws.AnswerLaws.{numbered-is, numbered-refused}
 use Rattle.index.proofs.number.Statement.{statement}
 use Rattle.index.proofs.number.Tie as tie
 

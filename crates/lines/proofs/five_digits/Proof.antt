@@ -1,4 +1,4 @@
--- `lines::five_digits` meets its contract, digit by digit. Assumes nothing.
+-- `lines::five_digits` meets its contract, digit by digit.
 use native.Mathlib.Omega.{arith}
 use Rattle.lines.specs.Grammar.{fiveDigits}
 use borrow.Author.Needs.{needs}

@@ -1,4 +1,5 @@
--- `lines::keyed` meets its contract, part by part. Assumes nothing.
+-- `lines::keyed` meets its contract, part by part.
+use mathlib.Core.Path.{_∙_}
 use Rattle.lines.specs.Grammar.{keyedOf}
 use borrow.Author.Needs.{needs}
 use Rattle.lines.proofs.keyed.Statement.{statement}
@@ -43,9 +44,12 @@ shared-slice-read-square-named-6 c = search needs
 square-named-requires-3 : tie.Need-square-named-requires-3
 square-named-requires-3 c κs = search needs
 
+lone-requires : tie.Need-lone-requires
+lone-requires c κs = search needs
+
 returns : tie.Need-returns
 unfolding keyedOf
-returns c = simp (c .before .before .before .before .before .before .before .before .before .before .before .man-code .ensures, c .before .before .before .before .before .before .before .before .before .side-code .ensures, c .before .before .before .before .before .before .square-named .ensures, c .before .before .before .square-named2 .ensures, c .square-named3 .ensures)
+returns c = c .lone .ensures ∙ rw (c .before .before .before .before .before .before .before .before .before .before .before .before .man-code .ensures, c .before .before .before .before .before .before .before .before .before .before .side-code .ensures, c .before .before .before .before .before .before .before .square-named .ensures, c .before .before .before .before .square-named2 .ensures, c .before .square-named3 .ensures)
 
 pub keyed-spec : {M : Type 1} → statement M
 keyed-spec =
@@ -64,4 +68,5 @@ keyed-spec =
     shared-slice-read-square-named-5
     shared-slice-read-square-named-6
     square-named-requires-3
+    lone-requires
     returns)

@@ -1,8 +1,8 @@
--- `lines::number_request` meets its contract: each return by the test that led there. Assumes nothing.
+-- `lines::number_request` meets its contract: each return by the test that led there.
 use mathlib.Core.Path.{sym, _∙_}
 use borrow.Author.Needs.{needs}
 use borrow.Author.Tests.{not-true, not-false}
-use Rattle.lines.specs.NumberLines.{wrong-check, right-man, wrong-man}
+use Rattle.lines.specs.laws.NumberLines.{wrong-check, right-man, wrong-man}
 use Rattle.lines.proofs.number_request.Statement.{statement}
 use Rattle.lines.proofs.number_request.Tie as tie
 

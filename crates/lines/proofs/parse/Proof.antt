@@ -1,7 +1,8 @@
--- `lines::parse` meets its contract: each return by the shapes that were tested. Assumes nothing.
-use mathlib.Core.Path.{sym, _∙_}
+-- `lines::parse` meets its contract: each return by the shapes that were tested.
+use mathlib.Core.Path.{sym, ap, _∙_}
+use Rattle.lines.specs.declared.Request.{Request}
 use Rattle.lines.specs.Grammar.{requestOf}
-use Rattle.lines.specs.Shapes.{shape-length}
+use Rattle.lines.specs.laws.Shapes.{shape-length}
 use borrow.Author.Needs.{needs}
 use Rattle.lines.proofs.parse.Statement.{statement}
 use Rattle.lines.proofs.parse.Tie as tie
@@ -15,12 +16,9 @@ shaped-requires c κs = search needs
 keyed-requires : tie.Need-keyed-requires
 keyed-requires c κs = shape-length _ _ (sym (c .before .shaped .ensures) ∙ c .if1 .taken)
 
-keyed-request-requires : tie.Need-keyed-request-requires
-keyed-request-requires c κs = search needs
-
 returns : tie.Need-returns
 unfolding requestOf
-returns c = rw (sym (c .before .before .before .shaped .ensures) ∙ c .before .before .if1 .taken, sym (c .before .keyed .ensures)) (c .keyed-request .ensures)
+returns c = rw (sym (c .before .before .shaped .ensures) ∙ c .before .if1 .taken) (ap Request.LookUp (c .keyed .ensures))
 
 slice-aggregate-shaped-2 : tie.Need-slice-aggregate-shaped-2
 slice-aggregate-shaped-2 c = search needs
@@ -46,7 +44,6 @@ parse-spec =
     slice-aggregate-shaped
     shaped-requires
     keyed-requires
-    keyed-request-requires
     returns
     slice-aggregate-shaped-2
     shaped-requires-2

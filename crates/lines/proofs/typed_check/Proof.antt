@@ -1,4 +1,4 @@
--- `lines::typed_check` meets its contract, digit by digit. Assumes nothing.
+-- `lines::typed_check` meets its contract, digit by digit.
 use native.Mathlib.Omega.{arith}
 use Rattle.lines.specs.Grammar.{typedCheck}
 use borrow.Author.Needs.{needs}

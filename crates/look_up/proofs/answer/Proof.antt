@@ -1,4 +1,4 @@
--- `look_up::answer` meets its contract. Assumes nothing.
+-- `look_up::answer` meets its contract.
 use borrow.Author.Needs.{needs}
 use borrow.Author.Tests.{le-leb, lt-leb, eq-eqb, ne-eqb}
 use Rattle.endings.specs.Answers.{answerOf}

@@ -1,7 +1,7 @@
--- `look_up::look_up` meets its contract: each return by the tests that led there. Assumes nothing.
+-- `look_up::look_up` meets its contract: each return by the tests that led there.
 use mathlib.Core.Path.{_∙_}
 use borrow.Author.Needs.{needs}
-use Rattle.look_up.specs.Laws.{refused-standing, refused-length, refused-byte, answered}
+use Rattle.look_up.specs.laws.Laws.{refused-standing, refused-length, refused-byte, answered}
 use Rattle.look_up.proofs.look_up.Statement.{statement}
 use Rattle.look_up.proofs.look_up.Tie as tie
 
@@ -16,6 +16,9 @@ returns-2 c = refused-length _ _ _ (c .before .before .standing-refusal .ensures
 
 pair-list-requires : tie.Need-pair-list-requires
 pair-list-requires c κs = tt
+
+man-in-requires : tie.Need-man-in-requires
+man-in-requires c κs = tt
 
 byte-of-requires : tie.Need-byte-of-requires
 byte-of-requires c κs = tt
@@ -33,19 +36,10 @@ answer-requires : tie.Need-answer-requires
 answer-requires c κs = tt
 
 returns-3 : tie.Need-returns-3
-returns-3 c =
-    let v = c .before .before in
-    let b = v .before .before in
-    let l = b .before .before in
-    refused-byte _ _ _ (l .before .before .before .standing-refusal .ensures) (l .before .before .if1 .left) _ _ _ (l .before .if2 .left) (l .pair-list .ensures) (b .byte-of .ensures) (v .verdict-on .ensures) (c .enum-told .given .1)
+returns-3 c = refused-byte _ _ _ (c .before .before .before .before .before .before .before .before .before .before .standing-refusal .ensures) (c .before .before .before .before .before .before .before .before .before .if1 .left) _ (c .before .before .before .before .before .before .man-in .ensures) _ _ _ (c .before .before .before .before .before .before .before .before .if2 .left) (c .before .before .before .before .before .before .before .pair-list .ensures) (c .before .before .before .before .byte-of .ensures _) (c .before .before .verdict-on .ensures) (c .enum-told .given .1)
 
 returns-4 : tie.Need-returns-4
-returns-4 c =
-    let v = c .before .before .before .before in
-    let b = v .before .before in
-    let l = b .before .before in
-    c .answer .ensures
-    ∙ answered _ _ _ (l .before .before .before .standing-refusal .ensures) (l .before .before .if1 .left) _ _ _ (l .before .if2 .left) (l .pair-list .ensures) (b .byte-of .ensures) (v .verdict-on .ensures) _ (c .before .before .verdict .given .1)
+returns-4 c = c .answer .ensures ∙ answered _ _ _ (c .before .before .before .before .before .before .before .before .before .before .before .before .standing-refusal .ensures) (c .before .before .before .before .before .before .before .before .before .before .before .if1 .left) _ (c .before .before .before .before .before .before .before .before .man-in .ensures) _ _ _ (c .before .before .before .before .before .before .before .before .before .before .if2 .left) (c .before .before .before .before .before .before .before .before .before .pair-list .ensures) (c .before .before .before .before .before .before .byte-of .ensures _) (c .before .before .before .before .verdict-on .ensures) _ (c .before .before .verdict .given .1)
 
 pub look-up-spec : {M : Type 1} → statement M
-look-up-spec = tie.close (tie.spec standing-refusal-requires returns returns-2 pair-list-requires byte-of-requires verdict-on-requires enum-told enum-known-verdict answer-requires returns-3 returns-4)
+look-up-spec = tie.close (tie.spec standing-refusal-requires returns returns-2 pair-list-requires man-in-requires byte-of-requires verdict-on-requires enum-told enum-known-verdict answer-requires returns-3 returns-4)

@@ -14,6 +14,9 @@ abbrev μ-loop : tie.MeasureT-loop
 loop-holds : tie.Need-loop-holds Inv-loop μ-loop
 loop-holds c = search needs
 
+cast-if1 : tie.Need-cast-if1 Inv-loop μ-loop
+cast-if1 c = search needs
+
 cast-m : tie.Need-cast-m Inv-loop μ-loop
 cast-m c = search needs
 
@@ -57,6 +60,7 @@ show-list-spec =
     Inv-loop
     μ-loop
     loop-holds
+    cast-if1
     cast-m
     mul-m
     array-copy-out-m

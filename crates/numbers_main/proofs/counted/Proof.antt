@@ -1,4 +1,4 @@
--- `numbers_main::counted` is safe and ends: the numbers are counted up to 59,136. Assumes nothing.
+-- `numbers_main::counted` is safe and ends: the numbers are counted up to 59,136.
 use Prim.Native.Nat.{_-_, _≤_}
 use borrow.Author.Needs.{needs}
 use Rattle.numbers_main.proofs.counted.Statement.{statement}
@@ -12,6 +12,9 @@ abbrev μ-loop : tie.MeasureT-loop
 
 loop-holds : tie.Need-loop-holds Inv-loop μ-loop
 loop-holds c = search needs
+
+cast-loop : tie.Need-cast-loop Inv-loop μ-loop
+cast-loop c = search needs
 
 with-number-requires : tie.Need-with-number-requires Inv-loop μ-loop
 with-number-requires c κs = search needs
@@ -29,4 +32,4 @@ returns : tie.Need-returns Inv-loop μ-loop
 returns c = search needs
 
 pub counted-spec : {M : Type 1} → statement M
-counted-spec = tie.close (tie.spec Inv-loop μ-loop loop-holds with-number-requires add-n loop-less loop-again returns)
+counted-spec = tie.close (tie.spec Inv-loop μ-loop loop-holds cast-loop with-number-requires add-n loop-less loop-again returns)

@@ -1,4 +1,4 @@
--- `rule::is_win` meets its contract. Assumes nothing.
+-- `rule::is_win` meets its contract.
 use mathlib.Core.Path.{refl}
 use Rattle.theory.specs.Required.{winning}
 use Rattle.rule.proofs.is_win.Statement.{statement}

@@ -1,4 +1,4 @@
--- `rule::refutes` meets its contract. Assumes nothing.
+-- `rule::refutes` meets its contract.
 use borrow.Author.Needs.{needs}
 use borrow.Author.Tests.{le-leb, lt-leb}
 use Rattle.theory.specs.Judge.{refutes}

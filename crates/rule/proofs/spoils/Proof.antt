@@ -1,4 +1,4 @@
--- `rule::spoils` meets its contract. Assumes nothing.
+-- `rule::spoils` meets its contract.
 use borrow.Author.Needs.{needs}
 use borrow.Author.Tests.{eq-eqb, ne-eqb}
 use Rattle.theory.specs.Verdict.{spoils}

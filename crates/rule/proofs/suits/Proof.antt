@@ -1,4 +1,4 @@
--- `rule::suits` meets its contract. Assumes nothing.
+-- `rule::suits` meets its contract.
 use borrow.Author.Needs.{needs}
 use borrow.Author.Tests.{le-leb, lt-leb}
 use Rattle.theory.specs.Play.{suits}

@@ -1,4 +1,4 @@
--- `search_main::answer` meets its contract. Assumes nothing.
+-- `search_main::answer` meets its contract.
 use Prim.Native.Nat.{_-_, _≤_}
 use borrow.Author.Needs.{needs}
 use Rattle.search_main.proofs.answer.Statement.{statement}

@@ -1,8 +1,8 @@
--- `slips::answer_slip` meets its contract, arm by arm. Assumes nothing.
+-- `slips::answer_slip` meets its contract, arm by arm.
 use Rattle.slips.specs.Slip.{answerText, slipOf, refusedSlip}
-use Rattle.slips.specs.Appending.{then, from}
-use Rattle.slips.specs.Padding.{finished}
-use Rattle.slips.specs.Lengths.{answer-line}
+use Rattle.slips.specs.laws.Appending.{then, from}
+use Rattle.slips.specs.laws.Padding.{finished}
+use Rattle.slips.specs.laws.Lengths.{answer-line}
 use Rattle.answers.specs.declared.Answer.{Answer}
 use borrow.Author.Needs.{needs}
 use Rattle.slips.proofs.answer_slip.Statement.{statement}

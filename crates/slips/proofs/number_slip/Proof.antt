@@ -1,6 +1,6 @@
--- `slips::number_slip` meets its contract, part by part. Assumes nothing.
+-- `slips::number_slip` meets its contract, part by part.
 use Rattle.slips.specs.Slip.{counted}
-use Rattle.slips.specs.Appending.{then, from}
+use Rattle.slips.specs.laws.Appending.{then, from}
 use borrow.Author.Needs.{needs}
 use Rattle.slips.proofs.number_slip.Statement.{statement}
 use Rattle.slips.proofs.number_slip.Tie as tie

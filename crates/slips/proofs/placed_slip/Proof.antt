@@ -1,4 +1,4 @@
--- `slips::placed_slip` meets its contract, arm by arm. Assumes nothing.
+-- `slips::placed_slip` meets its contract, arm by arm.
 use Rattle.slips.specs.Slip.{placedText, placedSlip, refusedSlip}
 use borrow.Author.Needs.{needs}
 use Rattle.slips.proofs.placed_slip.Statement.{statement}

@@ -1,7 +1,7 @@
--- `slips::refused_slip` meets its contract. Assumes nothing.
+-- `slips::refused_slip` meets its contract.
 use Rattle.slips.specs.Slip.{refusedSlip}
-use Rattle.slips.specs.Padding.{finished}
-use Rattle.slips.specs.Lengths.{refused-line}
+use Rattle.slips.specs.laws.Padding.{finished}
+use Rattle.slips.specs.laws.Lengths.{refused-line}
 use borrow.Author.Needs.{needs}
 use Rattle.slips.proofs.refused_slip.Statement.{statement}
 use Rattle.slips.proofs.refused_slip.Tie as tie

@@ -1,4 +1,4 @@
--- `slips::side_letter` meets its contract. Assumes nothing.
+-- `slips::side_letter` meets its contract.
 use borrow.Author.Tests.{eq-eqb, ne-eqb}
 use Rattle.slips.specs.Slip.{sideLetter}
 use Rattle.slips.proofs.side_letter.Statement.{statement}

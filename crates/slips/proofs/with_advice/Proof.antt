@@ -1,6 +1,7 @@
--- `slips::with_advice` meets its contract: the move's squares, or nothing. Assumes nothing.
+-- `slips::with_advice` meets its contract: the move's squares, or nothing.
 use Rattle.slips.specs.Slip.{adviceText}
-use Rattle.slips.specs.Appending.{appended, then}
+use Rattle.slips.specs.Appending.{appended}
+use Rattle.slips.specs.laws.Appending.{then}
 use borrow.Author.Needs.{needs}
 use Rattle.slips.proofs.with_advice.Statement.{statement}
 use Rattle.slips.proofs.with_advice.Tie as tie

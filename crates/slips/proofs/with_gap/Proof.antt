@@ -1,4 +1,4 @@
--- `slips::with_gap` meets its contract, part by part. Assumes nothing.
+-- `slips::with_gap` meets its contract, part by part.
 use Rattle.slips.specs.Slip.{gapped}
 use Rattle.slips.specs.Appending.{appended}
 use borrow.Author.Needs.{needs}

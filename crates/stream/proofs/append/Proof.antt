@@ -1,9 +1,9 @@
--- `stream::append` meets its contract: it takes no more of the slip than there is. Assumes nothing.
+-- `stream::append` meets its contract: it takes no more of the slip than there is.
 use lib.ListN.{length-map}
 use mathlib.Core.Path.{sym}
 use native.Mathlib.Omega.{arith}
 use lib.Seq.{length-take-le}
-use Rattle.stream.specs.Laws.{put-whole}
+use Rattle.stream.specs.laws.Laws.{put-whole}
 use borrow.Author.Needs.{needs}
 use Rattle.stream.proofs.append.Statement.{statement}
 use Rattle.stream.proofs.append.Tie as tie

@@ -1,5 +1,5 @@
--- `stream::end_line` meets its contract. Assumes nothing.
-use Rattle.stream.specs.Laws.{line-answered}
+-- `stream::end_line` meets its contract.
+use Rattle.stream.specs.laws.Laws.{line-answered}
 use borrow.Author.Needs.{needs}
 use Rattle.stream.proofs.end_line.Statement.{statement}
 use Rattle.stream.proofs.end_line.Tie as tie
@@ -20,7 +20,7 @@ same-length-2 : tie.Need-same-length-2
 same-length-2 c = search needs
 
 returns : tie.Need-returns
-returns c = line-answered _ _ _ _ _ _ _ (c .before .before .before .before .before .before .reply-to .ensures) (c .before .before .append .ensures)
+returns c = let a = c .before .before .before .before .before .before .before .before .before .before .before .before .args in line-answered (a .state) (a .table .now) (a .output .now) _ _ _ _ (c .before .before .before .before .before .before .reply-to .ensures) (c .before .before .append .ensures)
 
 pub end-line-spec : {M : Type 1} → statement M
 end-line-spec =

@@ -1,10 +1,10 @@
--- `stream::flushed` meets its contract. Assumes nothing.
-use Rattle.stream.specs.Laws.{empties}
+-- `stream::flushed` meets its contract.
+use mathlib.Core.Path.{refl}
 use Rattle.stream.proofs.flushed.Statement.{statement}
 use Rattle.stream.proofs.flushed.Tie as tie
 
 returns : tie.Need-returns
-returns c = empties _
+returns c = refl
 
 pub flushed-spec : {M : Type 1} → statement M
 flushed-spec = tie.close (tie.spec returns)

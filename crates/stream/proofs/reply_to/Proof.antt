@@ -1,7 +1,7 @@
--- `stream::reply_to` meets its contract: it takes no more of the line than there is. Assumes nothing.
+-- `stream::reply_to` meets its contract: it takes no more of the line than there is.
 use native.Mathlib.Omega.{arith}
 use lib.Seq.{length-take-le}
-use Rattle.stream.specs.Laws.{reply-whole}
+use Rattle.stream.specs.laws.Laws.{reply-whole}
 use borrow.Author.Needs.{needs}
 use Rattle.stream.proofs.reply_to.Statement.{statement}
 use Rattle.stream.proofs.reply_to.Tie as tie

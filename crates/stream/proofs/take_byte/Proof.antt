@@ -1,5 +1,5 @@
--- `stream::take_byte` meets its contract. Assumes nothing.
-use Rattle.stream.specs.Laws.{takes-newline, takes-other}
+-- `stream::take_byte` meets its contract.
+use Rattle.stream.specs.laws.Laws.{takes-newline, takes-other}
 use borrow.Author.Needs.{needs}
 use Rattle.stream.proofs.take_byte.Statement.{statement}
 use Rattle.stream.proofs.take_byte.Tie as tie
@@ -14,7 +14,7 @@ same-length-2 : tie.Need-same-length-2
 same-length-2 c = search needs
 
 returns : tie.Need-returns
-returns c = takes-newline _ _ _ _ _ _ _ (c .before .before .before .before .before .before .before .if1 .taken) (c .before .before .before .before .end-line .ensures)
+returns c = takes-newline _ _ _ (c .before .before .before .before .before .before .before .if1 .taken) (c .before .before .before .before .end-line .ensures)
 
 with-byte-requires : tie.Need-with-byte-requires
 with-byte-requires c κs = search needs

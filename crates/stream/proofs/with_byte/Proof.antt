@@ -1,5 +1,5 @@
--- `stream::with_byte` meets its contract. Assumes nothing.
-use Rattle.stream.specs.Laws.{byte-kept, byte-dropped}
+-- `stream::with_byte` meets its contract.
+use Rattle.stream.specs.laws.Laws.{byte-kept, byte-dropped}
 use borrow.Author.Needs.{needs}
 use Rattle.stream.proofs.with_byte.Statement.{statement}
 use Rattle.stream.proofs.with_byte.Tie as tie

@@ -1,5 +1,5 @@
--- `stream::write_byte` meets its contract. Assumes nothing.
-use Rattle.stream.specs.Laws.{put-full, put-room}
+-- `stream::write_byte` meets its contract.
+use Rattle.stream.specs.laws.Laws.{put-full, put-room}
 use borrow.Author.Needs.{needs}
 use Rattle.stream.proofs.write_byte.Statement.{statement}
 use Rattle.stream.proofs.write_byte.Tie as tie

@@ -1,4 +1,4 @@
--- `tables_main::occurrences` is safe and ends: the bytes are counted up to the slice's length, and at most as many match. Assumes nothing.
+-- `tables_main::occurrences` is safe and ends: the bytes are counted up to the slice's length, and at most as many match.
 use mathlib.Core.Logic.{⊎-elim}
 use Prim.Native.Nat.{_-_, _≤_}
 use native.Mathlib.Omega.{arith}

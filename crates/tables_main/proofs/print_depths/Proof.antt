@@ -1,4 +1,4 @@
--- `tables_main::print_depths` is safe and ends: the depths are counted up to 254. Assumes nothing.
+-- `tables_main::print_depths` is safe and ends: the depths are counted up to 254.
 use Prim.Native.Nat.{_-_, _≤_}
 use borrow.Author.Needs.{needs}
 use Rattle.tables_main.proofs.print_depths.Statement.{statement}

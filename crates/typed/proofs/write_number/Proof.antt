@@ -1,7 +1,7 @@
--- `typed::write_number` meets its contract, arm by arm. Assumes nothing.
+-- `typed::write_number` meets its contract, arm by arm.
 use mathlib.Core.Path.{sym, _∙_}
 use borrow.Author.Needs.{needs}
-use Rattle.typed.specs.WritingLaws.{writes-at, writes-refused}
+use Rattle.typed.specs.laws.WritingLaws.{writes-at, writes-refused}
 use Rattle.typed.proofs.write_number.Statement.{statement}
 use Rattle.typed.proofs.write_number.Tie as tie
 

@@ -1,4 +1,4 @@
--- `typed_main::answer_all` is safe and ends. Assumes nothing.
+-- `typed_main::answer_all` is safe and ends.
 use Prim.Native.Nat.{_-_, _≤_}
 use borrow.Author.Needs.{needs}
 use lib.ListN.{length}

@@ -7,10 +7,12 @@ use Rattle.finite.specs.Members.{any}
 use Rattle.finite.specs.Numbers.{numbers, any-end}
 use Rattle.board.specs.Reach.{lineOf, stepped}
 use Rattle.board.specs.Sets.{has}
-use Rattle.board.specs.SetLaws.{bit, has-none}
-use Rattle.board.specs.SweepLaws.{sweep-end, sweep-line}
-use Rattle.board.specs.StepLaws.{IsStep, step-small, is-stepped}
-use Rattle.board.specs.WalkBits.{left, nearer, free-board, gathers-on, gathers-last}
+use Rattle.board.specs.SetLaws.{bit}
+use Rattle.board.specs.laws.SetLaws.{has-none}
+use Rattle.board.specs.laws.SweepLaws.{sweep-end, sweep-line}
+use Rattle.board.specs.StepLaws.{IsStep}
+use Rattle.board.specs.laws.StepLaws.{step-small, is-stepped}
+use Rattle.board.specs.laws.WalkBits.{left, nearer, free-board, gathers-on, gathers-last}
 use Rattle.board.proofs.lines.lines.Statement.{statement}
 use Rattle.board.proofs.lines.lines.Tie as tie
 

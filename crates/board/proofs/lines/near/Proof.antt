@@ -7,9 +7,9 @@ use Rattle.finite.specs.Members.{any}
 use Rattle.finite.specs.Numbers.{numbers, any-end}
 use Rattle.board.specs.Reach.{lineOf}
 use Rattle.board.specs.Sets.{has}
-use Rattle.board.specs.SetLaws.{has-none}
-use Rattle.board.specs.SweepLaws.{sweep-end, sweep-line}
-use Rattle.board.specs.StepLaws.{step-small, once-next}
+use Rattle.board.specs.laws.SetLaws.{has-none}
+use Rattle.board.specs.laws.SweepLaws.{sweep-end, sweep-line}
+use Rattle.board.specs.laws.StepLaws.{step-small, once-next}
 use Rattle.board.proofs.lines.near.Statement.{statement}
 use Rattle.board.proofs.lines.near.Tie as tie
 

@@ -6,8 +6,8 @@ use native.Mathlib.Omega.{arith}
 use borrow.Author.Needs.{needs}
 use Rattle.board.specs.Reach.{reaches}
 use Rattle.board.specs.Sets.{has}
-use Rattle.board.specs.SetLaws.{has-none, set-is}
-use Rattle.board.specs.ReachLaws.{reaches-off, reaches-other, king-reaches, knight-reaches}
+use Rattle.board.specs.laws.SetLaws.{has-none, set-is}
+use Rattle.board.specs.laws.ReachLaws.{reaches-off, reaches-other, king-reaches, knight-reaches}
 use Rattle.board.proofs.lines.targets.Statement.{statement}
 use Rattle.board.proofs.lines.targets.Tie as tie
 

@@ -1,5 +1,5 @@
 use mathlib.Core.Path.{sym}
-use Rattle.board.specs.SetLaws.{has-off}
+use Rattle.board.specs.laws.SetLaws.{has-off}
 use borrow.Author.Needs.{needs}
 use Rattle.board.proofs.sets.has.Statement.{statement}
 use Rattle.board.proofs.sets.has.Tie as tie

@@ -1,7 +1,7 @@
 use native.Mathlib.Nat.{lt-of-le-of-lt}
 use lib.Count.{trailing-le}
 use lib.Dec.{lit<}
-use Rattle.board.specs.LowestLaws.{trailing-lowest}
+use Rattle.board.specs.laws.LowestLaws.{trailing-lowest}
 use Rattle.board.proofs.sets.lowest.Statement.{statement}
 use Rattle.board.proofs.sets.lowest.Tie as tie
 

@@ -4,7 +4,7 @@ use Prim.Native.Nat.{_-_, _^_}
 use native.Mathlib.Omega.{arith}
 use lib.Bits.{and-lt}
 use Rattle.board.specs.Sets.{has}
-use Rattle.board.specs.SetLaws.{has-and, has-not, set-is}
+use Rattle.board.specs.laws.SetLaws.{has-and, has-not, set-is}
 use Rattle.board.proofs.sets.minus.Statement.{statement}
 use Rattle.board.proofs.sets.minus.Tie as tie
 

@@ -1,7 +1,8 @@
 use mathlib.Core.Path.{sym, _∙_}
 use native.Mathlib.Omega.{arith}
 use borrow.Author.Tests.{ne-eqb}
-use Rattle.board.specs.SetLaws.{bit, has-none, has-bit, set-is}
+use Rattle.board.specs.SetLaws.{bit}
+use Rattle.board.specs.laws.SetLaws.{has-none, has-bit, set-is}
 use borrow.Author.Needs.{needs}
 use Rattle.board.proofs.sets.one.Statement.{statement}
 use Rattle.board.proofs.sets.one.Tie as tie

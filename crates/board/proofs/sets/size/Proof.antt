@@ -1,4 +1,4 @@
-use Rattle.board.specs.LowestLaws.{ones-members}
+use Rattle.board.specs.laws.LowestLaws.{ones-members}
 use Rattle.board.proofs.sets.size.Statement.{statement}
 use Rattle.board.proofs.sets.size.Tie as tie
 

@@ -2,7 +2,7 @@ use mathlib.Core.Path.{ap, _∙_}
 use mathlib.Core.Bool.{_||_}
 use lib.Bits.{or-lt}
 use Rattle.board.specs.Sets.{has}
-use Rattle.board.specs.SetLaws.{has-or, set-is, set-has}
+use Rattle.board.specs.laws.SetLaws.{has-or, set-is, set-has}
 use borrow.Author.Needs.{needs}
 use Rattle.board.proofs.sets.with.Statement.{statement}
 use Rattle.board.proofs.sets.with.Tie as tie

@@ -1,7 +1,7 @@
 use mathlib.Core.Path.{ap, _∙_}
 use mathlib.Core.Bool.{not, _&&_}
 use Rattle.board.specs.Sets.{has}
-use Rattle.board.specs.SetLaws.{setOf-same, set-has}
+use Rattle.board.specs.laws.SetLaws.{setOf-same, set-has}
 use borrow.Author.Needs.{needs}
 use Rattle.board.proofs.sets.without.Statement.{statement}
 use Rattle.board.proofs.sets.without.Tie as tie

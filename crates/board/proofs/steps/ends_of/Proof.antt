@@ -2,7 +2,7 @@ use mathlib.Core.Path.{_≡_}
 use Prim.Native.Nat.{_%_}
 use native.Mathlib.Omega.{arith}
 use lib.Dec.{lit<}
-use Rattle.board.specs.StepLaws.{ends-are}
+use Rattle.board.specs.laws.StepLaws.{ends-are}
 use Rattle.board.proofs.steps.ends_of.Statement.{statement}
 use Rattle.board.proofs.steps.ends_of.Tie as tie
 

@@ -1,5 +1,5 @@
 use borrow.Author.Needs.{needs}
-use Rattle.board.specs.StepLaws.{step-is}
+use Rattle.board.specs.laws.StepLaws.{step-is}
 use Rattle.board.proofs.steps.step_at.Statement.{statement}
 use Rattle.board.proofs.steps.step_at.Tie as tie
 

@@ -1,6 +1,7 @@
 use borrow.Author.Needs.{needs}
 use borrow.Author.Tests.{lt-ltb, le-ltb}
-use Rattle.board.specs.StepLaws.{stepBits, step-bit}
+use Rattle.board.specs.StepLaws.{stepBits}
+use Rattle.board.specs.laws.StepLaws.{step-bit}
 use Rattle.board.proofs.steps.stepped.Statement.{statement}
 use Rattle.board.proofs.steps.stepped.Tie as tie
 

@@ -7,9 +7,9 @@ use lib.Dec.{lit<}
 use borrow.Author.Needs.{needs}
 use Rattle.board.specs.Reach.{reaches}
 use Rattle.board.specs.Sets.{has}
-use Rattle.board.specs.SetLaws.{set-is}
-use Rattle.board.specs.ReachLaws.{reaches-has, reaches-off, reaches-other, king-reaches, knight-reaches}
-use Rattle.board.specs.WalkAttack.{attacks-by-walk}
+use Rattle.board.specs.laws.SetLaws.{set-is}
+use Rattle.board.specs.laws.ReachLaws.{reaches-has, reaches-off, reaches-other, king-reaches, knight-reaches}
+use Rattle.board.specs.laws.WalkAttack.{attacks-by-walk}
 use Rattle.board.proofs.walks.attacks.Statement.{statement}
 use Rattle.board.proofs.walks.attacks.Tie as tie
 

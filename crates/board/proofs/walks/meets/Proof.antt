@@ -8,9 +8,9 @@ use borrow.Author.Tests.{eq-eqb, ne-eqb}
 use Rattle.finite.specs.Members.{any}
 use Rattle.finite.specs.Numbers.{numbers, any-end, any-first}
 use Rattle.board.specs.Sets.{has, setOf}
-use Rattle.board.specs.SetLaws.{set-has}
+use Rattle.board.specs.laws.SetLaws.{set-has}
 use Rattle.board.specs.Walk.{walkOf, metAt, standing, meetsFirst}
-use Rattle.board.specs.WalkLaws.{walk-same}
+use Rattle.board.specs.laws.WalkLaws.{walk-same}
 use Rattle.board.specs.declared.Met.{Met}
 use Rattle.board.proofs.walks.meets.Statement.{statement}
 use Rattle.board.proofs.walks.meets.Tie as tie

@@ -6,10 +6,10 @@ use borrow.Author.Needs.{needs}
 use Rattle.board.specs.Reach.{stepped}
 use Rattle.board.specs.Sets.{has}
 use Rattle.board.specs.SetLaws.{bit}
-use Rattle.board.specs.StepLaws.{step-small, is-stepped}
+use Rattle.board.specs.laws.StepLaws.{step-small, is-stepped}
 use Rattle.board.specs.Walk.{walkOf}
-use Rattle.board.specs.WalkLaws.{walk-off, walk-nowhere}
-use Rattle.board.specs.WalkBits.{left, on-board, nearer, meets-edge, meets-piece, goes-on}
+use Rattle.board.specs.laws.WalkLaws.{walk-off, walk-nowhere}
+use Rattle.board.specs.laws.WalkBits.{left, on-board, nearer, meets-edge, meets-piece, goes-on}
 use Rattle.board.specs.declared.Met.{Met}
 use Rattle.board.proofs.walks.walk.Statement.{statement}
 use Rattle.board.proofs.walks.walk.Tie as tie

@@ -1,8 +1,9 @@
--- `checking::check` meets its contract. The loop's invariant: the bytes below n are right. Assumes nothing.
+-- `checking::check` meets its contract. The loop's invariant: the bytes below n are right.
 use Prim.Native.Nat.{_-_, _≤_}
 use native.Mathlib.Omega.{arith}
 use borrow.Author.Tests.{not-true, not-false}
-use Rattle.checking.specs.Laws.{RightBelow, right-more, check-wrong, check-right, check-man, check-length}
+use Rattle.checking.specs.Right.{RightBelow}
+use Rattle.checking.specs.laws.Laws.{right-more, check-wrong, check-right, check-man, check-length}
 use Rattle.checking.proofs.checker.check.Statement.{statement}
 use Rattle.checking.proofs.checker.check.Tie as tie
 

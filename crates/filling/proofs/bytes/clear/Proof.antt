@@ -1,4 +1,4 @@
--- `filling::clear` meets its contract. The loop's invariant: the bytes below n are 0, the others as they were. Assumes nothing.
+-- `filling::clear` meets its contract. The loop's invariant: the bytes below n are 0, the others as they were.
 use mathlib.Core.Path.{refl}
 use Prim.Native.Nat.{_≤_, _-_}
 use native.Mathlib.Omega.{arith}

@@ -1,8 +1,8 @@
--- `filling::first_byte` meets its contract. Assumes nothing.
+-- `filling::first_byte` meets its contract.
 use mathlib.Core.Path.{sym, _∙_}
 use mathlib.Core.Bool.{true, false}
 use borrow.Author.Needs.{needs}
-use Rattle.filling.specs.Laws.{start-byte}
+use Rattle.filling.specs.laws.Laws.{start-byte}
 use Rattle.filling.proofs.bytes.first_byte.Statement.{statement}
 use Rattle.filling.proofs.bytes.first_byte.Tie as tie
 

@@ -1,4 +1,4 @@
--- `filling::start` meets its contract. The loop's invariant: the bytes below n are started, the others as they were. Assumes nothing.
+-- `filling::start` meets its contract. The loop's invariant: the bytes below n are started, the others as they were.
 use Prim.Native.Nat.{_≤_, _-_}
 use native.Mathlib.Omega.{arith}
 use borrow.Author.Needs.{needs}
@@ -6,7 +6,7 @@ use lib.ListN.{length, length-set}
 use Rattle.finite.specs.Mapped.{Upto, upto-none, upto-more, upto-all}
 use Rattle.numbered.specs.Numbered.{startByte}
 use Rattle.rules.specs.Chess.{chess}
-use Rattle.endings.specs.Endings.{ending}
+use Rattle.endings.specs.Chess.{ending}
 use Rattle.filling.proofs.bytes.start.Statement.{statement}
 use Rattle.filling.proofs.bytes.start.Tie as tie
 

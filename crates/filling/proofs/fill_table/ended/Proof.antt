@@ -1,6 +1,6 @@
--- `filling::ended` meets its contract. Assumes nothing.
+-- `filling::ended` meets its contract.
 use native.Mathlib.Omega.{arith}
-use Rattle.filling.specs.Laws.{ended-none, ended-some}
+use Rattle.filling.specs.laws.Laws.{ended-none, ended-some}
 use Rattle.filling.proofs.fill_table.ended.Statement.{statement}
 use Rattle.filling.proofs.fill_table.ended.Tie as tie
 

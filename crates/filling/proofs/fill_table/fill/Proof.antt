@@ -1,5 +1,4 @@
 -- `filling::fill` meets its contract. The loop's invariant: the passes left, from the table as it stands, give what all passes give.
--- Assumes nothing.
 use mathlib.Core.Path.{_≡_, refl, sym, ap, _∙_}
 use Prim.Native.Nat.{_+_, _-_, _≤_}
 use native.Mathlib.Omega.{arith}
@@ -8,8 +7,8 @@ use lib.ListN.{length}
 use Rattle.finite.specs.Mapped.{mapFrom, length-mapFrom}
 use Rattle.numbered.specs.Numbered.{startByte, passesFrom}
 use Rattle.rules.specs.Chess.{chess}
-use Rattle.endings.specs.Endings.{ending}
-use Rattle.filling.specs.Laws.{size-is, passed-none, passes-on, passes-stop, passes-deep, fill-man, fill-length, fill-ends}
+use Rattle.endings.specs.Chess.{ending}
+use Rattle.filling.specs.laws.Laws.{size-is, passed-none, passes-on, passes-stop, passes-deep, fill-man, fill-length, fill-ends}
 use Rattle.filling.proofs.fill_table.fill.Statement.{statement}
 use Rattle.filling.proofs.fill_table.fill.Tie as tie
 

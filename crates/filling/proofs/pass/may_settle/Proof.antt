@@ -1,9 +1,10 @@
--- `filling::may_settle` meets its contract. The loop's invariant: the byte sought stands at no number passed. Assumes nothing.
+-- `filling::may_settle` meets its contract. The loop's invariant: the byte sought stands at no number passed.
 use mathlib.Core.Path.{refl}
 use Prim.Native.Nat.{_+_, _-_}
 use native.Mathlib.Omega.{arith}
 use Rattle.finite.specs.Truth.{true-not-false}
-use Rattle.filling.specs.Quiet.{Absent, absent-none, absent-more, quiet-if}
+use Rattle.filling.specs.Quiet.{Absent}
+use Rattle.filling.specs.laws.Quiet.{absent-none, absent-more, quiet-if}
 use Rattle.filling.proofs.pass.may_settle.Statement.{statement}
 use Rattle.filling.proofs.pass.may_settle.Tie as tie
 

@@ -1,4 +1,4 @@
--- `filling::of_half` meets its contract. Assumes nothing.
+-- `filling::of_half` meets its contract.
 use borrow.Author.Tests.{lt-ltb, le-ltb}
 use Rattle.filling.proofs.pass.of_half.Statement.{statement}
 use Rattle.filling.proofs.pass.of_half.Tie as tie

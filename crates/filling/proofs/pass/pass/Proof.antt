@@ -1,4 +1,4 @@
--- `filling::pass` meets its contract. The loop's invariant: the pass is done below n, in place, and whether it settled a number there is kept. Assumes nothing.
+-- `filling::pass` meets its contract. The loop's invariant: the pass is done below n, in place, and whether it settled a number there is kept.
 use mathlib.Core.Path.{_≡_, sym, _∙_}
 use Prim.Native.Nat.{_≤_, _-_}
 use native.Mathlib.Omega.{arith}
@@ -6,9 +6,9 @@ use lib.ListN.{length}
 use Rattle.finite.specs.Mapped.{Upto, upto-none}
 use Rattle.numbered.specs.Numbered.{passByte}
 use Rattle.rules.specs.Chess.{chess}
-use Rattle.endings.specs.Endings.{ending}
-use Rattle.filling.specs.Laws.{someBelow, none-below, pass-turn, pass-done, size-is}
-use Rattle.filling.specs.Quiet.{quiet-in-place}
+use Rattle.endings.specs.Chess.{ending}
+use Rattle.filling.specs.laws.Laws.{someBelow, none-below, pass-turn, pass-done, size-is}
+use Rattle.filling.specs.laws.Quiet.{quiet-in-place}
 use Rattle.filling.proofs.pass.pass.Statement.{statement}
 use Rattle.filling.proofs.pass.pass.Tie as tie
 

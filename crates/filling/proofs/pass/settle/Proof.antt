@@ -1,8 +1,8 @@
--- `filling::settle` meets its contract. Assumes nothing.
+-- `filling::settle` meets its contract.
 use native.Mathlib.Omega.{arith}
 use borrow.Author.Needs.{needs}
 use borrow.Author.Tests.{not-true, not-false}
-use Rattle.filling.specs.Laws.{settle-no, settle-yes}
+use Rattle.filling.specs.laws.Laws.{settle-no, settle-yes}
 use Rattle.filling.proofs.pass.settle.Statement.{statement}
 use Rattle.filling.proofs.pass.settle.Tie as tie
 

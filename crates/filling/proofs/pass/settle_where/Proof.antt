@@ -1,8 +1,8 @@
--- `filling::settle_where` meets its contract. Assumes nothing.
+-- `filling::settle_where` meets its contract.
 use mathlib.Core.Path.{refl}
 use borrow.Author.Needs.{needs}
 use borrow.Author.Tests.{not-true}
-use Rattle.filling.specs.Laws.{settle-no}
+use Rattle.filling.specs.laws.Laws.{settle-no}
 use Rattle.filling.proofs.pass.settle_where.Statement.{statement}
 use Rattle.filling.proofs.pass.settle_where.Tie as tie
 

@@ -1,11 +1,11 @@
--- `filling::some_settles` meets its contract. The loop's invariant: no number below n is settled. Assumes nothing.
+-- `filling::some_settles` meets its contract. The loop's invariant: no number below n is settled.
 use mathlib.Core.Path.{_≡_, sym, _∙_}
 use mathlib.Core.Bool.{false}
 use Prim.Native.Nat.{_≤_, _-_}
 use native.Mathlib.Omega.{arith}
 use Rattle.rules.specs.Chess.{chess}
-use Rattle.endings.specs.Endings.{ending}
-use Rattle.filling.specs.Laws.{someBelow, none-below, none-yet, some-now, none-at-all, size-is}
+use Rattle.endings.specs.Chess.{ending}
+use Rattle.filling.specs.laws.Laws.{someBelow, none-below, none-yet, some-now, none-at-all, size-is}
 use Rattle.filling.proofs.pass.some_settles.Statement.{statement}
 use Rattle.filling.proofs.pass.some_settles.Tie as tie
 

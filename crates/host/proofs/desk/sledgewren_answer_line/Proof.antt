@@ -1,6 +1,6 @@
--- `host::sledgewren_answer_line` meets its contract, by the test of the slip's length. Assumes nothing.
+-- `host::sledgewren_answer_line` meets its contract, by the test of the slip's length.
 use borrow.Author.Needs.{needs}
-use Rattle.host.specs.Laws.{not-replied, line-replied}
+use Rattle.host.specs.laws.Laws.{not-replied, line-replied}
 use Rattle.host.proofs.desk.sledgewren_answer_line.Statement.{statement}
 use Rattle.host.proofs.desk.sledgewren_answer_line.Tie as tie
 

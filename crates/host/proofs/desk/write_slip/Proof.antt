@@ -1,10 +1,10 @@
--- `host::write_slip` meets its contract. The loop's invariant: the bytes left, written behind those written, give what all bytes give. Assumes nothing.
+-- `host::write_slip` meets its contract. The loop's invariant: the bytes left, written behind those written, give what all bytes give.
 use mathlib.Core.Path.{_≡_, refl, sym, _∙_}
 use Prim.Native.Nat.{_-_, _≤_}
 use native.Mathlib.Omega.{arith}
 use lib.ListN.{length, drop, length-set}
 use lib.Seq.{sets}
-use Rattle.host.specs.Laws.{sets-all, copy-turn, copy-end}
+use Rattle.host.specs.laws.Laws.{sets-all, copy-turn, copy-end}
 use Rattle.host.proofs.desk.write_slip.Statement.{statement}
 use Rattle.host.proofs.desk.write_slip.Tie as tie
 

@@ -1,11 +1,16 @@
--- `host::sledgewren_moves` meets its contract, by the test of the bytes' length. Assumes nothing.
+-- `host::sledgewren_moves` meets its contract, by the test of the bytes' length.
+use mathlib.Core.Path.{ap, _∙_}
+use Rattle.listing.specs.Answers.{listed}
 use borrow.Author.Needs.{needs}
-use Rattle.host.specs.Laws.{not-listed, listed-bytes}
+use Rattle.host.specs.laws.Laws.{not-listed, listed-bytes}
 use Rattle.host.proofs.lists.sledgewren_moves.Statement.{statement}
 use Rattle.host.proofs.lists.sledgewren_moves.Tie as tie
 
 returns : tie.Need-returns
 returns c = not-listed _ _ (c .if1 .taken)
+
+lone-requires : tie.Need-lone-requires
+lone-requires c κs = search needs
 
 legal-moves-requires : tie.Need-legal-moves-requires
 legal-moves-requires c κs = search needs
@@ -32,13 +37,14 @@ returns-2 : tie.Need-returns-2
 returns-2 c =
     let w = c .before .before .before .before in
     let l = w .before .before .before in
-    listed-bytes _ _ _ _ (l .before .if1 .left) (l .legal-moves .ensures) (w .write-moves .ensures)
+    listed-bytes _ _ _ _ (l .before .before .if1 .left) (l .legal-moves .ensures ∙ ap listed (l .before .lone .ensures)) (w .write-moves .ensures)
 
 pub sledgewren-moves-spec : {M : Type 1} → statement M
 sledgewren-moves-spec =
     tie.close
     (tie.spec
     returns
+    lone-requires
     legal-moves-requires
     write-moves-requires
     cast-result

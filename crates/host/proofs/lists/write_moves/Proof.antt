@@ -1,4 +1,4 @@
--- `host::write_moves` meets its contract. The loop's invariant: the pairs left, written behind those written, give what all pairs give. Assumes nothing.
+-- `host::write_moves` meets its contract. The loop's invariant: the pairs left, written behind those written, give what all pairs give.
 use mathlib.Core.Path.{_≡_, refl, sym, _∙_}
 use mathlib.Core.List.{flatMap}
 use Prim.Native.Nat.{_*_, _-_, _≤_}
@@ -6,7 +6,7 @@ use native.Mathlib.Omega.{arith}
 use lib.ListN.{length, drop, length-set, length-map}
 use lib.Seq.{sets}
 use Rattle.host.specs.Words.{pairBytes, moveBytes}
-use Rattle.host.specs.Laws.{sets-all, pairs-length, pair-turn, pairs-end}
+use Rattle.host.specs.laws.Laws.{sets-all, pairs-length, pair-turn, pairs-end}
 use Rattle.host.proofs.lists.write_moves.Statement.{statement}
 use Rattle.host.proofs.lists.write_moves.Tie as tie
 

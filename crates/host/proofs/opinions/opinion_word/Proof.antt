@@ -1,4 +1,4 @@
--- `host::opinion_word` meets its contract. Each arm by the case it is. Assumes nothing.
+-- `host::opinion_word` meets its contract. Each arm by the case it is.
 use mathlib.Core.Path.{ap, sym, _∙_}
 use native.Mathlib.Nat.{add-zero}
 use borrow.Author.Needs.{needs}

@@ -1,4 +1,4 @@
--- `host::pocket_word` meets its contract. Each arm by the case it is. Assumes nothing.
+-- `host::pocket_word` meets its contract. Each arm by the case it is.
 use mathlib.Core.Path.{ap, sym, _∙_}
 use Prim.Native.Nat.{ℕ}
 use native.Mathlib.Nat.{add-zero}

@@ -1,4 +1,4 @@
--- `host::tallied_word` meets its contract. Each arm by the case it is. Assumes nothing.
+-- `host::tallied_word` meets its contract. Each arm by the case it is.
 use mathlib.Core.Path.{ap, sym, _∙_}
 use borrow.Author.Needs.{needs}
 use Rattle.host.specs.PocketWords.{talliedWord}

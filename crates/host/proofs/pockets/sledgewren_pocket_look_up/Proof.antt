@@ -1,9 +1,13 @@
--- `host::sledgewren_pocket_look_up` meets its contract. The word of the answer. Assumes nothing.
+-- `host::sledgewren_pocket_look_up` meets its contract. The word of the answer.
 use mathlib.Core.Path.{ap, _∙_}
 use borrow.Author.Needs.{needs}
+use Rattle.pocket.specs.Pocket.{pocketLookUpOf}
 use Rattle.host.specs.PocketWords.{toldWord}
 use Rattle.host.proofs.pockets.sledgewren_pocket_look_up.Statement.{statement}
 use Rattle.host.proofs.pockets.sledgewren_pocket_look_up.Tie as tie
+
+lone-requires : tie.Need-lone-requires
+lone-requires c κs = search needs
 
 look-up-requires : tie.Need-look-up-requires
 look-up-requires c κs = search needs
@@ -12,7 +16,7 @@ pocket-word-requires : tie.Need-pocket-word-requires
 pocket-word-requires c κs = search needs
 
 returns : tie.Need-returns
-returns c = c .pocket-word .ensures ∙ ap toldWord (c .before .look-up .ensures)
+returns c = c .pocket-word .ensures ∙ ap toldWord (c .before .look-up .ensures ∙ ap (pocketLookUpOf _) (c .before .before .lone .ensures))
 
 pub sledgewren-pocket-look-up-spec : {M : Type 1} → statement M
-sledgewren-pocket-look-up-spec = tie.close (tie.spec look-up-requires pocket-word-requires returns)
+sledgewren-pocket-look-up-spec = tie.close (tie.spec lone-requires look-up-requires pocket-word-requires returns)

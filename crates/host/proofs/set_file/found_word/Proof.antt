@@ -1,4 +1,4 @@
--- `host::found_word` meets its contract. Each arm by the case it is. Assumes nothing.
+-- `host::found_word` meets its contract. Each arm by the case it is.
 use mathlib.Core.Path.{ap, sym}
 use borrow.Author.Needs.{needs}
 use Rattle.host.specs.SetWords.{foundWord}

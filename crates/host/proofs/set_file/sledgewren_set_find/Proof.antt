@@ -1,4 +1,4 @@
--- `host::sledgewren_set_find` meets its contract. The word of the answer. Assumes nothing.
+-- `host::sledgewren_set_find` meets its contract. The word of the answer.
 use mathlib.Core.Path.{ap, _∙_}
 use Rattle.host.specs.SetWords.{foundWord}
 use Rattle.host.proofs.set_file.sledgewren_set_find.Statement.{statement}

@@ -1,7 +1,7 @@
--- `host::sledgewren_set_start` meets its contract. The word of the answer. Assumes nothing.
+-- `host::sledgewren_set_start` meets its contract. The word of the answer.
 use borrow.Author.Needs.{needs}
 use Rattle.sets.specs.Answers.{startOf}
-use Rattle.host.specs.SetLaws.{written-by}
+use Rattle.host.specs.laws.SetLaws.{written-by}
 use Rattle.host.proofs.set_file.sledgewren_set_start.Statement.{statement}
 use Rattle.host.proofs.set_file.sledgewren_set_start.Tie as tie
 

@@ -1,7 +1,7 @@
--- `host::sledgewren_set_write` meets its contract. The word of the answer. Assumes nothing.
+-- `host::sledgewren_set_write` meets its contract. The word of the answer.
 use borrow.Author.Needs.{needs}
 use Rattle.sets.specs.Answers.{writeOf}
-use Rattle.host.specs.SetLaws.{written-by}
+use Rattle.host.specs.laws.SetLaws.{written-by}
 use Rattle.host.proofs.set_file.sledgewren_set_write.Statement.{statement}
 use Rattle.host.proofs.set_file.sledgewren_set_write.Tie as tie
 

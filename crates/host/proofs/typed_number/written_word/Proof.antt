@@ -1,7 +1,7 @@
--- `host::written_word` meets its contract: the sum of the bytes in their places. Assumes nothing.
+-- `host::written_word` meets its contract: the sum of the bytes in their places.
 use lib.ListN.{length-map}
 use borrow.Author.Needs.{needs}
-use Rattle.host.specs.TypedLaws.{word-sum}
+use Rattle.host.specs.laws.TypedLaws.{word-sum}
 use Rattle.host.proofs.typed_number.written_word.Statement.{statement}
 use Rattle.host.proofs.typed_number.written_word.Tie as tie
 

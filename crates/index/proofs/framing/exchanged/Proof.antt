@@ -1,9 +1,9 @@
--- `index::exchanged` meets its contract. Assumes nothing.
+-- `index::exchanged` meets its contract.
 use mathlib.Core.Path.{sym, _∙_}
 use mathlib.Core.Bool.{false}
 use borrow.Author.Needs.{needs}
 use borrow.Author.Tests.{eq-eqb, ne-eqb}
-use Rattle.numbering.specs.NormalLaws.{stays-diagonal}
+use Rattle.numbering.specs.laws.NormalLaws.{stays-diagonal}
 use Rattle.index.proofs.framing.exchanged.Statement.{statement}
 use Rattle.index.proofs.framing.exchanged.Tie as tie
 

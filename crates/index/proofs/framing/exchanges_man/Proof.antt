@@ -1,4 +1,4 @@
--- `index::exchanges_man` meets its contract. Assumes nothing.
+-- `index::exchanges_man` meets its contract.
 use borrow.Author.Tests.{eq-eqb, ne-eqb}
 use Rattle.index.specs.Frames.{exchangesMan}
 use Rattle.index.proofs.framing.exchanges_man.Statement.{statement}

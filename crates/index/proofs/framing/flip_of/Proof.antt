@@ -1,4 +1,4 @@
--- `index::flip_of` meets its contract. Assumes nothing.
+-- `index::flip_of` meets its contract.
 use borrow.Author.Tests.{lt-ltb, le-ltb}
 use Rattle.index.specs.Frames.{flipOf}
 use Rattle.index.proofs.framing.flip_of.Statement.{statement}

@@ -1,4 +1,4 @@
--- `index::flipped` meets its contract. Assumes nothing.
+-- `index::flipped` meets its contract.
 use borrow.Author.Tests.{lt-ltb, le-ltb}
 use Rattle.index.specs.Frames.{flipped}
 use Rattle.index.proofs.framing.flipped.Statement.{statement}

@@ -1,4 +1,4 @@
--- `index::frame_of` meets its contract. Assumes nothing.
+-- `index::frame_of` meets its contract.
 use borrow.Author.Needs.{needs}
 use Rattle.index.specs.Frames.{frameOf}
 use Rattle.index.proofs.framing.frame_of.Statement.{statement}

@@ -1,7 +1,7 @@
--- `index::number_in` meets its contract: with file and rank exchanged, or as they are. Assumes nothing.
+-- `index::number_in` meets its contract: with file and rank exchanged, or as they are.
 use mathlib.Core.Path.{sym, _∙_}
 use borrow.Author.Needs.{needs}
-use Rattle.index.specs.FrameLaws.{in-exchanged, in-plain}
+use Rattle.index.specs.laws.FrameLaws.{in-exchanged, in-plain}
 use Rattle.index.proofs.framing.number_in.Statement.{statement}
 use Rattle.index.proofs.framing.number_in.Tie as tie
 

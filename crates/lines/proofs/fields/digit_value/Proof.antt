@@ -1,4 +1,4 @@
--- `lines::fields::digit_value` meets its contract: each return by the tests that led there. Assumes nothing.
+-- `lines::fields::digit_value` meets its contract: each return by the tests that led there.
 use borrow.Author.Needs.{needs}
 use borrow.Author.Tests.{le-leb, lt-leb}
 use native.Mathlib.Omega.{arith}

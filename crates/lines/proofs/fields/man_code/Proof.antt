@@ -1,4 +1,4 @@
--- `lines::fields::man_code` meets its contract: each arm by the letter that it names. Assumes nothing.
+-- `lines::fields::man_code` meets its contract: each arm by the letter that it names.
 use borrow.Author.Tests.{ne-eqb}
 use Rattle.lines.specs.Grammar.{manOf}
 use Rattle.lines.proofs.fields.man_code.Statement.{statement}

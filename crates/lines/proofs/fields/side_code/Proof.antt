@@ -1,4 +1,4 @@
--- `lines::fields::side_code` meets its contract: each arm by the letter that it names. Assumes nothing.
+-- `lines::fields::side_code` meets its contract: each arm by the letter that it names.
 use borrow.Author.Tests.{ne-eqb}
 use Rattle.lines.specs.Grammar.{sideOf}
 use Rattle.lines.proofs.fields.side_code.Statement.{statement}

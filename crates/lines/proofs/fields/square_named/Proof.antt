@@ -1,4 +1,4 @@
--- `lines::fields::square_named` meets its contract: each return by the tests that led there. Assumes nothing.
+-- `lines::fields::square_named` meets its contract: each return by the tests that led there.
 use borrow.Author.Needs.{needs}
 use borrow.Author.Tests.{le-leb, lt-leb}
 use Rattle.lines.specs.Grammar.{squareOf}

@@ -1,4 +1,4 @@
--- `lines::shape::fits_place` meets its contract: each return by the tests that led there. Assumes nothing.
+-- `lines::shape::fits_place` meets its contract: each return by the tests that led there.
 use borrow.Author.Tests.{eq-eqb, ne-eqb}
 use Rattle.lines.specs.Grammar.{fitsPlace}
 use Rattle.lines.proofs.shape.fits_place.Statement.{statement}

@@ -1,4 +1,4 @@
--- `lines::shape::shaped` meets its contract: the loop keeps that what is left of the line decides as the whole. Assumes nothing.
+-- `lines::shape::shaped` meets its contract: the loop keeps that what is left of the line decides as the whole.
 use mathlib.Core.Path.{_≡_, refl, sym, _∙_}
 use mathlib.Core.List.{List}
 use Prim.Native.Nat.{ℕ, _-_, _≤_}
@@ -7,7 +7,7 @@ use borrow.Author.Needs.{needs}
 use borrow.Author.Tests.{not-true, not-false}
 use lib.ListN.{length, drop}
 use Rattle.lines.specs.Grammar.{hasShape}
-use Rattle.lines.specs.Shapes.{shape-longer, shape-first, shape-end}
+use Rattle.lines.specs.laws.Shapes.{shape-longer, shape-first, shape-end}
 use Rattle.lines.proofs.shape.shaped.Statement.{statement}
 use Rattle.lines.proofs.shape.shaped.Tie as tie
 

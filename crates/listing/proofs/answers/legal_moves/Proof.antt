@@ -1,4 +1,6 @@
-use Rattle.listing.specs.AnswerLaws.{refused-list, given-list}
+use mathlib.Core.Path.{sym, _∙_}
+use Rattle.listing.specs.laws.Served.{served-room}
+use Rattle.listing.specs.laws.AnswerLaws.{refused-list, given-list}
 use borrow.Author.Needs.{needs}
 use Rattle.listing.proofs.answers.legal_moves.Statement.{statement}
 use Rattle.listing.proofs.answers.legal_moves.Tie as tie
@@ -13,7 +15,7 @@ returns : tie.Need-returns
 returns c = refused-list _ _ (c .before .before .standing-refusal .ensures) (c .before .if1 .taken) _ (c .no-moves .ensures)
 
 moves-of-requires : tie.Need-moves-of-requires
-moves-of-requires c κs = search needs
+moves-of-requires c κs = served-room _ (sym (c .before .standing-refusal .ensures) ∙ c .if1 .left)
 
 returns-2 : tie.Need-returns-2
 returns-2 c = given-list _ _ (c .before .before .standing-refusal .ensures) (c .before .if1 .left) _ (c .moves-of .ensures)

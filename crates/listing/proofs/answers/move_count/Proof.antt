@@ -1,4 +1,4 @@
-use Rattle.listing.specs.AnswerLaws.{refused-count, given-count}
+use Rattle.listing.specs.laws.AnswerLaws.{refused-count, given-count}
 use borrow.Author.Needs.{needs}
 use Rattle.listing.proofs.answers.move_count.Statement.{statement}
 use Rattle.listing.proofs.answers.move_count.Tie as tie

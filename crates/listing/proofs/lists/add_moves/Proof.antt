@@ -1,19 +1,21 @@
--- `listing::add_moves` meets its contract: what is stored, with the rest stored behind it, is what is to be stored. Assumes nothing.
+-- `listing::add_moves` meets its contract: what is stored, with the rest stored behind it, is what is to be stored.
 use Rattle.board.specs.Sets.{has, members, setOf}
 use Prim.Native.Nat.{ℕ, _+_, _^_, _<_}
 use mathlib.Core.Bool.{not, _&&_}
 use lib.Dec.{eqb}
-use Rattle.board.specs.LowestLaws.{Lowest, lowest-of}
+use Rattle.board.specs.laws.LowestLaws.{Lowest, lowest-of}
 use mathlib.Core.Path.{_≡_, refl, ap}
-use mathlib.Core.List.{[], map}
+use mathlib.Core.List.{[]}
 use native.Mathlib.Numerals.{add-one}
 use native.Mathlib.Omega.{arith}
-use lib.ListN.{length, length-map}
+use lib.ListN.{length}
 use lib.Seq.{sets}
-use Rattle.board.specs.SetLaws.{members-none}
-use Rattle.rules.specs.Rules.{moveOf}
+use Rattle.board.specs.laws.SetLaws.{members-none}
+use Rattle.rules.specs.Rules.{movesOnto}
+use Rattle.rules.specs.laws.MoveLists.{onto-none, onto-more, onto-length}
 use Rattle.listing.specs.Lists.{room}
-use Rattle.listing.specs.ListLaws.{appended, list-eq}
+use Rattle.listing.specs.ListLaws.{appended}
+use Rattle.listing.specs.laws.ListLaws.{list-eq}
 use Rattle.listing.proofs.lists.add_moves.Statement.{statement}
 use Rattle.listing.proofs.lists.add_moves.Tie as tie
 
@@ -21,7 +23,7 @@ abbrev Inv-loop : tie.InvT-loop
 Inv-loop from targets moves₀ count₀ rest₀ moves count rest =
     (rest < 2 ^ 64)
     × (count + length (members rest) ≡ count₀ + length (members targets))
-    × (sets moves count (map (moveOf from) (members rest)) ≡ sets moves₀ count₀ (map (moveOf from) (members targets)))
+    × (sets moves count (movesOnto from (members rest)) ≡ sets moves₀ count₀ (movesOnto from (members targets)))
 
 abbrev μ-loop : tie.MeasureT-loop
 μ-loop from targets moves₀ count₀ rest₀ moves count rest = length (members rest)
@@ -31,6 +33,9 @@ loop-holds c = (c .before .fits .targets .fits, refl, refl)
 
 lowest-requires : tie.Need-lowest-requires Inv-loop μ-loop
 lowest-requires c κs = tt
+
+move-of-requires : tie.Need-move-of-requires Inv-loop μ-loop
+move-of-requires c κs = tt
 
 -- what taking the lowest square out of the rest means
 low : (c : tie.After-lowest Inv-loop μ-loop) (others : ℕ) → others ≡ setOf (λ (u : ℕ). has (c .before .before .loop .rest) u && not (eqb u (c .lowest .result)))
@@ -42,35 +47,35 @@ place : (c : tie.After-lowest Inv-loop μ-loop) → c .before .before .loop .cou
 place c = omega (arith, low c _ refl .fewer, c .before .before .loop .inv .1, c .before .before .before .before .pre)
 
 cast-moves : tie.Need-cast-moves Inv-loop μ-loop
-cast-moves c = omega (arith, place c)
+cast-moves c = omega (arith, place (c .before))
 
 mul-moves : tie.Need-mul-moves Inv-loop μ-loop
-mul-moves c = omega (arith, place c)
+mul-moves c = omega (arith, place (c .before))
 
 array-set-from-moves : tie.Need-array-set-from-moves Inv-loop μ-loop
-array-set-from-moves c = place c
+array-set-from-moves c = place (c .before)
 
 add-count : tie.Need-add-count Inv-loop μ-loop
-add-count c = omega (arith, place c)
+add-count c = omega (arith, place (c .before))
 
 without-requires : tie.Need-without-requires Inv-loop μ-loop
 without-requires c κs = tt
 
 loop-less : tie.Need-loop-less Inv-loop μ-loop
-loop-less c = low (c .before) _ (c .without .ensures) .fewer
+loop-less c = low (c .before .before) _ (c .without .ensures) .fewer
 
 loop-again : tie.Need-loop-again Inv-loop μ-loop
 loop-again c =
-    let i = c .before .before .before .loop .inv in
-    let l = low (c .before) _ (c .without .ensures) in
-    (c .without .ok, omega (arith, i .1, ap length (l .first)), rw (add-one, ← i .2, l .first))
+    let i = c .before .before .before .before .loop .inv in
+    let l = low (c .before .before) _ (c .without .ensures) in
+    (c .without .ok, omega (arith, i .1, ap length (l .first)), rw (add-one, ← i .2, l .first, onto-more, c .before .move-of .ensures))
 
 returns : tie.Need-returns Inv-loop μ-loop
 unfolding appended
 returns c =
     let i = c .before .loop .inv in
     let none : members (c .before .loop .rest) ≡ [] = rw (c .loop-test .left) members-none in
-    list-eq _ _ _ _ (rw none at (i .2)) (simp length-map (omega (arith, i .1, ap length none)))
+    list-eq _ _ _ _ (rw (none, onto-none) at (i .2)) (simp onto-length (omega (arith, i .1, ap length none)))
 
 pub add-moves-spec : {M : Type 1} → statement M
 add-moves-spec =
@@ -80,6 +85,7 @@ add-moves-spec =
     μ-loop
     loop-holds
     lowest-requires
+    move-of-requires
     cast-moves
     mul-moves
     array-set-from-moves

@@ -1,33 +1,30 @@
--- `listing::moves_of` meets its contract: the list, with the moves of the rest behind it, is the list of all moves. Assumes nothing.
+-- `listing::moves_of` meets its contract: the list, with the moves of the rest behind it, is the list of all moves.
 use mathlib.Core.Path.{_≡_, refl, sym, ap, _∙_}
 use mathlib.Core.List.{[], flatMap}
 use Prim.Native.Nat.{ℕ, _+_, _^_, _≤_, _<_}
 use native.Mathlib.Omega.{arith}
 use lib.ListN.{length}
 use Rattle.board.specs.Sets.{has, members, setOf}
-use Rattle.board.specs.SetLaws.{members-none}
+use Rattle.board.specs.laws.SetLaws.{members-none}
 use Rattle.rules.specs.Rules.{canMove, movesFrom, allMoves}
-use Rattle.moves.specs.Setups.{setupBoard}
+use Rattle.position.specs.Keyed.{boardOf}
 use Rattle.listing.specs.Lists.{room, listOf}
-use Rattle.listing.specs.KeyedSetup.{setup-side, setup-moves, setup-35}
-use Rattle.listing.specs.ListLaws.{appended, appended-first, appended-none, by-movers, turn-length, turn-moves, turn-count}
+use Rattle.listing.specs.ListLaws.{appended}
+use Rattle.listing.specs.laws.ListLaws.{appended-first, appended-none, by-movers, turn-length, turn-moves, turn-count}
 use mathlib.Core.Bool.{not, _&&_}
 use lib.Dec.{eqb}
-use Rattle.board.specs.LowestLaws.{Lowest, lowest-of}
+use Rattle.board.specs.laws.LowestLaws.{Lowest, lowest-of}
 use Rattle.listing.proofs.lists.moves_of.Statement.{statement}
 use Rattle.listing.proofs.lists.moves_of.Tie as tie
 
 abbrev Inv-loop : tie.InvT-loop
-Inv-loop s list₀ rest₀ list rest =
+Inv-loop p list₀ rest₀ list rest =
     (rest < 2 ^ 64)
-    × (list .count + length (flatMap (movesFrom (canMove (setupBoard s))) (members rest)) ≤ room)
-    × (appended list (flatMap (movesFrom (canMove (setupBoard s))) (members rest)) ≡ listOf (allMoves (canMove (setupBoard s))))
+    × (list .count + length (flatMap (movesFrom (canMove (boardOf p))) (members rest)) ≤ room)
+    × (appended list (flatMap (movesFrom (canMove (boardOf p))) (members rest)) ≡ listOf (allMoves (canMove (boardOf p))))
 
 abbrev μ-loop : tie.MeasureT-loop
-μ-loop s list₀ rest₀ list rest = length (members rest)
-
-setup-of-requires : tie.Need-setup-of-requires Inv-loop μ-loop
-setup-of-requires c κs = tt
+μ-loop p list₀ rest₀ list rest = length (members rest)
 
 no-moves-requires : tie.Need-no-moves-requires Inv-loop μ-loop
 no-moves-requires c κs = tt
@@ -36,13 +33,12 @@ own-requires : tie.Need-own-requires Inv-loop μ-loop
 own-requires c κs = tt
 
 loop-holds : tie.Need-loop-holds Inv-loop μ-loop
-unfolding listOf
+unfolding listOf boardOf
 loop-holds c =
-    let p = c .before .before .before .args .p in
-    let s = c .before .before .setup-of .result in
-    let d = by-movers (setupBoard s) (c .own .result) (c .own .ensures ∙ rw (setup-side p s (c .before .before .setup-of .ensures))) in
-    let few = setup-35 p s (c .before .before .setup-of .ensures) in
-    rw (c .before .no-moves .ensures, ← d) (c .own .ok, omega arith, appended-first (allMoves (canMove (setupBoard s))) few)
+    let p = c .before .before .args .p in
+    let d = by-movers (boardOf p) (c .own .result) (c .own .ensures) in
+    let few = c .before .before .pre in
+    rw (c .before .no-moves .ensures, ← d) (c .own .ok, omega arith, appended-first (allMoves (canMove (boardOf p))) few)
 
 lowest-requires : tie.Need-lowest-requires Inv-loop μ-loop
 lowest-requires c κs = tt
@@ -57,7 +53,7 @@ low c others e = let i = c .before in lowest-of (i .before .loop .rest) _ _ (i .
 
 add-moves-requires : tie.Need-add-moves-requires Inv-loop μ-loop
 add-moves-requires c κs =
-    let can = canMove (setupBoard (c .before .before .before .before .before .before .setup-of .result)) in
+    let can = canMove (boardOf (c .before .before .before .before .before .before .args .p)) in
     let i = c .before .before .before .loop .inv in
     omega (arith, i .1, turn-length can _ _ _ _ (low (c .before) _ refl) (c .legal-targets .ensures))
 
@@ -69,7 +65,7 @@ loop-less c = low (c .before .before .before) _ (c .without .ensures) .fewer
 
 loop-again : tie.Need-loop-again Inv-loop μ-loop
 loop-again c =
-    let can = canMove (setupBoard (c .before .before .before .before .before .before .before .before .setup-of .result)) in
+    let can = canMove (boardOf (c .before .before .before .before .before .before .before .before .args .p)) in
     let l = c .before .before .before .before .before .loop in
     let w = low (c .before .before .before) _ (c .without .ensures) in
     let e = c .before .before .legal-targets .ensures in
@@ -84,7 +80,7 @@ unfolding flatMap
 returns c =
     let l = c .before .loop in
     let none : members (l .rest) ≡ [] = rw (c .loop-test .left) members-none in
-    sym (appended-none (l .list)) ∙ rw none at (l .inv .2) ∙ ap listOf (setup-moves _ _ (c .before .before .before .before .setup-of .ensures))
+    sym (appended-none (l .list)) ∙ rw none at (l .inv .2)
 
 pub moves-of-spec : {M : Type 1} → statement M
 moves-of-spec =
@@ -92,7 +88,6 @@ moves-of-spec =
     (tie.spec
     Inv-loop
     μ-loop
-    setup-of-requires
     no-moves-requires
     own-requires
     loop-holds

@@ -1,4 +1,4 @@
-use Rattle.moves.specs.Setups.{after}
+use Rattle.moves.specs.After.{after}
 use borrow.Author.Needs.{needs}
 use Rattle.moves.proofs.making.make.Statement.{statement}
 use Rattle.moves.proofs.making.make.Tie as tie

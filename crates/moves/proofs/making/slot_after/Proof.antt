@@ -1,6 +1,6 @@
 use mathlib.Core.Path.{sym, ap, _∙_}
 use borrow.Author.Tests.{eq-eqb, ne-eqb}
-use Rattle.moves.specs.Setups.{slotAfter}
+use Rattle.moves.specs.After.{slotAfter}
 use borrow.Author.Needs.{needs}
 use Rattle.moves.proofs.making.slot_after.Statement.{statement}
 use Rattle.moves.proofs.making.slot_after.Tie as tie

@@ -1,7 +1,7 @@
 use mathlib.Core.Path.{sym, _∙_}
 use Rattle.board.specs.Sets.{has}
-use Rattle.moves.specs.Over.{goesFrom}
-use Rattle.moves.specs.Pieces.{goes-four, union-four}
+use Rattle.position.specs.Over.{goesFrom}
+use Rattle.position.specs.laws.Pieces.{goes-four, union-four}
 use borrow.Author.Needs.{needs}
 use Rattle.moves.proofs.targets.goes_over.Statement.{statement}
 use Rattle.moves.proofs.targets.goes_over.Tie as tie
@@ -26,9 +26,9 @@ returns c =
     let q = c .before .before .before .before in
     let x = q .before .args in
     λ t h.
-    union-four (goesFrom (has (x .occ)) (x .s .side) (x .from) t) (q .pieces-of .result) _ _ _ _ t
+    union-four (goesFrom (has (x .occ)) (x .p .side) (x .from) t) (q .pieces-of .result) _ _ _ _ t
     (c .before .before .before .goes-set .ensures t h) (c .before .before .goes-set2 .ensures t h) (c .before .goes-set3 .ensures t h) (c .goes-set4 .ensures t h)
-    ∙ sym (goes-four (x .s) _ (q .pieces-of .ensures) (has (x .occ)) (x .from) t)
+    ∙ sym (goes-four (x .p) _ (q .pieces-of .ensures) (has (x .occ)) (x .from) t)
 
 pub goes-over-spec : {M : Type 1} → statement M
 goes-over-spec =

@@ -1,8 +1,8 @@
 use Rattle.board.specs.Sets.{has}
 use mathlib.Core.Path.{sym, _∙_}
-use Rattle.board.specs.SetLaws.{has-none, set-has}
+use Rattle.board.specs.laws.SetLaws.{has-none, set-has}
 use Rattle.rules.specs.Rules.{goesTo}
-use Rattle.moves.specs.Over.{goes-other, goes-elsewhere, goes-own}
+use Rattle.position.specs.laws.Over.{goes-other, goes-elsewhere, goes-own}
 use borrow.Author.Needs.{needs}
 use Rattle.moves.proofs.targets.goes_set.Statement.{statement}
 use Rattle.moves.proofs.targets.goes_set.Tie as tie

@@ -1,5 +1,5 @@
--- `moves::legal_targets` meets its contract: each return is one of the ways of `Targets`. Assumes nothing.
-use Rattle.moves.specs.Targets.{by-making, by-attacked, by-freedom}
+-- `moves::legal_targets` meets its contract: each return is one of the ways of `Targets`.
+use Rattle.moves.specs.laws.Targets.{by-making, by-attacked, by-freedom}
 use mathlib.Core.Path.{sym, _∙_}
 use borrow.Author.Needs.{needs}
 use Rattle.moves.proofs.targets.legal_targets.Statement.{statement}
@@ -34,7 +34,7 @@ returns c =
     let n = c .before .before in
     let x = n .before .before .before .before .before .before .before .args in
     let o = n .before .before .before .before .before in
-    by-making (x .s) (x .from) _ _ _ _ (o .occupied .ensures) (n .before .before .before .before .goes-over .ensures) (n .before .before .before .own .ensures) (n .before .before .minus .ensures)
+    by-making (x .p) (x .from) _ _ _ _ (o .occupied .ensures) (n .before .before .before .before .goes-over .ensures) (n .before .before .before .own .ensures) (n .before .before .minus .ensures)
     _ (c .tested .ok) (c .tested .ensures)
 
 without-requires : tie.Need-without-requires
@@ -54,7 +54,7 @@ returns-2 c =
     let n = c .before .before .before .before .before .before in
     let x = n .before .before .before .before .before .before .before .args in
     let o = n .before .before .before .before .before in
-    by-attacked (x .s) (x .from) _ _ _ _ (o .occupied .ensures) (n .before .before .before .before .goes-over .ensures) (n .before .before .before .own .ensures) (n .before .before .minus .ensures)
+    by-attacked (x .p) (x .from) _ _ _ _ (o .occupied .ensures) (n .before .before .before .before .goes-over .ensures) (n .before .before .before .own .ensures) (n .before .before .minus .ensures)
     _ _ _ (n .before .before .before .before .before .before .other .ensures) (n .before .own2 .ensures) (sym (n .has .ensures) ∙ c .before .before .before .before .before .if1 .left) (c .before .before .before .before .without .ensures)
     _ _ _ (c .before .before .before .king-square .ensures) (c .before .before .if2 .taken) (c .before .attack-set .ensures) (c .minus2 .ensures)
 
@@ -69,7 +69,7 @@ returns-3 c =
     let n = c .before .before .before .before .before .before .before in
     let x = n .before .before .before .before .before .before .before .args in
     let o = n .before .before .before .before .before in
-    by-making (x .s) (x .from) _ _ _ _ (o .occupied .ensures) (n .before .before .before .before .goes-over .ensures) (n .before .before .before .own .ensures) (n .before .before .minus .ensures)
+    by-making (x .p) (x .from) _ _ _ _ (o .occupied .ensures) (n .before .before .before .before .goes-over .ensures) (n .before .before .before .own .ensures) (n .before .before .minus .ensures)
     _ (c .tested2 .ok) (c .tested2 .ensures)
 
 returns-4 : tie.Need-returns-4
@@ -77,7 +77,7 @@ returns-4 c =
     let n = c .before .before .before .before .before .before in
     let x = n .before .before .before .before .before .before .before .args in
     let o = n .before .before .before .before .before in
-    by-freedom (x .s) (x .from) _ _ _ _ (o .occupied .ensures) (n .before .before .before .before .goes-over .ensures) (n .before .before .before .own .ensures) (n .before .before .minus .ensures)
+    by-freedom (x .p) (x .from) _ _ _ _ (o .occupied .ensures) (n .before .before .before .before .goes-over .ensures) (n .before .before .before .own .ensures) (n .before .before .minus .ensures)
     _ _ _ (n .before .before .before .before .before .before .other .ensures) (n .before .own2 .ensures) (sym (n .has .ensures) ∙ c .before .before .before .before .before .if1 .left) (c .before .before .before .before .without .ensures)
     _ (c .before .before .before .king-square .ensures) (c .before .before .if2 .left) (sym (c .before .attacked-over .ensures) ∙ c .if3 .left) (n .before .before .minus .ok)
 

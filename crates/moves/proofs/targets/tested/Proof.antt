@@ -1,27 +1,27 @@
--- `moves::tested` meets its contract: the targets kept so far, and those of the rest that pass, are all that pass. Assumes nothing.
+-- `moves::tested` meets its contract: the targets kept so far, and those of the rest that pass, are all that pass.
 use mathlib.Core.Path.{_≡_, sym, _∙_}
 use mathlib.Core.Bool.{Bool, not, _&&_, _||_, or-false}
 use mathlib.Core.Logic.{⊎-elim}
 use Prim.Native.Nat.{ℕ, _^_, _<_}
 use lib.ListN.{length}
 use Rattle.board.specs.Sets.{has, members}
-use Rattle.board.specs.SetLaws.{has-none, set-has}
-use Rattle.board.specs.LowestLaws.{Lowest, lowest-of}
+use Rattle.board.specs.laws.SetLaws.{has-none, set-has}
+use Rattle.board.specs.laws.LowestLaws.{Lowest, lowest-of}
 use Rattle.rules.specs.Rules.{inCheck, moved}
-use Rattle.moves.specs.declared.Setup.{Setup}
-use Rattle.moves.specs.Setups.{setupBoard}
-use Rattle.moves.specs.Targets.{turn-in, turn-out, check-made}
+use Rattle.position.specs.declared.Position.{Position}
+use Rattle.position.specs.Keyed.{boardOf}
+use Rattle.moves.specs.laws.Targets.{turn-in, turn-out, check-made}
 use Rattle.moves.proofs.targets.tested.Statement.{statement}
 use Rattle.moves.proofs.targets.tested.Tie as tie
 
-abbrev passes : Setup → ℕ → ℕ → Bool
-passes s from t = not (inCheck (moved (setupBoard s) from t) (s .side))
+abbrev passes : Position → ℕ → ℕ → Bool
+passes p from t = not (inCheck (moved (boardOf p) from t) (p .side))
 
 abbrev Inv-loop : tie.InvT-loop
-Inv-loop s from free safe₀ rest₀ safe rest = (rest < 2 ^ 64) × ((t : ℕ) → t < 64 → (has safe t || (has rest t && passes s from t)) ≡ (has free t && passes s from t))
+Inv-loop p from free safe₀ rest₀ safe rest = (rest < 2 ^ 64) × ((t : ℕ) → t < 64 → (has safe t || (has rest t && passes p from t)) ≡ (has free t && passes p from t))
 
 abbrev μ-loop : tie.MeasureT-loop
-μ-loop s from free safe₀ rest₀ safe rest = length (members rest)
+μ-loop p from free safe₀ rest₀ safe rest = length (members rest)
 
 loop-holds : tie.Need-loop-holds Inv-loop μ-loop
 loop-holds c = (c .fits .free .fits, λ t h. rw (has-none t))
@@ -54,8 +54,8 @@ loop-again c =
     let l = c .before .before .before .before .before .before .loop in
     let x = c .before .before .before .before .before .before .before .args in
     let t = c .before .before .before .before .lowest .result in
-    let ok = passes (x .s) (x .from) in
-    let same = check-made (x .s) _ (x .from) t _ (c .before .before .before .make .ensures) (c .before .before .in-check .ensures) in (
+    let ok = passes (x .p) (x .from) in
+    let same = check-made (x .p) _ (x .from) t _ (c .before .before .before .make .ensures) (c .before .before .in-check .ensures) in (
       c .without .ok,
       λ i h.
           let e = low c .others i h in

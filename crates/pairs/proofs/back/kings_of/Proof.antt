@@ -1,8 +1,8 @@
--- `pairs::kings_of` meets its contract, by the rule of the lists. Assumes nothing.
+-- `pairs::kings_of` meets its contract, by the rule of the lists.
 use native.Mathlib.Omega.{arith}
 use borrow.Author.Needs.{needs}
 use Rattle.pairs.specs.Tables.{blacks}
-use Rattle.pairs.specs.TableLaws.{kings-found, no-kings, row-lt}
+use Rattle.pairs.specs.laws.TableLaws.{kings-found, no-kings, row-lt}
 use Rattle.pairs.proofs.back.kings_of.Statement.{statement}
 use Rattle.pairs.proofs.back.kings_of.Tie as tie
 

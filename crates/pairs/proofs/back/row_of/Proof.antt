@@ -1,9 +1,9 @@
--- `pairs::row_of` meets its contract: what is left of the search gives what the whole gives. Assumes nothing.
+-- `pairs::row_of` meets its contract: what is left of the search gives what the whole gives.
 use mathlib.Core.Path.{_≡_, refl, sym, _∙_}
 use Prim.Native.Nat.{_-_, _≤_}
 use native.Mathlib.Omega.{arith}
 use Rattle.pairs.specs.Tables.{rowFrom, rowOf}
-use Rattle.pairs.specs.TableLaws.{row-here, row-next, row-last}
+use Rattle.pairs.specs.laws.TableLaws.{row-here, row-next, row-last}
 use Rattle.pairs.proofs.back.row_of.Statement.{statement}
 use Rattle.pairs.proofs.back.row_of.Tie as tie
 

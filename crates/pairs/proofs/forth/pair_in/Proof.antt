@@ -1,6 +1,6 @@
--- `pairs::pair_in` meets its contract. Assumes nothing.
+-- `pairs::pair_in` meets its contract.
 use borrow.Author.Needs.{needs}
-use Rattle.pairs.specs.TableLaws.{in-outside, in-off, in-entry}
+use Rattle.pairs.specs.laws.TableLaws.{in-outside, in-off, in-entry}
 use Rattle.pairs.proofs.forth.pair_in.Statement.{statement}
 use Rattle.pairs.proofs.forth.pair_in.Tie as tie
 

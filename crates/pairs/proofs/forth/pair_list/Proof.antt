@@ -1,4 +1,4 @@
--- `pairs::pair_list` meets its contract: the code's list is the definition's. Assumes nothing.
+-- `pairs::pair_list` meets its contract: the code's list is the definition's.
 use mathlib.Core.Path.{refl}
 use Rattle.pairs.specs.Tables.{pairs}
 use Rattle.pairs.proofs.forth.pair_list.Statement.{statement}

@@ -1,6 +1,6 @@
--- `pairs::pair_of` meets its contract, by the rule of the lists. Assumes nothing.
+-- `pairs::pair_of` meets its contract, by the rule of the lists.
 use mathlib.Core.Path.{_∙_}
-use Rattle.pairs.specs.TableLaws.{lent-pair}
+use Rattle.pairs.specs.laws.TableLaws.{lent-pair}
 use Rattle.pairs.proofs.forth.pair_of.Statement.{statement}
 use Rattle.pairs.proofs.forth.pair_of.Tie as tie
 

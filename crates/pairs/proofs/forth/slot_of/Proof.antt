@@ -1,8 +1,8 @@
--- `pairs::slot_of` meets its contract. Assumes nothing.
+-- `pairs::slot_of` meets its contract.
 use Prim.Native.Nat.{_/_}
 use native.Mathlib.Omega.{arith}
 use borrow.Author.Needs.{needs}
-use Rattle.pairs.specs.TableLaws.{slot-past, slot-above, slot-place, place-small}
+use Rattle.pairs.specs.laws.TableLaws.{slot-past, slot-above, slot-place, place-small}
 use Rattle.pairs.proofs.forth.slot_of.Statement.{statement}
 use Rattle.pairs.proofs.forth.slot_of.Tie as tie
 

@@ -1,6 +1,6 @@
--- `pocket::four` meets its contract. Assumes nothing.
+-- `pocket::four` meets its contract.
 use borrow.Author.Needs.{needs}
-use Rattle.pocket.specs.WordLaws.{four-bytes}
+use Rattle.pocket.specs.laws.WordLaws.{four-bytes}
 use Rattle.pocket.proofs.counter.four.Statement.{statement}
 use Rattle.pocket.proofs.counter.four.Tie as tie
 

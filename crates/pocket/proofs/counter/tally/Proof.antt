@@ -1,8 +1,8 @@
--- `pocket::tally` meets its contract. The loop's invariant: the three counts of bits are those of the entries below byte i. Assumes nothing.
+-- `pocket::tally` meets its contract. The loop's invariant: the three counts of bits are those of the entries below byte i.
 use Prim.Native.Nat.{_-_}
 use native.Mathlib.Omega.{arith}
 use Rattle.pocket.specs.Pocket.{pocketSize}
-use Rattle.pocket.specs.TallyLaws.{Sums, sums-none, sums-more, sums-room, sums-order, tallied, tally-length}
+use Rattle.pocket.specs.laws.TallyLaws.{Sums, sums-none, sums-more, sums-room, sums-order, tallied, tally-length}
 use Rattle.pocket.proofs.counter.tally.Statement.{statement}
 use Rattle.pocket.proofs.counter.tally.Tie as tie
 

@@ -1,6 +1,6 @@
--- `pocket::word` meets its contract. Assumes nothing.
+-- `pocket::word` meets its contract.
 use borrow.Author.Needs.{needs}
-use Rattle.pocket.specs.WordLaws.{two-fours}
+use Rattle.pocket.specs.laws.WordLaws.{two-fours}
 use Rattle.pocket.proofs.counter.word.Statement.{statement}
 use Rattle.pocket.proofs.counter.word.Tie as tie
 

@@ -1,4 +1,4 @@
--- `pocket::entry` meets its contract. Assumes nothing.
+-- `pocket::entry` meets its contract.
 use native.Mathlib.Omega.{arith}
 use borrow.Author.Tests.{le-leb, lt-leb, eq-eqb, ne-eqb}
 use Rattle.pocket.specs.Pocket.{entryOf}

@@ -1,11 +1,11 @@
--- `pocket::pack` meets its contract. The loop's invariant: the pocket's bytes below i are packed, the others as they were. Assumes nothing.
+-- `pocket::pack` meets its contract. The loop's invariant: the pocket's bytes below i are packed, the others as they were.
 use Prim.Native.Nat.{_≤_, _-_}
 use native.Mathlib.Omega.{arith}
 use borrow.Author.Needs.{needs}
 use lib.ListN.{length, length-set}
 use Rattle.finite.specs.Mapped.{Upto, upto-none, upto-more, upto-all}
 use Rattle.pocket.specs.Pocket.{packedByte}
-use Rattle.pocket.specs.PackLaws.{pack-table, pack-pocket, pack-done}
+use Rattle.pocket.specs.laws.PackLaws.{pack-table, pack-pocket, pack-done}
 use Rattle.pocket.proofs.packer.pack.Statement.{statement}
 use Rattle.pocket.proofs.packer.pack.Tie as tie
 

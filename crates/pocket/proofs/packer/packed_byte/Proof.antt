@@ -1,6 +1,6 @@
--- `pocket::packed_byte` meets its contract. Assumes nothing.
+-- `pocket::packed_byte` meets its contract.
 use borrow.Author.Needs.{needs}
-use Rattle.pocket.specs.PackLaws.{packed-sum}
+use Rattle.pocket.specs.laws.PackLaws.{packed-sum}
 use Rattle.pocket.proofs.packer.packed_byte.Statement.{statement}
 use Rattle.pocket.proofs.packer.packed_byte.Tie as tie
 

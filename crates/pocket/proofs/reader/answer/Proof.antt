@@ -1,4 +1,4 @@
--- `pocket::answer` meets its contract. Assumes nothing.
+-- `pocket::answer` meets its contract.
 use borrow.Author.Tests.{eq-eqb, ne-eqb}
 use Rattle.pocket.specs.Pocket.{entryTells}
 use Rattle.pocket.proofs.reader.answer.Statement.{statement}

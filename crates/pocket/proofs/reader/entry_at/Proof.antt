@@ -1,7 +1,7 @@
--- `pocket::entry_at` meets its contract. Assumes nothing.
+-- `pocket::entry_at` meets its contract.
 use mathlib.Core.Path.{refl}
 use Rattle.pocket.specs.Pocket.{entryAt}
-use Rattle.pocket.specs.LookUpLaws.{entry-beyond}
+use Rattle.pocket.specs.laws.LookUpLaws.{entry-beyond}
 use borrow.Author.Needs.{needs}
 use Rattle.pocket.proofs.reader.entry_at.Statement.{statement}
 use Rattle.pocket.proofs.reader.entry_at.Tie as tie

@@ -1,5 +1,5 @@
--- `pocket::look_up` meets its contract: each return by the tests that led there. Assumes nothing.
-use Rattle.pocket.specs.LookUpLaws.{refused-standing, refused-length, answered}
+-- `pocket::look_up` meets its contract: each return by the tests that led there.
+use Rattle.pocket.specs.laws.LookUpLaws.{refused-standing, refused-length, answered}
 use Rattle.pocket.proofs.reader.look_up.Statement.{statement}
 use Rattle.pocket.proofs.reader.look_up.Tie as tie
 

@@ -1,4 +1,4 @@
--- `pocket::first_of` meets its contract: each arm by the square that it names. Assumes nothing.
+-- `pocket::first_of` meets its contract: each arm by the square that it names.
 use native.Mathlib.Omega.{arith}
 use borrow.Author.Tests.{ne-eqb}
 use Rattle.pocket.specs.Rows.{firstOf}

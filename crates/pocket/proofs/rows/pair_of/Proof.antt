@@ -1,8 +1,8 @@
--- `pocket::pair_of` meets its contract, by the rule of the rows. Assumes nothing.
+-- `pocket::pair_of` meets its contract, by the rule of the rows.
 use native.Mathlib.Omega.{arith}
 use borrow.Author.Needs.{needs}
 use Rattle.board.specs.SetLaws.{bit}
-use Rattle.pocket.specs.RowLaws.{part-ones, bit-some, no-square, no-bit, bit-pair}
+use Rattle.pocket.specs.laws.RowLaws.{part-ones, bit-some, no-square, no-bit, bit-pair}
 use Rattle.pocket.proofs.rows.pair_of.Statement.{statement}
 use Rattle.pocket.proofs.rows.pair_of.Tie as tie
 

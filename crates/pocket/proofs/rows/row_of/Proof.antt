@@ -1,4 +1,4 @@
--- `pocket::row_of` meets its contract: each arm by the square that it names. Assumes nothing.
+-- `pocket::row_of` meets its contract: each arm by the square that it names.
 use borrow.Author.Tests.{ne-eqb}
 use Rattle.pocket.specs.Rows.{rowOf}
 use Rattle.pocket.proofs.rows.row_of.Statement.{statement}

@@ -1,8 +1,8 @@
--- `Position::normalised` meets its contract: the reversals, then the exchange where it is called for. Assumes nothing.
+-- `Position::normalised` meets its contract: the reversals, then the exchange where it is called for.
 use mathlib.Core.Path.{sym, _∙_}
 use mathlib.Core.Bool.{true, false}
 use borrow.Author.Needs.{needs}
-use Rattle.position.specs.MapLaws.{unmoved, normal-by}
+use Rattle.position.specs.laws.MapLaws.{unmoved, normal-by}
 use Rattle.position.proofs.Position.normalised.Statement.{statement}
 use Rattle.position.proofs.Position.normalised.Tie as tie
 

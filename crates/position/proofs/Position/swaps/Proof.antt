@@ -1,9 +1,9 @@
--- `Position::swaps` meets its contract: each return by the tests that led there. Assumes nothing.
-use mathlib.Core.Path.{_≡_}
+-- `Position::swaps` meets its contract: each return by the tests that led there.
+use mathlib.Core.Path.{_≡_, _∙_}
 use mathlib.Core.Bool.{Bool, true, false, _&&_, _||_}
+use borrow.Author.Needs.{needs}
 use borrow.Author.Tests.{le-ltb, lt-ltb, eq-eqb, ne-eqb}
-use Rattle.numbering.specs.Kings.{onDiagonal}
-use Rattle.numbering.specs.Normal.{firstAbove, swapsKings}
+use Rattle.numbering.specs.Normal.{swapsKings}
 use Rattle.position.specs.Keyed.{boardOf}
 use Rattle.position.proofs.Position.swaps.Statement.{statement}
 use Rattle.position.proofs.Position.swaps.Tie as tie
@@ -24,15 +24,18 @@ returns-4 : tie.Need-returns-4
 unfolding swapsKings boardOf
 returns-4 c = simp (le-ltb _ _ (c .before .before .before .if1 .left), eq-eqb _ _ (c .before .before .if2 .left), le-ltb _ _ (c .before .if3 .left), ne-eqb _ _ (c .if4 .taken))
 
--- one man: the last test is his
-last : (a d b e m o : Bool) → a ≡ false → d ≡ true → b ≡ false → e ≡ true → m ≡ (a || (d && (b || (e && (m || (o && false))))))
-last a d b e true o p q r s = simp (p, q, r, s)
-last a d b e false true p q r s = simp (p, q, r, s)
-last a d b e false false p q r s = simp (p, q, r, s)
+men-above-requires : tie.Need-men-above-requires
+men-above-requires c κs = search needs
+
+-- both kings on the diagonal: the men tell
+last : (a d b e m : Bool) → a ≡ false → d ≡ true → b ≡ false → e ≡ true → m ≡ (a || (d && (b || (e && m))))
+last a d b e m p q r s = simp (p, q, r, s)
 
 returns-5 : tie.Need-returns-5
-unfolding swapsKings firstAbove boardOf
-returns-5 c = last _ _ _ _ _ (onDiagonal (c .before .before .before .before .args .self .square)) (le-ltb _ _ (c .before .before .before .if1 .left)) (eq-eqb _ _ (c .before .before .if2 .left)) (le-ltb _ _ (c .before .if3 .left)) (eq-eqb _ _ (c .if4 .left))
+unfolding swapsKings boardOf
+returns-5 c =
+    c .men-above .ensures
+    ∙ last _ _ _ _ _ (le-ltb _ _ (c .before .before .before .before .if1 .left)) (eq-eqb _ _ (c .before .before .before .if2 .left)) (le-ltb _ _ (c .before .before .if3 .left)) (eq-eqb _ _ (c .before .if4 .left))
 
 pub swaps-spec : {M : Type 1} → statement M
-swaps-spec = tie.close (tie.spec returns returns-2 returns-3 returns-4 returns-5)
+swaps-spec = tie.close (tie.spec returns returns-2 returns-3 returns-4 men-above-requires returns-5)

@@ -1,11 +1,11 @@
--- `Position::turned` meets its contract: each way reverses as the two tests say. Assumes nothing.
+-- `Position::turned` meets its contract: each way reverses as the two tests say.
 use mathlib.Core.Path.{ap, sym, _∙_}
 use mathlib.Core.Bool.{true, false}
 use borrow.Author.Needs.{needs}
 use borrow.Author.Tests.{le-ltb, lt-ltb}
 use Rattle.symmetry.specs.Symmetry.{ranksReversed}
 use Rattle.position.specs.Maps.{mappedPosition}
-use Rattle.position.specs.MapLaws.{half-turn, unmoved, turned-by}
+use Rattle.position.specs.laws.MapLaws.{half-turn, unmoved, turned-by}
 use Rattle.position.proofs.Position.turned.Statement.{statement}
 use Rattle.position.proofs.Position.turned.Tie as tie
 

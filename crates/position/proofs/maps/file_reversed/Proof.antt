@@ -1,9 +1,9 @@
--- `position::file_reversed` meets its contract: on the board and off it. Assumes nothing.
+-- `position::file_reversed` meets its contract: on the board and off it.
 use mathlib.Core.Path.{sym}
 use borrow.Author.Needs.{needs}
 use borrow.Author.Tests.{lt-ltb}
 use Rattle.symmetry.specs.Symmetry.{mapped, filesReversed}
-use Rattle.symmetry.specs.SymmetryLaws.{mapped-off}
+use Rattle.symmetry.specs.laws.SymmetryLaws.{mapped-off}
 use Rattle.position.proofs.maps.file_reversed.Statement.{statement}
 use Rattle.position.proofs.maps.file_reversed.Tie as tie
 

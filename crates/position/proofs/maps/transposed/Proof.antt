@@ -1,9 +1,9 @@
--- `position::transposed` meets its contract: on the board and off it. Assumes nothing.
+-- `position::transposed` meets its contract: on the board and off it.
 use mathlib.Core.Path.{sym}
 use borrow.Author.Needs.{needs}
 use borrow.Author.Tests.{lt-ltb}
 use Rattle.symmetry.specs.Symmetry.{mapped, exchange}
-use Rattle.symmetry.specs.SymmetryLaws.{mapped-off}
+use Rattle.symmetry.specs.laws.SymmetryLaws.{mapped-off}
 use Rattle.position.proofs.maps.transposed.Statement.{statement}
 use Rattle.position.proofs.maps.transposed.Tie as tie
 

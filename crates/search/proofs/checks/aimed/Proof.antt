@@ -1,8 +1,8 @@
--- `search::aimed` meets its contract. Assumes nothing.
+-- `search::aimed` meets its contract.
 use mathlib.Core.Path.{sym, _∙_}
 use Rattle.board.specs.Sets.{has}
-use Rattle.board.specs.SetLaws.{has-none, set-has}
-use Rattle.search.specs.TriedLaws.{aims-elsewhere, aims-here}
+use Rattle.board.specs.laws.SetLaws.{has-none, set-has}
+use Rattle.search.specs.laws.TriedLaws.{aims-elsewhere, aims-here}
 use Rattle.search.proofs.checks.aimed.Statement.{statement}
 use Rattle.search.proofs.checks.aimed.Tie as tie
 

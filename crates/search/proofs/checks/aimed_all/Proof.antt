@@ -1,6 +1,6 @@
--- `search::aimed_all` meets its contract. Assumes nothing.
+-- `search::aimed_all` meets its contract.
 use Rattle.board.specs.Sets.{has}
-use Rattle.search.specs.TriedLaws.{aims-all}
+use Rattle.search.specs.laws.TriedLaws.{aims-all}
 use Rattle.search.proofs.checks.aimed_all.Statement.{statement}
 use Rattle.search.proofs.checks.aimed_all.Tie as tie
 

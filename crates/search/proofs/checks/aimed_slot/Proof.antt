@@ -1,9 +1,9 @@
--- `search::aimed_slot` meets its contract. Assumes nothing.
+-- `search::aimed_slot` meets its contract.
 use mathlib.Core.Path.{sym, _∙_}
 use borrow.Author.Needs.{needs}
 use Rattle.board.specs.Sets.{has}
-use Rattle.board.specs.SetLaws.{has-none}
-use Rattle.search.specs.TriedLaws.{aims-absent, aims-present}
+use Rattle.board.specs.laws.SetLaws.{has-none}
+use Rattle.search.specs.laws.TriedLaws.{aims-absent, aims-present}
 use Rattle.search.proofs.checks.aimed_slot.Statement.{statement}
 use Rattle.search.proofs.checks.aimed_slot.Tie as tie
 

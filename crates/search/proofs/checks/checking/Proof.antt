@@ -1,5 +1,5 @@
--- `search::checking` meets its contract. Assumes nothing.
-use Rattle.search.specs.CheckLaws.{all-checks, aimed-checks}
+-- `search::checking` meets its contract.
+use Rattle.search.specs.laws.CheckLaws.{all-checks, aimed-checks}
 use Rattle.search.proofs.checks.checking.Statement.{statement}
 use Rattle.search.proofs.checks.checking.Tie as tie
 

@@ -1,5 +1,5 @@
--- `search::tried` meets its contract. Assumes nothing.
-use Rattle.search.specs.TriedLaws.{tried-every, tried-checks}
+-- `search::tried` meets its contract.
+use Rattle.search.specs.laws.TriedLaws.{tried-every, tried-checks}
 use Rattle.search.proofs.checks.tried.Statement.{statement}
 use Rattle.search.proofs.checks.tried.Tie as tie
 

@@ -1,20 +1,20 @@
--- `search::can_move` meets its contract. The loop's invariant: the moves from the squares left are there exactly where any are. Assumes nothing.
+-- `search::can_move` meets its contract. The loop's invariant: the moves from the squares left are there exactly where any are.
 use mathlib.Core.Path.{_≡_, refl, sym, ap, _∙_}
 use mathlib.Core.Bool.{not, _&&_}
 use Prim.Native.Nat.{ℕ, _^_, _<_}
 use lib.Dec.{eqb}
 use lib.ListN.{length}
 use Rattle.board.specs.Sets.{has, members, setOf}
-use Rattle.board.specs.LowestLaws.{Lowest, lowest-of}
+use Rattle.board.specs.laws.LowestLaws.{Lowest, lowest-of}
 use Rattle.rules.specs.Rules.{empty, moves}
-use Rattle.moves.specs.Setups.{setupBoard}
+use Rattle.position.specs.Keyed.{boardOf}
 use Rattle.search.specs.Tried.{movesOn}
-use Rattle.search.specs.MoverLaws.{on-movers, on-none, on-skip, on-some}
+use Rattle.search.specs.laws.MoverLaws.{on-movers, on-none, on-skip, on-some}
 use Rattle.search.proofs.movers.can_move.Statement.{statement}
 use Rattle.search.proofs.movers.can_move.Tie as tie
 
 abbrev Inv-loop : tie.InvT-loop
-Inv-loop s rest₀ rest = (rest < 2 ^ 64) × (empty (movesOn (setupBoard s) rest) ≡ empty (moves (setupBoard s)))
+Inv-loop s rest₀ rest = (rest < 2 ^ 64) × (empty (movesOn (boardOf s) rest) ≡ empty (moves (boardOf s)))
 
 abbrev μ-loop : tie.MeasureT-loop
 μ-loop s rest₀ rest = length (members rest)

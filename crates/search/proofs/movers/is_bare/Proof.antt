@@ -1,6 +1,6 @@
--- `search::is_bare` meets its contract. Assumes nothing.
+-- `search::is_bare` meets its contract.
 use borrow.Author.Needs.{needs}
-use Rattle.search.specs.MoverLaws.{bare-first, bare-second, bare-both}
+use Rattle.search.specs.laws.MoverLaws.{bare-first, bare-second, bare-both}
 use Rattle.search.proofs.movers.is_bare.Statement.{statement}
 use Rattle.search.proofs.movers.is_bare.Tie as tie
 

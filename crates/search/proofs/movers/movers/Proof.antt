@@ -1,5 +1,5 @@
--- `search::movers` meets its contract. Assumes nothing.
-use Rattle.search.specs.MoverLaws.{movers-bare, movers-own}
+-- `search::movers` meets its contract.
+use Rattle.search.specs.laws.MoverLaws.{movers-bare, movers-own}
 use Rattle.search.proofs.movers.movers.Statement.{statement}
 use Rattle.search.proofs.movers.movers.Tie as tie
 

@@ -1,5 +1,5 @@
--- `search::is_decided` meets its contract. Assumes nothing.
-use Rattle.search.specs.OpinionLaws.{asked-odd, asked-even}
+-- `search::is_decided` meets its contract.
+use Rattle.search.specs.laws.OpinionLaws.{asked-odd, asked-even}
 use Rattle.search.proofs.second.is_decided.Statement.{statement}
 use Rattle.search.proofs.second.is_decided.Tie as tie
 

@@ -1,16 +1,16 @@
--- `search::second_opinion` meets its contract. The loop's invariant: the position is decided in none of the depths below n. Assumes nothing.
+-- `search::second_opinion` meets its contract. The loop's invariant: the position is decided in none of the depths below n.
 use Prim.Native.Nat.{_+_, _-_}
 use native.Mathlib.Omega.{arith}
-use Rattle.moves.specs.Setups.{setupBoard}
-use Rattle.search.specs.OpinionLaws.{NoneBelow, below-none, below-more, found-none, found-win, found-loss, opinion-refused, opinion-deep, opinion-searched}
+use Rattle.position.specs.Keyed.{boardOf}
+use Rattle.search.specs.laws.OpinionLaws.{NoneBelow, below-none, below-more, found-none, found-win, found-loss, opinion-refused, opinion-deep, opinion-searched}
 use Rattle.search.proofs.second.second_opinion.Statement.{statement}
 use Rattle.search.proofs.second.second_opinion.Tie as tie
 
 abbrev Inv-loop : tie.InvT-loop
-Inv-loop k refusal s n₀ n = NoneBelow (setupBoard s) n
+Inv-loop p k refusal n₀ n = NoneBelow (boardOf p) n
 
 abbrev μ-loop : tie.MeasureT-loop
-μ-loop k refusal s n₀ n = k + 1 - n
+μ-loop p k refusal n₀ n = k + 1 - n
 
 standing-refusal-requires : tie.Need-standing-refusal-requires Inv-loop μ-loop
 standing-refusal-requires c κs = tt
@@ -20,9 +20,6 @@ returns c = opinion-refused _ _ _ (c .before .standing-refusal .ensures) (c .if1
 
 returns-2 : tie.Need-returns-2 Inv-loop μ-loop
 returns-2 c = opinion-deep _ _ _ (c .before .before .standing-refusal .ensures) (c .before .if1 .left) (c .if2 .taken)
-
-setup-of-requires : tie.Need-setup-of-requires Inv-loop μ-loop
-setup-of-requires c κs = tt
 
 loop-holds : tie.Need-loop-holds Inv-loop μ-loop
 loop-holds c = below-none _
@@ -34,17 +31,15 @@ returns-3 : tie.Need-returns-3 Inv-loop μ-loop
 returns-3 c =
     let d = c .before .before in
     let l = d .before .before in
-    let g = l .before in
-    let e = g .before in
-    opinion-searched _ _ _ (e .before .before .standing-refusal .ensures) (e .before .if1 .left) _ _ (e .if2 .left) (g .setup-of .ensures) (found-win _ _ (l .loop .inv) _ (d .before .loop-test .taken) _ (d .is-decided .ensures) (c .before .if3 .taken) (c .if4 .taken))
+    let e = l .before in
+    opinion-searched _ _ _ (e .before .before .standing-refusal .ensures) (e .before .if1 .left) _ (e .if2 .left) (found-win _ _ (l .loop .inv) _ (d .before .loop-test .taken) _ (d .is-decided .ensures) (c .before .if3 .taken) (c .if4 .taken))
 
 returns-4 : tie.Need-returns-4 Inv-loop μ-loop
 returns-4 c =
     let d = c .before .before in
     let l = d .before .before in
-    let g = l .before in
-    let e = g .before in
-    opinion-searched _ _ _ (e .before .before .standing-refusal .ensures) (e .before .if1 .left) _ _ (e .if2 .left) (g .setup-of .ensures) (found-loss _ _ (l .loop .inv) _ (d .before .loop-test .taken) _ (d .is-decided .ensures) (c .before .if3 .taken) (c .if4 .left))
+    let e = l .before in
+    opinion-searched _ _ _ (e .before .before .standing-refusal .ensures) (e .before .if1 .left) _ (e .if2 .left) (found-loss _ _ (l .loop .inv) _ (d .before .loop-test .taken) _ (d .is-decided .ensures) (c .before .if3 .taken) (c .if4 .left))
 
 add-n : tie.Need-add-n Inv-loop μ-loop
 add-n c = omega arith
@@ -58,9 +53,8 @@ loop-again c = below-more _ _ (c .before .before .before .loop .inv) _ (c .befor
 returns-5 : tie.Need-returns-5 Inv-loop μ-loop
 returns-5 c =
     let l = c .before in
-    let g = l .before in
-    let e = g .before in
-    opinion-searched _ _ _ (e .before .before .standing-refusal .ensures) (e .before .if1 .left) _ _ (e .if2 .left) (g .setup-of .ensures) (found-none _ _ (l .loop .inv) _ (c .loop-test .left))
+    let e = l .before in
+    opinion-searched _ _ _ (e .before .before .standing-refusal .ensures) (e .before .if1 .left) _ (e .if2 .left) (found-none _ _ (l .loop .inv) _ (c .loop-test .left))
 
 pub second-opinion-spec : {M : Type 1} → statement M
-second-opinion-spec = tie.close (tie.spec Inv-loop μ-loop standing-refusal-requires returns returns-2 setup-of-requires loop-holds is-decided-requires returns-3 returns-4 add-n loop-less loop-again returns-5)
+second-opinion-spec = tie.close (tie.spec Inv-loop μ-loop standing-refusal-requires returns returns-2 loop-holds is-decided-requires returns-3 returns-4 add-n loop-less loop-again returns-5)

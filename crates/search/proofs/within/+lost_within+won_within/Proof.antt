@@ -1,5 +1,5 @@
 -- `search::won_within` and `search::lost_within`, which call each other, meet their contracts. The measure is the plies. The loops' invariants:
--- the test over the moves that are left gives what it gives over all moves. Assumes nothing.
+-- the test over the moves that are left gives what it gives over all moves.
 use mathlib.Core.Path.{_≡_, refl}
 use Prim.Native.Nat.{ℕ, _^_, _<_}
 use native.Mathlib.Omega.{arith}
@@ -8,11 +8,11 @@ use borrow.Author.Tests.{not-true, not-false}
 use Rattle.finite.specs.Members.{any, all}
 use Rattle.theory.specs.Value.{won, lost}
 use Rattle.board.specs.Sets.{members}
-use Rattle.board.specs.LowestLaws.{lowest-of}
+use Rattle.board.specs.laws.LowestLaws.{lowest-of}
 use Rattle.rules.specs.Chess.{chess}
-use Rattle.moves.specs.Setups.{setupBoard}
+use Rattle.position.specs.Keyed.{boardOf}
 use Rattle.search.specs.Tried.{movesOn, movesLeft, losing, winning}
-use Rattle.search.specs.WithinLaws.{won-none, won-start, won-hit, won-miss, any-piece, any-piece-end, any-end, lost-mate, lost-stalemate, lost-none, lost-start, lost-miss, lost-hit, all-piece, all-piece-end, all-end}
+use Rattle.search.specs.laws.WithinLaws.{won-none, won-start, won-hit, won-miss, any-piece, any-piece-end, any-end, lost-mate, lost-stalemate, lost-none, lost-start, lost-miss, lost-hit, all-piece, all-piece-end, all-end}
 use borrow.Fn.Kinds.{In}
 use borrow.Fn.PlainCycle.{Measures, is, falls, and}
 use Rattle.search.proofs.within.lost_within.Reads as lost-within
@@ -25,7 +25,7 @@ use Rattle.board.proofs.lowest.Reads as lowest-reads
 use Rattle.board.proofs.without.Reads as without-reads
 use Rattle.moves.proofs.make.Reads as make-reads
 use Rattle.moves.proofs.legal_targets.Reads as legal-targets-reads
-use Rattle.moves.proofs.in_check.Reads as in-check-reads
+use Rattle.position.proofs.in_check.Reads as in-check-reads
 use Rattle.search.proofs.movers.can_move.Reads as can-move-reads
 use Rattle.search.proofs.movers.movers.Reads as movers-reads
 use Rattle.search.proofs.checks.tried.Reads as tried-reads
@@ -59,13 +59,13 @@ abbrev lost-within-claims : ℕ → lost-within-lts.Claims
 lost-within-claims t = (can-move-reads.Asked, can-move-reads.Learnt, in-check-reads.Asked, in-check-reads.Learnt, movers-reads.Asked, movers-reads.Learnt, lowest-reads.Asked, lowest-reads.Learnt, without-reads.Asked, without-reads.Learnt, legal-targets-reads.Asked, legal-targets-reads.Learnt, make-reads.Asked, make-reads.Learnt, won-within-below t, won-within.Post)
 
 abbrev lost-within-Inv-loop2 : lost-within-lts.InvT-loop2
-lost-within-Inv-loop2 s k rest from targets₀ targets = (targets < 2 ^ 64) × (all (winning k (setupBoard s)) (movesLeft (setupBoard s) from targets rest) ≡ lost chess k (setupBoard s))
+lost-within-Inv-loop2 s k rest from targets₀ targets = (targets < 2 ^ 64) × (all (winning k (boardOf s)) (movesLeft (boardOf s) from targets rest) ≡ lost chess k (boardOf s))
 
 abbrev lost-within-μ-loop2 : lost-within-lts.MeasureT-loop2
 lost-within-μ-loop2 s k rest from targets₀ targets = length (members targets)
 
 abbrev lost-within-Inv-loop : lost-within-lts.InvT-loop
-lost-within-Inv-loop s k rest₀ rest = (rest < 2 ^ 64) × (all (winning k (setupBoard s)) (movesOn (setupBoard s) rest) ≡ lost chess k (setupBoard s))
+lost-within-Inv-loop s k rest₀ rest = (rest < 2 ^ 64) × (all (winning k (boardOf s)) (movesOn (boardOf s) rest) ≡ lost chess k (boardOf s))
 
 abbrev lost-within-μ-loop : lost-within-lts.MeasureT-loop
 lost-within-μ-loop s k rest₀ rest = length (members rest)
@@ -161,13 +161,13 @@ abbrev won-within-claims : ℕ → won-within-lts.Claims
 won-within-claims t = (movers-reads.Asked, movers-reads.Learnt, lowest-reads.Asked, lowest-reads.Learnt, without-reads.Asked, without-reads.Learnt, tried-reads.Asked, tried-reads.Learnt, make-reads.Asked, make-reads.Learnt, lost-within-below t, lost-within.Post)
 
 abbrev won-within-Inv-loop2 : won-within-lts.InvT-loop2
-won-within-Inv-loop2 s k rest from targets₀ targets = (targets < 2 ^ 64) × (any (losing k (setupBoard s)) (movesLeft (setupBoard s) from targets rest) ≡ won chess k (setupBoard s))
+won-within-Inv-loop2 s k rest from targets₀ targets = (targets < 2 ^ 64) × (any (losing k (boardOf s)) (movesLeft (boardOf s) from targets rest) ≡ won chess k (boardOf s))
 
 abbrev won-within-μ-loop2 : won-within-lts.MeasureT-loop2
 won-within-μ-loop2 s k rest from targets₀ targets = length (members targets)
 
 abbrev won-within-Inv-loop : won-within-lts.InvT-loop
-won-within-Inv-loop s k rest₀ rest = (rest < 2 ^ 64) × (any (losing k (setupBoard s)) (movesOn (setupBoard s) rest) ≡ won chess k (setupBoard s))
+won-within-Inv-loop s k rest₀ rest = (rest < 2 ^ 64) × (any (losing k (boardOf s)) (movesOn (boardOf s) rest) ≡ won chess k (boardOf s))
 
 abbrev won-within-μ-loop : won-within-lts.MeasureT-loop
 won-within-μ-loop s k rest₀ rest = length (members rest)

@@ -1,4 +1,4 @@
--- `slips::writing::blank` meets its contract, computed. Assumes nothing.
+-- `slips::writing::blank` meets its contract, computed.
 use mathlib.Core.Path.{refl}
 use Rattle.slips.specs.Slip.{padded}
 use Rattle.slips.proofs.writing.blank.Statement.{statement}

@@ -1,4 +1,4 @@
--- `slips::writing::with_byte` meets its contract: a full slip stays, any other has the byte at its end. Assumes nothing.
+-- `slips::writing::with_byte` meets its contract: a full slip stays, any other has the byte at its end.
 use borrow.Author.Tests.{lt-ltb, le-ltb}
 use Rattle.slips.specs.Appending.{pushed}
 use borrow.Author.Needs.{needs}

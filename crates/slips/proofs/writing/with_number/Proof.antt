@@ -1,4 +1,4 @@
--- `slips::writing::with_number` meets its contract: each return by the tests that led there. Assumes nothing.
+-- `slips::writing::with_number` meets its contract: each return by the tests that led there.
 use borrow.Author.Tests.{lt-ltb, le-ltb}
 use Rattle.slips.specs.Slip.{decimal}
 use Rattle.slips.specs.Appending.{appended}

@@ -1,4 +1,4 @@
--- `slips::writing::with_square` meets its contract, byte by byte. Assumes nothing.
+-- `slips::writing::with_square` meets its contract, byte by byte.
 use Rattle.slips.specs.Slip.{squareName}
 use Rattle.slips.specs.Appending.{appended}
 use borrow.Author.Needs.{needs}

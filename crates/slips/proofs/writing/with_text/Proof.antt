@@ -1,4 +1,4 @@
--- `slips::writing::with_text` meets its contract: the loop keeps that writing what is left gives what writing the whole gives. Assumes nothing.
+-- `slips::writing::with_text` meets its contract: the loop keeps that writing what is left gives what writing the whole gives.
 use mathlib.Core.Path.{_≡_, refl, ap, sym, _∙_}
 use mathlib.Core.List.{List, []}
 use Prim.Native.Nat.{ℕ, _-_, _≤_}
@@ -7,7 +7,8 @@ use borrow.Author.Needs.{needs}
 use lib.ListN.{length, drop}
 use lib.Seq.{drop-length}
 use Rattle.slips.specs.declared.Slip.{Slip}
-use Rattle.slips.specs.Appending.{appended, appended-first, appended-end}
+use Rattle.slips.specs.Appending.{appended}
+use Rattle.slips.specs.laws.Appending.{appended-first, appended-end}
 use Rattle.slips.proofs.writing.with_text.Statement.{statement}
 use Rattle.slips.proofs.writing.with_text.Tie as tie
 

@@ -1,13 +1,12 @@
--- `successors::byte_after` meets its contract: the man taken, a king moved, or the man. Assumes nothing.
+-- `successors::byte_after` meets its contract: the man taken, a king moved, or the man.
 use mathlib.Core.Path.{sym, _∙_}
-use mathlib.Core.List.{[]}
 use borrow.Author.Needs.{needs}
-use Rattle.successors.specs.ByteLaws.{taken, after-moved, kings-kept}
+use Rattle.successors.specs.laws.ByteLaws.{taken, after-moved, kings-kept}
 use Rattle.successors.proofs.after.byte_after.Statement.{statement}
 use Rattle.successors.proofs.after.byte_after.Tie as tie
 
 returns : tie.Need-returns
-returns c = taken _ _ _ _ _ (c .if1 .taken)
+returns c = λ kind. taken _ _ kind _ _ _ _ _ _ (c .if1 .taken)
 
 carried-requires : tie.Need-carried-requires
 carried-requires c κs = search needs
@@ -33,7 +32,7 @@ byte-in-requires c κs = search needs
 returns-2 : tie.Need-returns-2
 returns-2 c =
     let d = c .before .before .before .before .before in
-    after-moved _ _ _ _ _ _ _ _ (d .before .before .before .if1 .left)
+    λ kind. after-moved _ _ kind _ _ _ _ _ _ _ _ _ (d .before .before .before .if1 .left)
     (c .before .frame-of .ensures ∙ rw (c .before .before .other .ensures, c .before .before .before .carried3 .ensures, c .before .before .before .before .carried2 .ensures))
     (d .before .before .carried .ensures)
     (c .byte-in .ensures)
@@ -44,8 +43,8 @@ byte-in-requires-2 c κs = search needs
 returns-3 : tie.Need-returns-3
 returns-3 c =
     let d = c .before in
-    after-moved _ _ _ _ _ _ _ _ (d .before .before .before .if1 .left)
-    (kings-kept _ [] (d .before .before .before .before .before .args .p) _ _ _ (sym (d .before .king-moves .ensures) ∙ d .if2 .left) (d .before .before .before .before .before .pre (sym (d .before .king-moves .ensures) ∙ d .if2 .left)))
+    λ kind. after-moved _ _ kind _ _ _ _ _ _ _ _ _ (d .before .before .before .if1 .left)
+    (kings-kept _ _ _ _ _ _ _ (sym (d .before .king-moves .ensures) ∙ d .if2 .left) (d .before .before .before .before .before .pre (sym (d .before .king-moves .ensures) ∙ d .if2 .left)))
     (d .before .before .carried .ensures)
     (c .byte-in2 .ensures)
 

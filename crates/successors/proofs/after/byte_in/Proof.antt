@@ -1,6 +1,6 @@
--- `successors::byte_in` meets its contract. Assumes nothing.
+-- `successors::byte_in` meets its contract.
 use borrow.Author.Needs.{needs}
-use Rattle.successors.specs.ByteLaws.{read-at, read-beyond}
+use Rattle.successors.specs.laws.ByteLaws.{read-at, read-beyond}
 use Rattle.successors.proofs.after.byte_in.Statement.{statement}
 use Rattle.successors.proofs.after.byte_in.Tie as tie
 

@@ -1,4 +1,4 @@
--- `successors::frame_for` meets its contract. Assumes nothing.
+-- `successors::frame_for` meets its contract.
 use mathlib.Core.Path.{_∙_}
 use borrow.Author.Needs.{needs}
 use Rattle.finite.specs.Truth.{true-not-false}

@@ -1,7 +1,8 @@
--- `successors::first_of` meets its contract. Assumes nothing.
-use mathlib.Core.Path.{sym, _∙_}
+-- `successors::first_of` meets its contract.
+use mathlib.Core.Path.{sym, ap, _∙_}
+use Rattle.answers.specs.declared.Advice.{Advice}
 use borrow.Author.Needs.{needs}
-use Rattle.successors.specs.JudgeLaws.{first-kept, first-suited, first-missed}
+use Rattle.successors.specs.laws.JudgeLaws.{first-kept, first-suited, first-missed}
 use Rattle.successors.proofs.judging.first_of.Statement.{statement}
 use Rattle.successors.proofs.judging.first_of.Tie as tie
 
@@ -14,8 +15,11 @@ enum-told c = search needs
 suits-requires : tie.Need-suits-requires
 suits-requires c κs = search needs
 
+move-of-requires : tie.Need-move-of-requires
+move-of-requires c κs = search needs
+
 returns : tie.Need-returns
-returns c = first-suited _ _ _ _ (c .before .before .enum-told .given .1) (sym (c .before .suits .ensures) ∙ c .if1 .taken)
+returns c = ap Advice.Play (c .move-of .ensures) ∙ first-suited _ _ _ _ (c .before .before .before .enum-told .given .1) (sym (c .before .before .suits .ensures) ∙ c .before .if1 .taken)
 
 returns-2 : tie.Need-returns-2
 returns-2 c = first-kept _ _ _ _ _ (c .before .found .given .1)
@@ -25,4 +29,4 @@ returns-3 c = first-missed _ _ _ _ (c .before .before .enum-told .given .1) (sym
 
 pub first-of-spec : {M : Type 1} → statement M
 first-of-spec =
-    tie.close (tie.spec enum-known-found enum-told suits-requires returns returns-2 returns-3)
+    tie.close (tie.spec enum-known-found enum-told suits-requires move-of-requires returns returns-2 returns-3)

@@ -1,5 +1,5 @@
 -- `successors::judge` meets its contract. The loop's invariant: the judgement of the moves of the pieces left, from what is found so far, is the
--- whole judgement. Assumes nothing.
+-- whole judgement.
 use mathlib.Core.Path.{_≡_, refl, sym, ap, _∙_}
 use mathlib.Core.Bool.{not, _&&_}
 use mathlib.Core.List.{flatMap}
@@ -9,31 +9,32 @@ use lib.Dec.{eqb}
 use lib.ListN.{length}
 use borrow.Author.Needs.{needs}
 use Rattle.board.specs.Sets.{has, members, setOf}
-use Rattle.board.specs.LowestLaws.{Lowest, lowest-of}
+use Rattle.board.specs.laws.LowestLaws.{Lowest, lowest-of}
 use Rattle.rules.specs.Rules.{canMove, movesFrom, moves}
-use Rattle.position.specs.Keyed.{boardOf}
+use Rattle.position.specs.Keyed.{boardOf, lone}
 use Rattle.successors.specs.declared.Judged.{Judged}
 use Rattle.successors.specs.Successors.{byteBy, moveIn, judgedOf, judgedFrom}
-use Rattle.successors.specs.JudgeLaws.{advice-in, judged-refuted, judged-found, piece-refutes, piece-turn, piece-end, keyed-movers, keyed-targets}
+use Rattle.successors.specs.laws.JudgeLaws.{advice-in, judged-refuted, judged-found, piece-refutes, piece-turn, piece-end, keyed-movers, keyed-targets}
+use Rattle.successors.specs.laws.VerdictLaws.{made-men}
 use Rattle.successors.proofs.judging.judge.Statement.{statement}
 use Rattle.successors.proofs.judging.judge.Tie as tie
 
 abbrev Inv-loop : tie.InvT-loop
-Inv-loop list table p byte s found₀ rest₀ found rest =
+Inv-loop list table kind side white square black byte p found₀ rest₀ found rest =
     (rest < 2 ^ 64)
-    × (judgedFrom (byteBy list table) byte (boardOf p) (moveIn found) (flatMap (movesFrom (canMove (boardOf p))) (members rest)) ≡ judgedFrom (byteBy list table) byte (boardOf p) none (moves (boardOf p)))
+    × (judgedFrom (byteBy list table) byte (boardOf (lone kind side white square black)) (moveIn found) (flatMap (movesFrom (canMove (boardOf (lone kind side white square black)))) (members rest)) ≡ judgedFrom (byteBy list table) byte (boardOf (lone kind side white square black)) none (moves (boardOf (lone kind side white square black))))
 
 abbrev μ-loop : tie.MeasureT-loop
-μ-loop list table p byte s found₀ rest₀ found rest = length (members rest)
+μ-loop list table kind side white square black byte p found₀ rest₀ found rest = length (members rest)
 
-setup-of-requires : tie.Need-setup-of-requires Inv-loop μ-loop
-setup-of-requires c κs = tt
+lone-requires : tie.Need-lone-requires Inv-loop μ-loop
+lone-requires c κs = tt
 
 own-requires : tie.Need-own-requires Inv-loop μ-loop
 own-requires c κs = tt
 
 loop-holds : tie.Need-loop-holds Inv-loop μ-loop
-loop-holds c = (c .own .ok, sym (rw (keyed-movers _ _ (c .before .setup-of .ensures) _ (c .own .ensures))))
+loop-holds c = let a = c .before .before .before .args in (c .own .ok, sym (rw (keyed-movers _ (lone (a .kind) (a .side) (a .white) (a .square) (a .black)) (c .before .lone .ensures) _ (made-men _ _ _ _ _ _ refl) (c .own .ensures))))
 
 lowest-requires : tie.Need-lowest-requires Inv-loop μ-loop
 lowest-requires c κs = tt
@@ -57,8 +58,8 @@ returns c =
     let j = c .before .before in
     let d = j .before .before in
     let l = d .before .before .loop in
-    let g = d .before .before .before .before .setup-of in
-    ap judgedOf (piece-refutes _ _ _ _ _ (l .rest) _ _ _ (low d _ refl) (keyed-targets _ _ (g .ensures) _ _ (j .before .legal-targets .ensures)) (l .inv .1) (judged-refuted _ (sym (c .enum-told .given .1) ∙ j .judge-targets .ensures)))
+    let g = d .before .before .before .before .lone in
+    ap judgedOf (piece-refutes _ _ _ _ _ (l .rest) _ _ _ (low d _ refl) (keyed-targets _ _ (g .ensures) _ _ (j .before .legal-targets .ensures)) (l .inv .1) (judged-refuted _ (sym (c .enum-told .given .1) ∙ j .judge-targets .ensures _)))
 
 enum-known-judged : tie.Need-enum-known-judged Inv-loop μ-loop
 enum-known-judged c = search needs
@@ -74,13 +75,13 @@ loop-again c =
     let j = c .before .before .before .before in
     let d = j .before .before in
     let l = d .before .before .loop in
-    let g = d .before .before .before .before .setup-of in (
+    let g = d .before .before .before .before .lone in (
       c .without .ok,
-      piece-turn _ _ _ _ _ (l .rest) _ _ _ (low d _ (c .without .ensures)) (keyed-targets _ _ (g .ensures) _ _ (j .before .legal-targets .ensures)) (l .inv .1) _ (judged-found _ _ (sym (c .before .before .judged .given .1) ∙ j .judge-targets .ensures)),
+      piece-turn _ _ _ _ _ (l .rest) _ _ _ (low d _ (c .without .ensures)) (keyed-targets _ _ (g .ensures) _ _ (j .before .legal-targets .ensures)) (l .inv .1) _ (judged-found _ _ (sym (c .before .before .judged .given .1) ∙ j .judge-targets .ensures _)),
     )
 
 returns-2 : tie.Need-returns-2 Inv-loop μ-loop
 returns-2 c = let l = c .before .loop in ap Judged.Found (sym (advice-in (l .found))) ∙ ap judgedOf (piece-end _ _ _ _ _ (l .rest) (c .loop-test .left) (l .inv .1))
 
 pub judge-spec : {M : Type 1} → statement M
-judge-spec = tie.close (tie.spec Inv-loop μ-loop setup-of-requires own-requires loop-holds lowest-requires legal-targets-requires judge-targets-requires enum-told returns enum-known-judged without-requires loop-less loop-again returns-2)
+judge-spec = tie.close (tie.spec Inv-loop μ-loop lone-requires own-requires loop-holds lowest-requires legal-targets-requires judge-targets-requires enum-told returns enum-known-judged without-requires loop-less loop-again returns-2)

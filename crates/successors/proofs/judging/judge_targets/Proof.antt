@@ -1,34 +1,33 @@
 -- `successors::judge_targets` meets its contract. The loop's invariant: the judgement of what is left, from what is found so far, is the whole
--- judgement. Assumes nothing.
+-- judgement.
 use mathlib.Core.Path.{_≡_, refl, sym, ap, _∙_}
 use mathlib.Core.Bool.{not, _&&_}
-use mathlib.Core.List.{map}
 use Prim.Native.Nat.{ℕ, _^_, _<_}
 use lib.Dec.{eqb}
 use lib.ListN.{length}
 use Rattle.board.specs.Sets.{has, members, setOf}
-use Rattle.board.specs.LowestLaws.{Lowest, lowest-of}
-use Rattle.rules.specs.Rules.{moveOf}
-use Rattle.position.specs.Keyed.{boardOf}
+use Rattle.board.specs.laws.LowestLaws.{Lowest, lowest-of}
+use Rattle.rules.specs.Rules.{movesOnto}
+use Rattle.position.specs.Keyed.{boardOf, lone}
 use Rattle.successors.specs.declared.Judged.{Judged}
 use Rattle.successors.specs.Successors.{byteBy, moveIn, judgedOf, judgedFrom}
-use Rattle.successors.specs.JudgeLaws.{advice-in, move-in, target-refutes, target-turn, target-end}
+use Rattle.successors.specs.laws.JudgeLaws.{advice-in, move-in, target-refutes, target-turn, target-end}
 use Rattle.successors.proofs.judging.judge_targets.Statement.{statement}
 use Rattle.successors.proofs.judging.judge_targets.Tie as tie
 
 abbrev Inv-loop : tie.InvT-loop
-Inv-loop list table p from targets byte f found₀ rest₀ found rest =
+Inv-loop list table side white square black from targets byte f found₀ rest₀ found rest =
     (rest < 2 ^ 64)
-    × (judgedFrom (byteBy list table) byte (boardOf p) (moveIn found) (map (moveOf from) (members rest)) ≡ judgedFrom (byteBy list table) byte (boardOf p) (moveIn found₀) (map (moveOf from) (members targets)))
+    × ((kind : ℕ) → judgedFrom (byteBy list table) byte (boardOf (lone kind side white square black)) (moveIn found) (movesOnto from (members rest)) ≡ judgedFrom (byteBy list table) byte (boardOf (lone kind side white square black)) (moveIn found₀) (movesOnto from (members targets)))
 
 abbrev μ-loop : tie.MeasureT-loop
-μ-loop list table p from targets byte f found₀ rest₀ found rest = length (members rest)
+μ-loop list table side white square black from targets byte f found₀ rest₀ found rest = length (members rest)
 
 frame-for-requires : tie.Need-frame-for-requires Inv-loop μ-loop
 frame-for-requires c κs = tt
 
 loop-holds : tie.Need-loop-holds Inv-loop μ-loop
-loop-holds c = (c .before .before .fits .targets .fits, refl)
+loop-holds c = (c .before .before .fits .targets .fits, λ kind. refl)
 
 lowest-requires : tie.Need-lowest-requires Inv-loop μ-loop
 lowest-requires c κs = tt
@@ -48,7 +47,7 @@ returns : tie.Need-returns Inv-loop μ-loop
 returns c =
     let d = c .before .before .before in
     let l = d .before .before .loop in
-    ap judgedOf (target-refutes _ _ _ _ _ (l .rest) _ _ _ (low d _ refl) (c .before .before .byte-after .ensures) (l .inv .1) (sym (c .before .refutes .ensures) ∙ c .if1 .taken))
+    λ kind. ap judgedOf (target-refutes _ _ _ _ _ (l .rest) _ _ _ (low d _ refl) (c .before .before .byte-after .ensures kind) (l .inv .1 kind) (sym (c .before .refutes .ensures) ∙ c .if1 .taken))
 
 first-of-requires : tie.Need-first-of-requires Inv-loop μ-loop
 first-of-requires c κs = tt
@@ -64,11 +63,11 @@ loop-again c =
     let d = c .before .before .before .before .before in
     let l = d .before .before .loop in (
       c .without .ok,
-      target-turn _ _ _ _ _ (l .rest) _ _ _ (low d _ (c .without .ensures)) (c .before .before .before .before .byte-after .ensures) (l .inv .1) _ (sym (c .before .before .before .refutes .ensures) ∙ c .before .before .if1 .left) (ap moveIn (c .before .first-of .ensures) ∙ move-in _),
+      λ kind. target-turn _ _ _ _ _ (l .rest) _ _ _ (low d _ (c .without .ensures)) (c .before .before .before .before .byte-after .ensures kind) (l .inv .1 kind) _ (sym (c .before .before .before .refutes .ensures) ∙ c .before .before .if1 .left) (ap moveIn (c .before .first-of .ensures) ∙ move-in _),
     )
 
 returns-2 : tie.Need-returns-2 Inv-loop μ-loop
-returns-2 c = let l = c .before .loop in ap Judged.Found (sym (advice-in (l .found))) ∙ ap judgedOf (target-end _ _ _ _ _ (l .rest) (c .loop-test .left) (l .inv .1))
+returns-2 c = let l = c .before .loop in λ kind. ap Judged.Found (sym (advice-in (l .found))) ∙ ap judgedOf (target-end _ _ _ _ _ (l .rest) (c .loop-test .left) (l .inv .1 kind))
 
 pub judge-targets-spec : {M : Type 1} → statement M
 judge-targets-spec = tie.close (tie.spec Inv-loop μ-loop frame-for-requires loop-holds lowest-requires byte-after-requires refutes-requires returns first-of-requires without-requires loop-less loop-again returns-2)

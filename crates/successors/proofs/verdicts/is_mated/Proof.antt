@@ -1,25 +1,26 @@
--- `successors::is_mated` meets its contract. Assumes nothing.
+-- `successors::is_mated` meets its contract.
 use mathlib.Core.Path.{sym, _∙_}
 use mathlib.Core.Bool.{true}
 use borrow.Author.Tests.{not-true, not-false}
-use Rattle.successors.specs.VerdictLaws.{unchecked, keyed-check, keyed-mate}
+use Rattle.position.specs.Keyed.{boardOf}
+use Rattle.successors.specs.laws.VerdictLaws.{unchecked, counted-mate}
+use borrow.Author.Needs.{needs}
 use Rattle.successors.proofs.verdicts.is_mated.Statement.{statement}
 use Rattle.successors.proofs.verdicts.is_mated.Tie as tie
 
-setup-of-requires : tie.Need-setup-of-requires
-setup-of-requires c κs = tt
-
 in-check-requires : tie.Need-in-check-requires
-in-check-requires c κs = tt
+in-check-requires c κs = search needs
 
 returns : tie.Need-returns
-returns c = sym (unchecked _ (keyed-check _ _ _ (c .before .before .setup-of .ensures) (c .before .in-check .ensures) ∙ not-true _ (c .if1 .taken)))
+unfolding boardOf
+returns c = sym (unchecked _ (sym (c .before .in-check .ensures) ∙ not-true _ (c .if1 .taken)))
 
-moves-of-requires : tie.Need-moves-of-requires
-moves-of-requires c κs = tt
+count-of-requires : tie.Need-count-of-requires
+count-of-requires c κs = search needs
 
 returns-2 : tie.Need-returns-2
-returns-2 c = keyed-mate _ _ true (c .before .moves-of .ensures) (keyed-check _ _ _ (c .before .before .before .before .setup-of .ensures) (c .before .before .before .in-check .ensures) ∙ not-false _ (c .before .before .if1 .left))
+unfolding boardOf
+returns-2 c = counted-mate _ _ (c .before .before .before .pre) (c .count-of .ensures) true (sym (c .before .before .in-check .ensures) ∙ not-false _ (c .before .if1 .left))
 
 pub is-mated-spec : {M : Type 1} → statement M
-is-mated-spec = tie.close (tie.spec setup-of-requires in-check-requires returns moves-of-requires returns-2)
+is-mated-spec = tie.close (tie.spec in-check-requires returns count-of-requires returns-2)

@@ -1,19 +1,22 @@
--- `successors::requires_depth` meets its contract: mate, or the judgement of the byte for that depth. Assumes nothing.
+-- `successors::requires_depth` meets its contract: mate, or the judgement of the byte for that depth.
 use mathlib.Core.Path.{sym, ap, _∙_}
 use mathlib.Core.Option.{some}
 use borrow.Author.Needs.{needs}
 use Rattle.answers.specs.declared.Advice.{Advice}
 use Rattle.successors.specs.Successors.{moveIn}
-use Rattle.successors.specs.JudgeLaws.{judged-refuted, judged-found}
-use Rattle.successors.specs.VerdictLaws.{depth-mate, depth-met, depth-refuted, depth-unmet}
+use Rattle.successors.specs.laws.JudgeLaws.{judged-refuted, judged-found}
+use Rattle.successors.specs.laws.VerdictLaws.{made-men, made-mate, depth-mate, depth-met, depth-refuted, depth-unmet}
 use Rattle.successors.proofs.verdicts.requires_depth.Statement.{statement}
 use Rattle.successors.proofs.verdicts.requires_depth.Tie as tie
 
+lone-requires : tie.Need-lone-requires
+lone-requires c κs = search needs
+
 is-mated-requires : tie.Need-is-mated-requires
-is-mated-requires c κs = search needs
+is-mated-requires c κs = made-men _ _ _ _ _ _ (c .lone .ensures)
 
 returns : tie.Need-returns
-returns c = c .is-mated .ensures ∙ depth-mate _ _ _ (c .before .if1 .taken)
+returns c = made-mate _ _ _ (c .before .lone .ensures) (c .is-mated .ensures) ∙ depth-mate _ _ _ (c .before .before .if1 .taken)
 
 add-judge : tie.Need-add-judge
 add-judge c = search needs
@@ -54,6 +57,7 @@ pub requires-depth-spec : {M : Type 1} → statement M
 requires-depth-spec =
     tie.close
     (tie.spec
+    lone-requires
     is-mated-requires
     returns
     add-judge

@@ -1,11 +1,11 @@
--- `successors::verdict_on` meets its contract: each return by the judgement that led there. Assumes nothing.
+-- `successors::verdict_on` meets its contract: each return by the judgement that led there.
 use mathlib.Core.Path.{sym, ap, _∙_}
 use mathlib.Core.Option.{some}
 use borrow.Author.Needs.{needs}
 use Rattle.answers.specs.declared.Advice.{Advice}
 use Rattle.successors.specs.Successors.{moveIn}
-use Rattle.successors.specs.JudgeLaws.{judged-refuted, judged-found}
-use Rattle.successors.specs.VerdictLaws.{verdict-zero, verdict-refuted, verdict-met, verdict-over, verdict-open}
+use Rattle.successors.specs.laws.JudgeLaws.{judged-refuted, judged-found}
+use Rattle.successors.specs.laws.VerdictLaws.{made-men, made-verdict, verdict-zero, verdict-refuted, verdict-met, verdict-over, verdict-open}
 use Rattle.successors.proofs.verdicts.verdict_on.Statement.{statement}
 use Rattle.successors.proofs.verdicts.verdict_on.Tie as tie
 
@@ -27,16 +27,19 @@ enum-known-found c = search needs
 enum-told-2 : tie.Need-enum-told-2
 enum-told-2 c = search needs
 
+lone-requires : tie.Need-lone-requires
+lone-requires c κs = search needs
+
 is-over-with-requires : tie.Need-is-over-with-requires
-is-over-with-requires c κs = search needs
+is-over-with-requires c κs = made-men _ _ _ _ _ _ (c .lone .ensures)
 
 returns-2 : tie.Need-returns-2
 returns-2 c =
-    let e = c .before .before in
+    let e = c .before .before .before in
     let j = e .before .before .before .before .before in
     verdict-over _ _ _
     (judged-found _ _ (sym (e .before .before .before .judged .given .1) ∙ j .judge .ensures) ∙ ap (λ (a : Advice). some (moveIn a)) (e .enum-told2 .given .1))
-    (sym (c .before .is-over-with .ensures) ∙ c .if2 .taken)
+    (sym (made-verdict _ _ _ _ (c .before .before .lone .ensures) (c .before .is-over-with .ensures)) ∙ c .if2 .taken)
 
 returns-3 : tie.Need-returns-3
 returns-3 c =
@@ -52,11 +55,11 @@ returns-4 c =
 
 returns-5 : tie.Need-returns-5
 returns-5 c =
-    let e = c .before .before in
+    let e = c .before .before .before in
     let j = e .before .before .before .before .before in
     verdict-open _ _ _
     (judged-found _ _ (sym (e .before .before .before .judged .given .1) ∙ j .judge .ensures) ∙ ap (λ (a : Advice). some (moveIn a)) (e .enum-told2 .given .1))
-    (sym (c .before .is-over-with .ensures) ∙ c .if2 .left)
+    (sym (made-verdict _ _ _ _ (c .before .before .lone .ensures) (c .before .is-over-with .ensures)) ∙ c .if2 .left)
 
 pub verdict-on-spec : {M : Type 1} → statement M
 verdict-on-spec =
@@ -68,6 +71,7 @@ verdict-on-spec =
     enum-known-judged
     enum-known-found
     enum-told-2
+    lone-requires
     is-over-with-requires
     returns-2
     returns-3

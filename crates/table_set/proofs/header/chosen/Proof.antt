@@ -1,4 +1,4 @@
--- `table_set::chosen` meets its contract. Assumes nothing.
+-- `table_set::chosen` meets its contract.
 use borrow.Author.Tests.{eq-eqb, ne-eqb}
 use mathlib.Core.Path.{sym}
 use Rattle.sets.specs.Layout.{chosen}

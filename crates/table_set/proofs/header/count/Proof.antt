@@ -1,5 +1,5 @@
--- `table_set::count` meets its contract. Assumes nothing.
-use Rattle.table_set.specs.Writing.{codes-count}
+-- `table_set::count` meets its contract.
+use Rattle.table_set.specs.laws.Writing.{codes-count}
 use native.Mathlib.Omega.{arith}
 use borrow.Author.Needs.{needs}
 use Rattle.table_set.proofs.header.count.Statement.{statement}

@@ -1,6 +1,5 @@
 -- `table_set::write_header` meets its contract. The loop's invariant: the entries left, written over the set as it stands, give the whole header.
--- Assumes nothing.
-use Rattle.table_set.specs.Turns.{Headed, headed-start, headed-pass, headed-room, headed-take, headed-end}
+use Rattle.table_set.specs.laws.Turns.{Headed, headed-start, headed-pass, headed-room, headed-take, headed-end}
 use Prim.Native.Nat.{_-_}
 use mathlib.Core.Path.{_∙_}
 use borrow.Author.Tests.{not-true, not-false}

@@ -1,5 +1,5 @@
--- `table_set::find` meets its contract. The loop's invariant: the search of the entries left gives the answer. Assumes nothing.
-use Rattle.table_set.specs.Reading.{set-passed, find-code, find-wrong, find-entries, found-here, found-later, found-not}
+-- `table_set::find` meets its contract. The loop's invariant: the search of the entries left gives the answer.
+use Rattle.table_set.specs.laws.Reading.{set-passed, find-code, find-wrong, find-entries, found-here, found-later, found-not}
 use Rattle.sets.specs.Answers.{findEntry, findOf}
 use lib.ListN.{length}
 use Prim.Native.Nat.{_+_, _*_, _≤_}

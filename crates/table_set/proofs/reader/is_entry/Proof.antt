@@ -1,5 +1,5 @@
--- `table_set::is_entry` meets its contract. Assumes nothing.
-use Rattle.table_set.specs.Reading.{entry-low, entry-high, entry-offset, entry-length}
+-- `table_set::is_entry` meets its contract.
+use Rattle.table_set.specs.laws.Reading.{entry-low, entry-high, entry-offset, entry-length}
 use borrow.Author.Needs.{needs}
 use Rattle.table_set.proofs.reader.is_entry.Statement.{statement}
 use Rattle.table_set.proofs.reader.is_entry.Tie as tie

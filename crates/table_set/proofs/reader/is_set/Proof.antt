@@ -1,5 +1,5 @@
--- `table_set::is_set` meets its contract. The loop's invariant: the test of the entries left is the test of the set. Assumes nothing.
-use Rattle.table_set.specs.Reading.{entries-stop, entries-more, entries-none, set-short, set-unlike, set-entries}
+-- `table_set::is_set` meets its contract. The loop's invariant: the test of the entries left is the test of the set.
+use Rattle.table_set.specs.laws.Reading.{entries-stop, entries-more, entries-none, set-short, set-unlike, set-entries}
 use Rattle.sets.specs.Answers.{rightEntries, rightSet}
 use lib.ListN.{length}
 use Prim.Native.Nat.{_+_, _*_, _≤_}

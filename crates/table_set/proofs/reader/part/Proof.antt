@@ -1,5 +1,5 @@
--- `table_set::part` meets its contract: a table that is found lies inside the set. Assumes nothing.
-use Rattle.table_set.specs.Reading.{part-room, part-found, part-refused}
+-- `table_set::part` meets its contract: a table that is found lies inside the set.
+use Rattle.table_set.specs.laws.Reading.{part-room, part-found, part-refused}
 use native.Mathlib.Omega.{arith}
 use borrow.Author.Needs.{needs}
 use Rattle.table_set.proofs.reader.part.Statement.{statement}

@@ -1,5 +1,5 @@
--- `table_set::fill_at` meets its contract. Assumes nothing.
-use Rattle.table_set.specs.Writing.{at-kept, at-cleared}
+-- `table_set::fill_at` meets its contract.
+use Rattle.table_set.specs.laws.Writing.{at-kept, at-cleared}
 use mathlib.Core.Path.{_∙_}
 use borrow.Author.Needs.{needs}
 use Rattle.table_set.proofs.tables.fill_at.Statement.{statement}

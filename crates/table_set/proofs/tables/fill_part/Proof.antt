@@ -1,6 +1,6 @@
--- `table_set::fill_part` meets its contract: the part that was lent comes back filled, and what stands around it as it was. Assumes nothing.
+-- `table_set::fill_part` meets its contract: the part that was lent comes back filled, and what stands around it as it was.
 use Prim.Native.Nat.{_+_, _-_}
-use Rattle.table_set.specs.Writing.{part-put}
+use Rattle.table_set.specs.laws.Writing.{part-put}
 use native.Mathlib.Omega.{arith}
 use borrow.Author.Needs.{needs}
 use Rattle.table_set.proofs.tables.fill_part.Statement.{statement}

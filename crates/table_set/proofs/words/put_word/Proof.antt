@@ -1,4 +1,4 @@
--- `table_set::put_word` meets its contract: four stores are one piece written over the place. Assumes nothing.
+-- `table_set::put_word` meets its contract: four stores are one piece written over the place.
 use native.Mathlib.Omega.{arith}
 use lib.ListN.{length-set}
 use Rattle.sets.specs.Layout.{word4}

@@ -1,4 +1,4 @@
--- `table_set::word` meets its contract. Assumes nothing.
+-- `table_set::word` meets its contract.
 use native.Mathlib.Omega.{arith}
 use Rattle.sets.specs.Layout.{wordAt}
 use borrow.Author.Needs.{needs}

@@ -1,6 +1,6 @@
--- `table_set::fill_ending` meets its contract: a table that is found lies inside the set. Assumes nothing.
-use Rattle.table_set.specs.Reading.{part-room}
-use Rattle.table_set.specs.Writing.{in-found, in-refused}
+-- `table_set::fill_ending` meets its contract: a table that is found lies inside the set.
+use Rattle.table_set.specs.laws.Reading.{part-room}
+use Rattle.table_set.specs.laws.Writing.{in-found, in-refused}
 use borrow.Author.Needs.{needs}
 use Rattle.table_set.proofs.writer.fill_ending.Statement.{statement}
 use Rattle.table_set.proofs.writer.fill_ending.Tie as tie

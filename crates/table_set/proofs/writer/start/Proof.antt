@@ -1,5 +1,5 @@
--- `table_set::start` meets its contract. Assumes nothing.
-use Rattle.table_set.specs.Writing.{start-unlike, start-is}
+-- `table_set::start` meets its contract.
+use Rattle.table_set.specs.laws.Writing.{start-unlike, start-is}
 use native.Mathlib.Omega.{arith}
 use borrow.Author.Needs.{needs}
 use Rattle.table_set.proofs.writer.start.Statement.{statement}

@@ -1,8 +1,8 @@
--- `table_set::write` meets its contract. The loop's invariant: the tables left, filled in the set as it stands, give the answer. Assumes nothing.
+-- `table_set::write` meets its contract. The loop's invariant: the tables left, filled in the set as it stands, give the answer.
 use Rattle.sets.specs.Layout.{codesOf}
-use Rattle.table_set.specs.Turns.{Tabled, tabled-start, tabled-pass, tabled-room, tabled-take, tabled-refused, tabled-end, write-is}
-use Rattle.sets.specs.Finish.{finish}
-use Rattle.table_set.specs.Writing.{write-unlike}
+use Rattle.table_set.specs.laws.Turns.{Tabled, tabled-start, tabled-pass, tabled-room, tabled-take, tabled-refused, tabled-end, write-is}
+use Rattle.sets.specs.laws.Finish.{finish}
+use Rattle.table_set.specs.laws.Writing.{write-unlike}
 use Prim.Native.Nat.{_-_}
 use mathlib.Core.Path.{_∙_}
 use borrow.Author.Tests.{not-true, not-false}

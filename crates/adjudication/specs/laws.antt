@@ -1,0 +1,4 @@
+pub mod Laws
+pub mod OneSlip
+pub mod Short
+pub mod Typed

@@ -1,0 +1,5 @@
+pub mod ListLaws
+pub mod Finding
+pub mod OneCheck
+pub mod DigitLaws
+pub mod Run

@@ -1,0 +1,11 @@
+pub mod Ending
+pub mod IndexLaws
+pub mod Endings
+pub mod Halves
+pub mod Checking
+pub mod LookingUp
+pub mod OneAnswer
+pub mod Games
+pub mod FilledTrue
+pub mod LastNumbers
+pub mod Bench

@@ -1,0 +1,88 @@
+-- A board has one true answer: value, depth and move are all pinned by the rules of chess.
+use mathlib.Core.Path.{_≡_, refl, sym, ap, subst, _∙_}
+use mathlib.Core.List.{List, [], _∷_, _++_, List·Memᴰ·head, List·Memᴰ·tail}
+use Prim.Native.Nat.{ℕ, _-_}
+use native.Mathlib.Omega.{arith}
+use Rattle.finite.specs.Members.{_∈_}
+use Rattle.theory.specs.Value.{WonIn, LostIn, Drawn, DepthIs}
+use Rattle.theory.specs.laws.Within.{won-not-lost}
+use Rattle.theory.specs.laws.Depth.{one-depth}
+use Rattle.rules.specs.declared.Move.{Move}
+use Rattle.rules.specs.Rules.{Board, moves}
+use Rattle.rules.specs.Chess.{chess, played}
+use Rattle.answers.specs.declared.Advice.{Advice}
+use Rattle.answers.specs.declared.Answer.{Answer}
+use Rattle.endings.specs.Truth.{First, TrueAnswer}
+
+-- ---- the first of a list is one
+
+module _ (Sought : Move → Type 0) where
+  one-split : (xs ys : List Move) (m v : Move) (r s : List Move) → xs ++ (m ∷ r) ≡ ys ++ (v ∷ s) → Sought m → Sought v → ((u : Move) → u ∈ xs → Sought u → ⊥) → ((u : Move) → u ∈ ys → Sought u → ⊥) → m ≡ v
+  one-split [] [] m v r s e p q f g = cc
+  one-split [] (y ∷ ys) m v r s e p q f g = let z : m ≡ y = cc in absurd (g y (List·Memᴰ·head refl) (subst Sought z p))
+  one-split (x ∷ xs) [] m v r s e p q f g = let z : v ≡ x = cc in absurd (f x (List·Memᴰ·head refl) (subst Sought z q))
+  one-split (x ∷ xs) (y ∷ ys) m v r s e p q f g = let t : xs ++ (m ∷ r) ≡ ys ++ (v ∷ s) = cc in one-split xs ys m v r s t p q (λ u i. f u (List·Memᴰ·tail i)) (λ u i. g u (List·Memᴰ·tail i))
+
+  one-first : (ms : List Move) (m v : Move) → First Sought ms m → First Sought ms v → m ≡ v
+  one-first ms m v f g = one-split (f .before) (g .before) m v (f .rest) (g .rest) (sym (f .split) ∙ g .split) (f .sought) (g .sought) (f .none-earlier) (g .none-earlier)
+
+  no-first : (ms : List Move) (m : Move) → First Sought ms m → ms ≡ [] → ⊥
+  no-first ms m f e = go (f .before) (sym e ∙ f .split)
+    where
+      go : (xs : List Move) → _≡_ {A = List Move} [] (xs ++ (m ∷ f .rest)) → ⊥
+      go [] q = let z : _≡_ {A = ℕ} 0 1 = cc in omega arith
+      go (x ∷ xs) q = let z : _≡_ {A = ℕ} 0 1 = cc in omega arith
+
+-- ---- won, lost and drawn exclude one another
+
+module _ (b : Board) where
+  not-both : (n k : ℕ) → WonIn chess n b → LostIn chess k b → ⊥
+  not-both n k w l = won-not-lost chess n k b (w .within) (l .within)
+
+  won-drawn : (n : ℕ) → WonIn chess n b → Drawn chess b → ⊥
+  won-drawn n w d = d .not-won n (w .within)
+
+  lost-drawn : (n : ℕ) → LostIn chess n b → Drawn chess b → ⊥
+  lost-drawn n l d = d .not-lost n (l .within)
+
+  one-won : (n k : ℕ) (m v : Move) → WonIn chess n b → WonIn chess k b → First (λ u. LostIn chess (n - 1) (played b u)) (moves b) m → First (λ u. LostIn chess (k - 1) (played b u)) (moves b) v
+      → Answer.Win n (Advice.Play m) ≡ Answer.Win k (Advice.Play v)
+  one-won n k m v w x f g =
+      let z = one-depth chess k n b (DepthIs.win x) (DepthIs.win w) in
+      let h = subst (λ (j : ℕ). First (λ u. LostIn chess (j - 1) (played b u)) (moves b) v) z g in
+      ap (λ (u : Move). Answer.Win n (Advice.Play u)) (one-first _ (moves b) m v f h) ∙ ap (λ (j : ℕ). Answer.Win j (Advice.Play v)) (sym z)
+
+  one-lost : (n k : ℕ) (m v : Move) → LostIn chess n b → LostIn chess k b → First (λ u. WonIn chess (n - 1) (played b u)) (moves b) m → First (λ u. WonIn chess (k - 1) (played b u)) (moves b) v
+      → Answer.Loss n (Advice.Play m) ≡ Answer.Loss k (Advice.Play v)
+  one-lost n k m v w x f g =
+      let z = one-depth chess k n b (DepthIs.loss x) (DepthIs.loss w) in
+      let h = subst (λ (j : ℕ). First (λ u. WonIn chess (j - 1) (played b u)) (moves b) v) z g in
+      ap (λ (u : Move). Answer.Loss n (Advice.Play u)) (one-first _ (moves b) m v f h) ∙ ap (λ (j : ℕ). Answer.Loss j (Advice.Play v)) (sym z)
+
+-- a board's true answer is one
+pub one-answer : (b : Board) (a c : Answer) → TrueAnswer b a → TrueAnswer b c → a ≡ c
+one-answer b a c (TrueAnswer.won n m w f e) (TrueAnswer.won k v x g d) = e ∙ one-won b n k m v w x f g ∙ sym d
+one-answer b a c (TrueAnswer.won n m w f e) (TrueAnswer.lost k v x g d) = absurd (not-both b n k w x)
+one-answer b a c (TrueAnswer.won n m w f e) (TrueAnswer.mate x o d) = absurd (not-both b n 0 w x)
+one-answer b a c (TrueAnswer.won n m w f e) (TrueAnswer.drawn v x g d) = absurd (won-drawn b n w x)
+one-answer b a c (TrueAnswer.won n m w f e) (TrueAnswer.stalemate x o d) = absurd (won-drawn b n w x)
+one-answer b a c (TrueAnswer.lost n m w f e) (TrueAnswer.won k v x g d) = absurd (not-both b k n x w)
+one-answer b a c (TrueAnswer.lost n m w f e) (TrueAnswer.lost k v x g d) = e ∙ one-lost b n k m v w x f g ∙ sym d
+one-answer b a c (TrueAnswer.lost n m w f e) (TrueAnswer.mate x o d) = absurd (no-first _ (moves b) m f o)
+one-answer b a c (TrueAnswer.lost n m w f e) (TrueAnswer.drawn v x g d) = absurd (lost-drawn b n w x)
+one-answer b a c (TrueAnswer.lost n m w f e) (TrueAnswer.stalemate x o d) = absurd (lost-drawn b n w x)
+one-answer b a c (TrueAnswer.mate w o e) (TrueAnswer.won k v x g d) = absurd (not-both b k 0 x w)
+one-answer b a c (TrueAnswer.mate w o e) (TrueAnswer.lost k v x g d) = absurd (no-first _ (moves b) v g o)
+one-answer b a c (TrueAnswer.mate w o e) (TrueAnswer.mate x q d) = e ∙ sym d
+one-answer b a c (TrueAnswer.mate w o e) (TrueAnswer.drawn v x g d) = absurd (lost-drawn b 0 w x)
+one-answer b a c (TrueAnswer.mate w o e) (TrueAnswer.stalemate x q d) = absurd (lost-drawn b 0 w x)
+one-answer b a c (TrueAnswer.drawn m w f e) (TrueAnswer.won k v x g d) = absurd (won-drawn b k x w)
+one-answer b a c (TrueAnswer.drawn m w f e) (TrueAnswer.lost k v x g d) = absurd (lost-drawn b k x w)
+one-answer b a c (TrueAnswer.drawn m w f e) (TrueAnswer.mate x o d) = absurd (lost-drawn b 0 x w)
+one-answer b a c (TrueAnswer.drawn m w f e) (TrueAnswer.drawn v x g d) = e ∙ ap (λ (u : Move). Answer.Draw (Advice.Play u)) (one-first _ (moves b) m v f g) ∙ sym d
+one-answer b a c (TrueAnswer.drawn m w f e) (TrueAnswer.stalemate x o d) = absurd (no-first _ (moves b) m f o)
+one-answer b a c (TrueAnswer.stalemate w o e) (TrueAnswer.won k v x g d) = absurd (won-drawn b k x w)
+one-answer b a c (TrueAnswer.stalemate w o e) (TrueAnswer.lost k v x g d) = absurd (lost-drawn b k x w)
+one-answer b a c (TrueAnswer.stalemate w o e) (TrueAnswer.mate x q d) = absurd (lost-drawn b 0 x w)
+one-answer b a c (TrueAnswer.stalemate w o e) (TrueAnswer.drawn v x g d) = absurd (no-first _ (moves b) v g o)
+one-answer b a c (TrueAnswer.stalemate w o e) (TrueAnswer.stalemate x q d) = e ∙ sym d

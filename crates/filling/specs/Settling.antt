@@ -1,0 +1,13 @@
+-- What the laws of the same name speak of. Definitions only.
+use mathlib.Core.Path.{_≡_}
+use mathlib.Core.Bool.{Bool}
+use mathlib.Core.List.{List}
+use Prim.Native.Nat.{ℕ}
+use native.Mathlib.Omega.{arith}
+use lib.ListN.{getD, set}
+use Rattle.theory.specs.Game.{Game}
+use Rattle.numbered.specs.Numbered.{Numbering, settles, passByte}
+
+pub record Settle (G : Game) (N : Numbering G) (k : ℕ) (t : List ℕ) (n : ℕ) (did : Bool) (after : List ℕ) : Type 0 where
+  pub told : did ≡ settles G N k t n
+  pub bytes : after ≡ set t n (passByte G N k t n (getD t n 0))

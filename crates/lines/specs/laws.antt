@@ -1,0 +1,6 @@
+pub mod Shapes
+pub mod NumberLines
+pub mod TypedLaws
+pub mod WrittenLines
+pub mod Run
+pub mod Requests

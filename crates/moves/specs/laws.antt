@@ -1,0 +1,4 @@
+pub mod Making
+pub mod Carried
+pub mod Lifted
+pub mod Targets

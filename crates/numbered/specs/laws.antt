@@ -1,0 +1,3 @@
+pub mod Acceptance
+pub mod Passing
+pub mod Filling

@@ -1,0 +1,7 @@
+pub mod KingMaps
+pub mod PairLaws
+pub mod MenLaws
+pub mod Numberable
+pub mod NormalLaws
+pub mod ClassLaws
+pub mod AtLaws

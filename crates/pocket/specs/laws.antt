@@ -1,0 +1,10 @@
+pub mod PackLaws
+pub mod LookUpLaws
+pub mod RowLaws
+pub mod Unpacking
+pub mod Agreement
+pub mod Refusals
+pub mod DigitLaws
+pub mod WordLaws
+pub mod TallyLaws
+pub mod PackedTallies

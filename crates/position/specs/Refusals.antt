@@ -1,0 +1,64 @@
+-- The refusals of a position as keyed (01, "When the desk says no"), each by itself, and their chains. Definitions only.
+use mathlib.Core.Bool.{Bool, true, false, cond, not, _||_}
+use Prim.Native.Nat.{ℕ, _-_}
+use lib.Dec.{leb, ltb, eqb}
+use Rattle.finite.specs.Members.{all}
+use Rattle.rules.specs.Rules.{pieces, apart, touching, inCheck}
+use Rattle.position.specs.declared.Slot.{Slot}
+use Rattle.position.specs.declared.Slot.the-variants.{Absent, Present}
+use Rattle.position.specs.declared.Position.{Position}
+use Rattle.position.specs.Keyed.{boardOf}
+
+-- 1: "material code above 3"; so are all men but one of White's in the first slot
+abbrev pub badMen : Slot → Slot → Bool
+badMen Absent second = true
+badMen (Present m) (Present n) = true
+badMen (Present m) Absent = leb 4 (m .kind) || not (eqb (m .colour) 0)
+
+abbrev pub badMan : Position → Bool
+badMan p = badMen (p .first) (p .second)
+
+-- 2: "side not 0 or 1"
+abbrev pub badSide : Position → Bool
+badSide p = leb 2 (p .side)
+
+-- 3: "a square above 63"
+unfoldable pub badSquare : Position → Bool
+badSquare p = not (all (λ m. ltb (m .square) 64) (pieces (boardOf p)))
+
+-- 4: "two men on one square"
+unfoldable pub sharedSquare : Position → Bool
+sharedSquare p = not (apart (pieces (boardOf p)))
+
+-- 5: "kings touch"
+abbrev pub kingsTouch : Position → Bool
+kingsTouch p = touching (boardOf p)
+
+-- 6: "side not to move is in check"
+abbrev pub otherInCheck : Position → Bool
+otherInCheck p = inCheck (boardOf p) (1 - p .side)
+
+-- 1 to 5, which numbering asks: the lowest that applies, 0 where none does
+unfoldable pub placing : Position → ℕ
+placing p = cond (badMan p) 1 (cond (badSide p) 2 (cond (badSquare p) 3 (cond (sharedSquare p) 4 (cond (kingsTouch p) 5 0))))
+
+-- 1 to 6, which the move list and look-up ask
+unfoldable pub standing : Position → ℕ
+standing p = cond (eqb (placing p) 0) (cond (otherInCheck p) 6 0) (placing p)
+
+-- ---- slot by slot, as code asks them
+
+-- a man off the board
+abbrev pub slotOff : Slot → Bool
+slotOff Absent = false
+slotOff (Present m) = leb 64 (m .square)
+
+-- a man on s
+abbrev pub slotOn : ℕ → Slot → Bool
+slotOn s Absent = false
+slotOn s (Present m) = eqb s (m .square)
+
+-- two men on one square
+abbrev pub slotsShare : Slot → Slot → Bool
+slotsShare Absent k = false
+slotsShare (Present m) k = slotOn (m .square) k

@@ -1,0 +1,6 @@
+pub mod SlotLaws
+pub mod Legality
+pub mod Over
+pub mod Pieces
+pub mod MapLaws
+pub mod PlacedLaws

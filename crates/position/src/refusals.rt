@@ -1,0 +1,118 @@
+// The refusals of a position, the lowest that applies.
+use super::BAD_MAN;
+use super::BAD_SIDE;
+use super::BAD_SQUARE;
+use super::KINGS_TOUCH;
+use super::OTHER_IN_CHECK;
+use super::Position;
+use super::SHARED_SQUARE;
+use super::Slot;
+use super::attack::in_check;
+use super::other;
+use board::has;
+use board::targets;
+ghost use mathlib.Core.Path.{_≡_};
+ghost use Rattle.position.specs.Refusals.{badMen, badSquare, sharedSquare, slotOff, slotOn, slotsShare, placing, standing};
+
+// Whether the men are none that have a table.
+fn bad_men(first: Slot, second: Slot) -> bool
+    ensures { λ r. ⌜ r ≡ badMen first second ⌝ }
+{
+    match first {
+        Slot::Absent => true,
+        Slot::Present(m) => match second {
+            Slot::Absent => (4 <= m.kind) | (m.colour != 0),
+            Slot::Present(_) => true,
+        },
+    }
+}
+
+// Whether a man stands off the board.
+fn is_off(slot: Slot) -> bool
+    ensures { λ r. ⌜ r ≡ slotOff slot ⌝ }
+{
+    match slot {
+        Slot::Absent => false,
+        Slot::Present(m) => 64 <= m.square,
+    }
+}
+
+// Whether a king or a man does.
+fn bad_square(p: Position) -> bool
+    ensures { λ r. ⌜ r ≡ badSquare p ⌝ }
+{
+    let first = p.first;
+    let second = p.second;
+    (64 <= p.white_king) | ((64 <= p.black_king) | (is_off(first) | is_off(second)))
+}
+
+// Whether a man stands on a square.
+fn is_on(square: u8, slot: Slot) -> bool
+    ensures { λ r. ⌜ r ≡ slotOn square slot ⌝ }
+{
+    match slot {
+        Slot::Absent => false,
+        Slot::Present(m) => square == m.square,
+    }
+}
+
+// Whether two men stand on one square.
+fn men_share(first: Slot, second: Slot) -> bool
+    ensures { λ r. ⌜ r ≡ slotsShare first second ⌝ }
+{
+    match first {
+        Slot::Absent => false,
+        Slot::Present(m) => is_on(m.square, second),
+    }
+}
+
+// Whether two pieces do.
+fn shared_square(p: Position) -> bool
+    ensures { λ r. ⌜ r ≡ sharedSquare p ⌝ }
+{
+    let white = p.white_king;
+    let black = p.black_king;
+    let first = p.first;
+    let second = p.second;
+    (white == black)
+        | ((is_on(white, first) | is_on(white, second))
+            | ((is_on(black, first) | is_on(black, second)) | men_share(first, second)))
+}
+
+// Refusals 1 to 5, the lowest that applies; 0 where none does.
+pub fn placing_refusal(p: Position) -> u8
+    ensures { λ r. ⌜ r ≡ placing p ⌝ }
+{
+    let first = p.first;
+    let second = p.second;
+    if bad_men(first, second) {
+        return BAD_MAN;
+    }
+    if 2 <= p.side {
+        return BAD_SIDE;
+    }
+    if bad_square(p) {
+        return BAD_SQUARE;
+    }
+    if shared_square(p) {
+        return SHARED_SQUARE;
+    }
+    if has(targets(0, 5, p.white_king), p.black_king) {
+        return KINGS_TOUCH;
+    }
+    0
+}
+
+// Refusals 1 to 6, the lowest that applies; 0 where none does.
+pub fn standing_refusal(p: Position) -> u8
+    ensures { λ r. ⌜ r ≡ standing p ⌝ }
+{
+    let refusal = placing_refusal(p);
+    if refusal != 0 {
+        return refusal;
+    }
+    if in_check(p, other(p.side)) {
+        return OTHER_IN_CHECK;
+    }
+    0
+}

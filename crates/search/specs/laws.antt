@@ -1,0 +1,9 @@
+pub mod MoverLaws
+pub mod CheckLaws
+pub mod TriedLaws
+pub mod WithinLaws
+pub mod OpinionLaws
+pub mod Exactly
+pub mod Sixteen
+pub mod Agreement
+pub mod Stalemate

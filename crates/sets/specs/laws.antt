@@ -1,0 +1,11 @@
+pub mod Sizes
+pub mod WordLaws
+pub mod Rising
+pub mod Choices
+pub mod Right
+pub mod Codes
+pub mod Altered
+pub mod Finish
+pub mod ByEndings
+pub mod Kept
+pub mod Deep

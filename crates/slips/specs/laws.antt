@@ -1,0 +1,4 @@
+pub mod Appending
+pub mod Padding
+pub mod Lengths
+pub mod Run

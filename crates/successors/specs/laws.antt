@@ -1,0 +1,4 @@
+pub mod NumberLaws
+pub mod ByteLaws
+pub mod JudgeLaws
+pub mod VerdictLaws

@@ -1,0 +1,4 @@
+pub mod SymmetryLaws
+pub mod ReachMapped
+pub mod Opposite
+pub mod LongestLine

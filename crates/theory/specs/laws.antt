@@ -1,0 +1,15 @@
+pub mod Within
+pub mod Depth
+pub mod TrueBytes
+pub mod Better
+pub mod RuleLaws
+pub mod Step
+pub mod Consistency
+pub mod Alike
+pub mod Passes
+pub mod InPlace
+pub mod Verdict
+pub mod Choice
+pub mod OnePly
+pub mod Games
+pub mod MovesMade

@@ -1,0 +1,52 @@
+-- The word of each answer (include/sledgewren.h): which bits hold its refusal and its values. Definitions only.
+use Prim.Native.Nat.{ℕ, _+_, _*_, _^_}
+use Rattle.rules.specs.declared.Move.{Move}
+use Rattle.answers.specs.declared.Advice.{Advice}
+use Rattle.answers.specs.declared.Advice.the-variants.{Play, NoMove}
+use Rattle.answers.specs.declared.Answer.{Answer}
+use Rattle.answers.specs.declared.Checked.{Checked}
+use Rattle.answers.specs.declared.Filled.{Filled}
+use Rattle.position.specs.declared.Position.{Position}
+use Rattle.position.specs.Keyed.{squareOf}
+use Rattle.index.specs.declared.Numbered.{Numbered}
+use Rattle.index.specs.declared.Placed.{Placed}
+use Rattle.listing.specs.declared.Counted.{Counted}
+
+-- the number; or bit 31 and the refusal
+abbrev pub numberWord : Numbered → ℕ
+numberWord (Numbered.Number n) = n
+numberWord (Numbered.Refused k) = 2 ^ 31 + k
+
+-- bits 0-7 refusal, 8-15 side, 16-23 white king, 24-31 man's square, 32-39 black king
+abbrev pub placedWord : Placed → ℕ
+placedWord (Placed.At p) = p .side * 2 ^ 8 + p .«white_king» * 2 ^ 16 + squareOf p * 2 ^ 24 + p .«black_king» * 2 ^ 32
+placedWord (Placed.Refused k) = k
+
+-- bits 0-7 refusal, 8-15 count
+abbrev pub countWord : Counted → ℕ
+countWord (Counted.Count n) = n * 2 ^ 8
+countWord (Counted.Refused k) = k
+
+-- bits 0-7 refusal, bit 8 some position is decided, 16-23 greatest depth
+abbrev pub filledWord : Filled → ℕ
+filledWord (Filled.Greatest n) = 2 ^ 8 + n * 2 ^ 16
+filledWord Filled.NoneDecided = 0
+filledWord (Filled.Refused k) = k
+
+-- bits 0-7 refusal, bit 8 wrong, 32-63 the lowest wrong number
+abbrev pub checkedWord : Checked → ℕ
+checkedWord Checked.Accepted = 0
+checkedWord (Checked.Wrong n) = 2 ^ 8 + n * 2 ^ 32
+checkedWord (Checked.Refused k) = k
+
+-- bit 24 a move is given, 32-39 from, 40-47 to
+abbrev pub adviceWord : Advice → ℕ
+adviceWord (Play m) = 2 ^ 24 + m .from * 2 ^ 32 + m .to * 2 ^ 40
+adviceWord NoMove = 0
+
+-- bits 0-7 refusal, 8-15 value (win 1, loss 2, draw 3), 16-23 depth, and the move's
+abbrev pub answerWord : Answer → ℕ
+answerWord (Answer.Win n a) = 1 * 2 ^ 8 + n * 2 ^ 16 + adviceWord a
+answerWord (Answer.Loss n a) = 2 * 2 ^ 8 + n * 2 ^ 16 + adviceWord a
+answerWord (Answer.Draw a) = 3 * 2 ^ 8 + adviceWord a
+answerWord (Answer.Refused k) = k

@@ -1,0 +1,106 @@
+// The word of each answer (include/sledgewren.h).
+use answers::Advice;
+use answers::Answer;
+use answers::Checked;
+use answers::Filled;
+use index::Numbered;
+use index::Placed;
+use listing::Counted;
+use position::Position;
+use position::man_in;
+use rules::Move;
+ghost use mathlib.Core.Path.{_≡_};
+ghost use Prim.Native.Nat.{_+_, _*_, _^_, _≤_, _<_};
+ghost use Rattle.words.specs.Words.{numberWord, placedWord, countWord, filledWord, checkedWord, adviceWord, answerWord};
+
+pub fn number_word(n: Numbered) -> u32
+    ensures { λ r. ⌜ r ≡ numberWord n ⌝ }
+{
+    match n {
+        Numbered::Number(k) => k,
+        Numbered::Refused(k) => 0x8000_0000 + k as u32,
+    }
+}
+
+pub fn placed_word(p: Placed) -> u64
+    ensures { λ r. ⌜ r ≡ placedWord p ⌝ }
+{
+    match p {
+        Placed::At(at) => position_word(at),
+        Placed::Refused(k) => k as u64,
+    }
+}
+
+fn position_word(p: Position) -> u64
+    ensures { λ r. ⌜ r ≡ placedWord (Placed.At p) ⌝ }
+{
+    let first = p.first;
+    let man = man_in(first);
+    p.side as u64 * 0x100
+        + p.white_king as u64 * 0x1_0000
+        + man.square as u64 * 0x100_0000
+        + p.black_king as u64 * 0x1_0000_0000
+}
+
+pub fn count_word(n: Counted) -> u32
+    ensures { λ r. ⌜ r ≡ countWord n ⌝ }
+{
+    match n {
+        Counted::Count(k) => k as u32 * 0x100,
+        Counted::Refused(k) => k as u32,
+    }
+}
+
+pub fn filled_word(f: Filled) -> u32
+    ensures { λ r. ⌜ r ≡ filledWord f ⌝ }
+{
+    match f {
+        Filled::Greatest(n) => 0x100 + n as u32 * 0x1_0000,
+        Filled::NoneDecided => 0,
+        Filled::Refused(k) => k as u32,
+    }
+}
+
+pub fn checked_word(c: Checked) -> u64
+    ensures { λ r. ⌜ r ≡ checkedWord c ⌝ }
+{
+    match c {
+        Checked::Accepted => 0,
+        Checked::Wrong(n) => 0x100 + n as u64 * 0x1_0000_0000,
+        Checked::Refused(k) => k as u64,
+    }
+}
+
+fn move_word(m: Move) -> u64
+    ensures { λ r. ⌜ (r ≡ adviceWord (Advice.Play m)) × (r < 2 ^ 48) ⌝ }
+{
+    0x100_0000 + m.from as u64 * 0x1_0000_0000 + m.to as u64 * 0x100_0000_0000
+}
+
+fn advice_word(a: Advice) -> u64
+    ensures { λ r. ⌜ (r ≡ adviceWord a) × (r < 2 ^ 48) ⌝ }
+{
+    match a {
+        Advice::Play(m) => move_word(m),
+        Advice::NoMove => 0,
+    }
+}
+
+// A value, a depth and a move.
+fn value_word(value: u64, depth: u8, a: Advice) -> u64
+    requires { ⌜ value ≤ 3 ⌝ }
+    ensures { λ r. ⌜ r ≡ value * 2 ^ 8 + depth * 2 ^ 16 + adviceWord a ⌝ }
+{
+    value * 0x100 + depth as u64 * 0x1_0000 + advice_word(a)
+}
+
+pub fn answer_word(a: Answer) -> u64
+    ensures { λ r. ⌜ r ≡ answerWord a ⌝ }
+{
+    match a {
+        Answer::Win(n, advice) => value_word(1, n, advice),
+        Answer::Loss(n, advice) => value_word(2, n, advice),
+        Answer::Draw(advice) => value_word(3, 0, advice),
+        Answer::Refused(k) => k as u64,
+    }
+}
