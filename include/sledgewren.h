@@ -63,6 +63,9 @@ extern "C" {
 /* The most plies that a second opinion may be asked for. */
 #define SLEDGEWREN_MOST_PLIES 6
 
+/* The progress at the beginning of filling in steps. */
+#define SLEDGEWREN_START 0u
+
 /* Set in sledgewren_number's answer where it is a refusal. */
 #define SLEDGEWREN_NUMBER_REFUSED 0x80000000u
 
@@ -75,6 +78,10 @@ extern "C" {
 
 /* The tally of an entry (0 to 3) in sledgewren_tallies' answer. */
 #define SLEDGEWREN_TALLY(answer, entry) ((uint16_t)((uint64_t)(answer) >> (16 * (entry))))
+
+/* How many numbers a step settled, and the progress that it hands back. */
+#define SLEDGEWREN_SETTLED(answer) ((uint32_t)(answer) >> 8)
+#define SLEDGEWREN_PROGRESS(answer) ((uint32_t)((uint64_t)(answer) >> 32))
 
 enum sledgewren_man {
     SLEDGEWREN_QUEEN = 0,
@@ -104,6 +111,14 @@ enum sledgewren_entry {
     SLEDGEWREN_ENTRY_DRAW = 1,
     SLEDGEWREN_ENTRY_WIN = 2,
     SLEDGEWREN_ENTRY_LOSS = 3
+};
+
+/* The stage of a progress. */
+enum sledgewren_stage {
+    SLEDGEWREN_GOING = 0,
+    SLEDGEWREN_DONE = 1,
+    /* 10 was given. Any greater value means the same. */
+    SLEDGEWREN_GAVE_TEN = 2
 };
 
 /* Where several apply the lowest counts, except that a line's shape comes first, then its check. */
@@ -171,6 +186,38 @@ uint32_t sledgewren_moves(uint8_t man, uint8_t side, uint8_t white, uint8_t squa
  *   bits 0-7 refusal, bit 8 some position is decided, 16-23 greatest depth
  */
 uint32_t sledgewren_fill(uint8_t man, uint8_t *table, size_t len);
+
+/*
+ * Filling in steps, for a caller that shows how far it is. Start sets every legal position's
+ * number to 1 and every other one to 0, and hands back SLEDGEWREN_START. Refusals 1 and 7 leave
+ * the table untouched.
+ *   bits 0-7 refusal, 8-31 numbers settled (none), 32-63 progress
+ */
+uint64_t sledgewren_fill_start(uint8_t man, uint8_t *table, size_t len);
+
+/*
+ * One step, on any bytes and any progress: hand each progress to the next step. From a start,
+ * with one man and no other hand on the table, k steps leave the true byte wherever the depth is
+ * less than k and the start's byte elsewhere, and the step that says done leaves what
+ * sledgewren_fill leaves; that is after 255 steps at most. Refusals 1 and 7 leave the table and
+ * the progress as they were; 10 leaves the table all 0.
+ *   bits 0-7 refusal, 8-31 how many numbers the step settled, 32-63 progress
+ *
+ * A progress is one word and every word is a progress:
+ *   bits 0-7    stage
+ *   bits 8-23   k, the depth of the next step; above 254 it counts as 254
+ *   bits 24-31  1 + the last depth settled, 0 where none was
+ * Stage 0, going on: the step writes 2 + k at the legal positions' numbers that hold 1 and whose
+ *   successors' bytes, as they stood before it, require depth k. If there are some, the progress
+ *   goes on with k + 1; at k = 254 there is no such byte: the answer is refusal 10, the table is
+ *   cleared and the stage is 2. If there are none, the stage is 1, the table stays, and the
+ *   greatest depth is k - 1, none being decided at k = 0. Bits 24-31 are not asked: with one man
+ *   besides the kings each step before this one settled its depth.
+ * Stage 1, done: bits 24-31 less 1 are the greatest depth; none is decided where they are 0. The
+ *   step repeats that, and table and progress stay.
+ * Stage 2 or more, 10 was given: the step answers refusal 10, and table and progress stay.
+ */
+uint64_t sledgewren_fill_step(uint8_t man, uint8_t *table, size_t len, uint32_t progress);
 
 /*
  * Holds every byte of a table to the one that its successors' bytes require. An answer of 0 says

@@ -8,6 +8,7 @@ mod moves;
 mod pocket;
 mod positions;
 mod search;
+mod steps;
 mod tables;
 mod timing;
 
@@ -72,6 +73,9 @@ fn measure(oracle: &str, program: &str, gaviota: &str, folder: &Path) -> Result<
     let mut rows = Vec::new();
     for man in DECIDED {
         rows.push(tables::fill(man, MANY)?);
+    }
+    for man in DECIDED {
+        rows.push(steps::row(man, MANY)?);
     }
     look_ups(gaviota, &mut rows)?;
     pockets(&mut rows)?;

@@ -9,8 +9,8 @@ mod sets;
 pub use sets::{set_fill, set_find, set_start, set_write};
 
 use crate::ffi;
-use crate::{Answer, Checked, Keyed, Man, Move, Moves, Opinion, Position, Refusal, Side, Slip};
-use crate::{Outcome, Square, Tallies, Typed, MOST_MOVES, SLIP_BYTES};
+use crate::{Answer, Checked, Keyed, Man, Move, Moves, Opinion, Position, Progress, Refusal, Side};
+use crate::{Outcome, Slip, Square, Stage, Step, Tallies, Typed, MOST_MOVES, SLIP_BYTES};
 
 /// The linked library is not the one this crate is written for.
 #[cold]
@@ -106,6 +106,35 @@ pub fn fill(man: impl Into<u8>, table: &mut [u8]) -> Result<Option<u8>, Refusal>
     let answer = unsafe { ffi::sledgewren_fill(man.into(), table.as_mut_ptr(), table.len()) };
     let answer = unless_refused("fill", answer as u64)?;
     Ok((bits(answer, 8) & 1 == 1).then_some(bits(answer, 16)))
+}
+
+/// Starts filling in steps: every legal position's number is set to 1, every other one to 0.
+/// Refusals 1 and 7 leave the bytes untouched.
+pub fn fill_start(man: impl Into<u8>, table: &mut [u8]) -> Result<Progress, Refusal> {
+    // SAFETY: the slice's pointer leads to as many bytes as its length says, and is lent to us
+    // alone.
+    let answer = unsafe { ffi::sledgewren_fill_start(man.into(), table.as_mut_ptr(), table.len()) };
+    Ok(Progress::from_word((unless_refused("fill_start", answer)? >> 32) as u32))
+}
+
+/// One step of filling, on any bytes and any progress, and the progress to hand to the next one.
+/// Refusals 1 and 7 leave the bytes and the progress as they were, 10 leaves the bytes all zero.
+pub fn fill_step(
+    man: impl Into<u8>,
+    table: &mut [u8],
+    progress: Progress,
+) -> (Result<Step, Refusal>, Progress) {
+    let (start, len) = (table.as_mut_ptr(), table.len());
+    // SAFETY: the slice's pointer leads to as many bytes as its length says, and is lent to us
+    // alone.
+    let answer = unsafe { ffi::sledgewren_fill_step(man.into(), start, len, progress.word()) };
+    let next = Progress::from_word((answer >> 32) as u32);
+    let said = unless_refused("fill_step", answer).map(|answer| match next.stage() {
+        Stage::Going(_) => Step::Settled(answer as u32 >> 8),
+        Stage::Done(greatest) => Step::Done(greatest),
+        Stage::TooDeep => broken("fill_step", answer),
+    });
+    (said, next)
 }
 
 /// Holds every byte of a table to the one that its successors' bytes require. Refusals 1, 7.

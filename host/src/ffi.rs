@@ -32,6 +32,12 @@ extern "C" {
     /// Bits 0-7 refusal, bit 8 some position is decided, 16-23 greatest depth.
     pub fn sledgewren_fill(man: u8, table: *mut u8, len: usize) -> u32;
 
+    /// Bits 0-7 refusal, 8-31 how many numbers were settled, which is 0, 32-63 the progress.
+    pub fn sledgewren_fill_start(man: u8, table: *mut u8, len: usize) -> u64;
+
+    /// Bits 0-7 refusal, 8-31 how many numbers the step settled, 32-63 the progress.
+    pub fn sledgewren_fill_step(man: u8, table: *mut u8, len: usize, progress: u32) -> u64;
+
     /// Bits 0-7 refusal, bit 8 wrong, 32-63 the lowest wrong number.
     pub fn sledgewren_check(man: u8, table: *const u8, len: usize) -> u64;
 

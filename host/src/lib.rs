@@ -33,6 +33,8 @@
 //! | `sledgewren_count` | [`entry::count`] | [`Position::count`] |
 //! | `sledgewren_moves` | [`entry::moves`] | [`Position::moves`] |
 //! | `sledgewren_fill` | [`entry::fill`] | [`Table::fill`], [`Table::filled`] |
+//! | `sledgewren_fill_start` | [`entry::fill_start`] | [`Filling::start`] |
+//! | `sledgewren_fill_step` | [`entry::fill_step`] | [`Filling::step`] |
 //! | `sledgewren_check` | [`entry::check`] | [`Table::check`], [`Table::accept`] |
 //! | `sledgewren_look_up` | [`entry::look_up`] | [`Table::look_up`], [`Accepted::look_up`] |
 //! | `sledgewren_second_opinion` | [`entry::second_opinion`] | [`second_opinion`] |
@@ -51,6 +53,7 @@ mod answer;
 mod desk;
 pub mod entry;
 pub mod ffi;
+mod filling;
 mod man;
 mod moves;
 mod opinion;
@@ -64,6 +67,7 @@ mod typed;
 
 pub use answer::{Answer, Checked, Value};
 pub use desk::{Desk, Slip, SLIP_BYTES};
+pub use filling::{Filling, Progress, Settled, Stage, Step};
 pub use man::{Man, Side};
 pub use moves::{Move, Moves, MOST_MOVES};
 pub use opinion::{second_opinion, Opinion, MOST_PLIES};

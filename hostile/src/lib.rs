@@ -6,5 +6,6 @@ pub mod feed;
 pub mod lines;
 pub mod pocket;
 pub mod sequence;
+pub mod steps;
 pub mod typed;
 pub mod written;

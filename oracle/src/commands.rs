@@ -16,9 +16,8 @@ use crate::number::{back, number, NUMBERS};
 use crate::position::{Keyed, Man, Refused, MEN};
 use crate::rules::{legal_position, move_name, moves};
 use crate::table::{check, look_up, Checked};
-use crate::{
-    commands_pocket, commands_search, commands_set, fill_back, fill_every, samples, selftest,
-};
+use crate::{commands_pocket, commands_search, commands_set, commands_steps};
+use crate::{fill_back, fill_every, samples, selftest};
 
 pub const USAGE: &str = "\
 usage: oracle SUBCOMMAND [ARGUMENTS]     (MAN is Q, R, B or N)
@@ -46,6 +45,7 @@ usage: oracle SUBCOMMAND [ARGUMENTS]     (MAN is Q, R, B or N)
   desk                    the desk program, on standard input
   run                     write the input of the example run
   bench-positions         answer the positions to keep by the bench
+  steps [MAN ...]         fill in steps: each step's answer and checksum
   fill-every MAN [REPEAT] time the fill of every position at every depth
   fill-back MAN [REPEAT]  time the fill that works back from the mates
   selftest                hold the program to outside truth
@@ -86,6 +86,7 @@ fn dispatch(name: &str, rest: &[OsString], output: &mut Out) -> Done {
         "set" => commands_set::write_file(rest, output),
         "set-find" => commands_set::find_in_file(rest, output),
         "set-sums" => commands_set::sums(rest, output),
+        "steps" => commands_steps::steps(rest, output),
         _ => without_arguments(name, rest, output),
     }
 }

@@ -1,6 +1,6 @@
 -- What the laws of the same name speak of. Definitions only.
 use mathlib.Core.Path.{_≡_}
-use mathlib.Core.Bool.{Bool}
+use mathlib.Core.Bool.{cond}
 use mathlib.Core.List.{List}
 use Prim.Native.Nat.{ℕ}
 use native.Mathlib.Omega.{arith}
@@ -8,6 +8,6 @@ use lib.ListN.{getD, set}
 use Rattle.theory.specs.Game.{Game}
 use Rattle.numbered.specs.Numbered.{Numbering, settles, passByte}
 
-pub record Settle (G : Game) (N : Numbering G) (k : ℕ) (t : List ℕ) (n : ℕ) (did : Bool) (after : List ℕ) : Type 0 where
-  pub told : did ≡ settles G N k t n
+pub record Settle (G : Game) (N : Numbering G) (k : ℕ) (t : List ℕ) (n did : ℕ) (after : List ℕ) : Type 0 where
+  pub told : did ≡ cond (settles G N k t n) 1 0
   pub bytes : after ≡ set t n (passByte G N k t n (getD t n 0))

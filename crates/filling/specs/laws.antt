@@ -1,2 +1,4 @@
 pub mod Laws
 pub mod Quiet
+pub mod StepLaws
+pub mod StepsTrue

@@ -13,6 +13,7 @@ ghost use lib.Dec.{ltb};
 ghost use Prim.Native.Nat.{_<_, _≤_};
 ghost use lib.ListN.{length};
 ghost use Rattle.numbered.specs.Numbered.{settles as settlesOf, someSettles, passed};
+ghost use Rattle.numbered.specs.Steps.{settledBy};
 ghost use Rattle.rules.specs.Chess.{chess};
 ghost use Rattle.pairs.specs.Tables.{pairs};
 ghost use Rattle.endings.specs.Chess.{tableSize, ending};
@@ -50,16 +51,16 @@ pub fn settles(list: &PairList, table: &[u8], man: u8, k: u8, n: usize) -> bool
     }
 }
 
-// Settles the number if pass k does; whether it did.
-fn settle(list: &PairList, table: &mut [u8], man: u8, k: u8, n: usize) -> bool
+// Settles the number if pass k does; 1 if it did, and else 0.
+fn settle(list: &PairList, table: &mut [u8], man: u8, k: u8, n: usize) -> u32
     requires { ⌜ (n < tableSize) × (length (now table) ≡ tableSize) × (k < 254) × (now list ≡ pairs) ⌝ }
     ensures { λ r. ⌜ Settle chess (ending man) k (now (table .entry)) n r (now (table .exit)) ⌝ }
 {
     if !settles(list, &*table, man, k, n) {
-        return false;
+        return 0;
     }
     table[n] = 2 + k;
-    true
+    1
 }
 
 // Whether pass k may settle a number whose successors' numbers are from `from` on, below `to`: mates apart, depth k - 1 must stand at one.
@@ -81,13 +82,13 @@ fn may_settle(table: &[u8], k: u8, from: usize, to: usize) -> bool
     false
 }
 
-// Settles the number if pass k does, which is asked only where it may; whether it did.
-fn settle_where(list: &PairList, may: bool, table: &mut [u8], man: u8, k: u8, n: usize) -> bool
+// Settles the number if pass k does, which is asked only where it may; 1 if it did, and else 0.
+fn settle_where(list: &PairList, may: bool, table: &mut [u8], man: u8, k: u8, n: usize) -> u32
     requires { ⌜ (n < tableSize) × (length (now table) ≡ tableSize) × (k < 254) × (now list ≡ pairs) × (may ≡ false → settlesOf chess (ending man) k (now table) n ≡ false) ⌝ }
     ensures { λ r. ⌜ Settle chess (ending man) k (now (table .entry)) n r (now (table .exit)) ⌝ }
 {
     if !may {
-        return false;
+        return 0;
     }
     settle(list, &mut *table, man, k, n)
 }
@@ -99,21 +100,21 @@ fn of_half(n: usize, white: bool, black: bool) -> bool
     if n < HALF { white } else { black }
 }
 
-// Pass k, in place; whether it settled a number. Successors have the other side to move, so they lie in the other half.
-pub fn pass(list: &PairList, man: u8, k: u8, table: &mut [u8]) -> bool
+// Pass k, in place; how many numbers it settled. Successors have the other side to move, so they lie in the other half.
+pub fn pass(list: &PairList, man: u8, k: u8, table: &mut [u8]) -> u32
     requires { ⌜ (k < 254) × (length (now table) ≡ tableSize) × (now list ≡ pairs) ⌝ }
-    ensures { λ r. ⌜ (r ≡ someSettles chess (ending man) k (now (table .entry))) × (now (table .exit) ≡ passed chess (ending man) k (now (table .entry))) ⌝ }
+    ensures { λ r. ⌜ (r ≡ settledBy chess (ending man) k (now (table .entry))) × (now (table .exit) ≡ passed chess (ending man) k (now (table .entry))) ⌝ }
 {
     let white = may_settle(&*table, k, HALF, TABLE_SIZE);
     let black = may_settle(&*table, k, 0, HALF);
-    let mut any = false;
+    let mut settled: u32 = 0;
     let mut n: usize = 0;
     while n < TABLE_SIZE {
         let may = of_half(n, white, black);
-        any = settle_where(list, may, &mut *table, man, k, n) | any;
+        settled += settle_where(list, may, &mut *table, man, k, n);
         n += 1;
     }
-    any
+    settled
 }
 
 // Whether pass k would settle a number.

@@ -4,4 +4,5 @@ pub mod OpinionWord
 pub mod PocketWords
 pub mod SetWords
 pub mod TypedReading
+pub mod StepWord
 pub mod laws

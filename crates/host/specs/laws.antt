@@ -5,3 +5,4 @@ pub mod PocketWordLaws
 pub mod SetLaws
 pub mod TypedReadingLaws
 pub mod OtherLengths
+pub mod StepWordLaws

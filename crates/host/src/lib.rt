@@ -6,6 +6,7 @@ mod opinions;
 mod pocket_words;
 mod pockets;
 mod set_file;
+mod steps;
 mod tables;
 mod typed_number;
 
@@ -22,6 +23,8 @@ pub use set_file::sledgewren_set_fill;
 pub use set_file::sledgewren_set_find;
 pub use set_file::sledgewren_set_start;
 pub use set_file::sledgewren_set_write;
+pub use steps::sledgewren_fill_start;
+pub use steps::sledgewren_fill_step;
 pub use tables::sledgewren_check;
 pub use tables::sledgewren_fill;
 pub use tables::sledgewren_look_up;

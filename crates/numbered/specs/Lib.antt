@@ -1,2 +1,4 @@
 pub mod Numbered
+pub mod Lending
+pub mod Steps
 pub mod laws

@@ -1,3 +1,6 @@
 pub mod Acceptance
 pub mod Passing
 pub mod Filling
+pub mod LendingLaws
+pub mod StepLaws
+pub mod StepsTrue

@@ -37,6 +37,8 @@ pub mod rules;
 pub mod search;
 #[path = "../../../oracle/src/set.rs"]
 pub mod set;
+#[path = "../../../oracle/src/steps.rs"]
+pub mod steps;
 #[path = "../../../oracle/src/symmetry.rs"]
 pub mod symmetry;
 #[path = "../../../oracle/src/table.rs"]

@@ -1,10 +1,10 @@
 -- Laws by which filling's code is proved: a number's verdict, one turn of a pass in place, and what the passes left give.
 use mathlib.Core.Path.{_≡_, refl, sym, ap, ap₂, subst, _∙_}
-use mathlib.Core.Bool.{Bool, true, false, cond, not, _&&_, _||_, and-true, and-false}
+use mathlib.Core.Bool.{Bool, true, false, cond, not, _&&_, and-true, and-false}
 use mathlib.Core.List.{List}
 use Prim.Native.Nat.{ℕ, zero, suc, _+_, _-_, _<_, _≤_}
 use native.Mathlib.Numerals.{add-one}
-use native.Mathlib.Nat.{zero-add}
+use native.Mathlib.Nat.{zero-add, add-zero}
 use native.Mathlib.Omega.{arith}
 use lib.Dec.{T, leb, eqb}
 use lib.ListN.{length, getD, set}
@@ -12,10 +12,12 @@ use lib.Seq.{ext-getD, set-getD}
 use borrow.Author.Tests.{lt-leb, le-leb, eq-eqb, ne-eqb}
 use Rattle.finite.specs.Truth.{decided, of-true, false-of, fails}
 use Rattle.finite.specs.Below.{allBelow, below}
+use Rattle.finite.specs.Ranked.{rank, rank-next, rank-most}
 use Rattle.finite.specs.Mapped.{mapFrom, length-mapFrom, getD-mapFrom, Upto, upto-none, upto-more, upto-all}
 use Rattle.theory.specs.Game.{Game}
 use Rattle.theory.specs.Required.{requiredAt}
 use Rattle.numbered.specs.Numbered.{Numbering, reads, settles, someSettles, startByte, passByte, passed, Result, tooDeep, Outcome, ended, passesFrom, filled}
+use Rattle.numbered.specs.Steps.{settledBy}
 use Rattle.numbered.specs.laws.Passing.{settles-in-place}
 use Rattle.rules.specs.declared.Piece.{Piece}
 use Rattle.rules.specs.Rules.{Board}
@@ -65,11 +67,11 @@ module _ (man k : ℕ) (t : List ℕ) (n : ℕ) where
 -- ---- one number settled, or not
 
 module _ (G : Game) (N : Numbering G) (k : ℕ) (t : List ℕ) where
-  pub settle-no : (n : ℕ) (s : Bool) → s ≡ settles G N k t n → s ≡ false → Settle G N k t n false t
-  settle-no n s e z = record { told = sym (sym e ∙ z); bytes = sym (rw (sym e ∙ z) (set-getD t n 0)) }
+  pub settle-no : (n : ℕ) (s : Bool) → s ≡ settles G N k t n → s ≡ false → Settle G N k t n 0 t
+  settle-no n s e z = record { told = sym (rw (sym e ∙ z)); bytes = sym (rw (sym e ∙ z) (set-getD t n 0)) }
 
-  pub settle-yes : (n : ℕ) (s : Bool) → s ≡ settles G N k t n → s ≡ true → Settle G N k t n true (set t n (2 + k))
-  settle-yes n s e z = record { told = sym (sym e ∙ z); bytes = sym (rw (sym e ∙ z)) }
+  pub settle-yes : (n : ℕ) (s : Bool) → s ≡ settles G N k t n → s ≡ true → Settle G N k t n 1 (set t n (2 + k))
+  settle-yes n s e z = record { told = sym (rw (sym e ∙ z)); bytes = sym (rw (sym e ∙ z)) }
 
   -- some number below n is settled
   pub someBelow : ℕ → Bool
@@ -79,22 +81,40 @@ module _ (G : Game) (N : Numbering G) (k : ℕ) (t : List ℕ) where
   unfolding someBelow allBelow
   none-below = refl
 
+  -- how many numbers below n are settled
+  abbrev pub settledBelow : ℕ → ℕ
+  settledBelow n = rank (settles G N k t) n
+
+  pub settled-none : 0 ≡ settledBelow 0
+  unfolding rank
+  settled-none = refl
+
   -- one turn of the pass in place
-  pub pass-turn : (u w : List ℕ) (n : ℕ) (did any : Bool) → Upto (passByte G N k t) t u n → n < length t → Settle G N k u n did w → any ≡ someBelow n → Upto (passByte G N k t) t w (n + 1) × ((did || any) ≡ someBelow (n + 1))
-  unfolding someBelow allBelow
-  pass-turn u w n did any up h s e =
+  pub pass-turn : (u w : List ℕ) (n did count : ℕ) → Upto (passByte G N k t) t u n → n < length t → Settle G N k u n did w → count ≡ settledBelow n → Upto (passByte G N k t) t w (n + 1) × (count + did ≡ settledBelow (n + 1))
+  pass-turn u w n did count up h s e =
       let same = settles-in-place G N k t u n up in (
         subst (λ (l : List ℕ). Upto (passByte G N k t) t l (n + 1)) (sym (s .bytes)) (upto-more (passByte G N k t) t u n (passByte G N k u n (getD u n 0)) up h (ap₂ (λ (b : Bool) (c : ℕ). cond b (2 + k) c) same (up .left n (omega arith)))),
-        rw (s .told ∙ same, e, add-one n) (or-not (settles G N k t n) (allBelow (λ m. not (settles G N k t m)) n)),
+        ap₂ _+_ e (s .told ∙ ap (λ (b : Bool). cond b 1 0) same) ∙ counted (settles G N k t n) (settledBelow n) ∙ sym (rank-next (settles G N k t) n (settles G N k t n) refl),
       )
     where
-      or-not : (a b : Bool) → (a || not b) ≡ not (not a && b)
-      or-not true b = refl
-      or-not false b = refl
+      counted : (b : Bool) (r : ℕ) → r + cond b 1 0 ≡ cond b (r + 1) r
+      counted true r = refl
+      counted false r = add-zero r
 
-  pub pass-done : (u : List ℕ) (n : ℕ) (any : Bool) → n ≡ N .size → length t ≡ N .size → Upto (passByte G N k t) t u n → any ≡ someBelow n → (any ≡ someSettles G N k t) × (u ≡ passed G N k t)
-  unfolding someBelow someSettles passed
-  pass-done u n any z long up e = (e ∙ ap (λ (m : ℕ). not (allBelow (λ j. not (settles G N k t j)) m)) z, upto-all (passByte G N k t) t u n up (omega arith))
+  -- no more than the numbers passed
+  pub settled-low : (n count : ℕ) → count ≡ settledBelow n → count ≤ n
+  settled-low n count e = subst (λ (m : ℕ). m ≤ n) (sym e) (rank-most (settles G N k t) n)
+
+  pub settle-one : (n did : ℕ) (w : List ℕ) → Settle G N k t n did w → did ≤ 1
+  settle-one n did w s = subst (λ (m : ℕ). m ≤ 1) (sym (s .told)) (most (settles G N k t n))
+    where
+      most : (b : Bool) → cond b 1 0 ≤ 1
+      most true = omega arith
+      most false = omega arith
+
+  pub pass-done : (u : List ℕ) (n count : ℕ) → n ≡ N .size → length t ≡ N .size → Upto (passByte G N k t) t u n → count ≡ settledBelow n → (count ≡ settledBy G N k t) × (u ≡ passed G N k t)
+  unfolding settledBy passed
+  pass-done u n count z long up e = (e ∙ ap settledBelow z, upto-all (passByte G N k t) t u n up (omega arith))
 
   -- a loop that looks for a number that is settled
   pub none-yet : (n : ℕ) (s : Bool) → s ≡ settles G N k t n → s ≡ false → someBelow n ≡ false → someBelow (n + 1) ≡ false

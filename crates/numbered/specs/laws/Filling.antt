@@ -59,7 +59,7 @@ module _ (G : Game) (N : Numbering G) (L : Lawful G N) where
         twice true t = tt
         twice false t = t
 
-    none-depth : (k : ℕ) (t : List ℕ) → Holds G N k t → T (not (someSettles G N k t)) → Some k → ⊥
+    pub none-depth : (k : ℕ) (t : List ℕ) → Holds G N k t → T (not (someSettles G N k t)) → Some k → ⊥
     unfolding someSettles
     none-depth k t w s x =
         let l = L .number-live (x .0) (x .1) (x .2) in

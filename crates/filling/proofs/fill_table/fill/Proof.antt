@@ -2,13 +2,14 @@
 use mathlib.Core.Path.{_≡_, refl, sym, ap, _∙_}
 use Prim.Native.Nat.{_+_, _-_, _≤_}
 use native.Mathlib.Omega.{arith}
-use borrow.Author.Tests.{not-true, not-false}
 use lib.ListN.{length}
+use borrow.Author.Needs.{needs}
 use Rattle.finite.specs.Mapped.{mapFrom, length-mapFrom}
 use Rattle.numbered.specs.Numbered.{startByte, passesFrom}
 use Rattle.rules.specs.Chess.{chess}
 use Rattle.endings.specs.Chess.{ending}
-use Rattle.filling.specs.laws.Laws.{size-is, passed-none, passes-on, passes-stop, passes-deep, fill-man, fill-length, fill-ends}
+use Rattle.filling.specs.laws.Laws.{fill-man, fill-length, fill-ends}
+use Rattle.filling.specs.laws.StepLaws.{step-went, step-ended}
 use Rattle.filling.proofs.fill_table.fill.Statement.{statement}
 use Rattle.filling.proofs.fill_table.fill.Tie as tie
 
@@ -37,75 +38,42 @@ start-requires c κs = c .before .before .if2 .left
 loop-holds : tie.Need-loop-holds Inv-loop μ-loop
 loop-holds c = (omega arith, ap length (c .before .before .start .ensures) ∙ length-mapFrom _ 0 _ ∙ c .before .before .before .before .before .if2 .left, refl)
 
-pass-requires : tie.Need-pass-requires Inv-loop μ-loop
-pass-requires c κs = (c .before .before .loop-test .taken, c .before .before .before .loop .inv .1, c .before .before .before .before .before .before .before .before .pair-list .ensures)
+step-at-requires : tie.Need-step-at-requires Inv-loop μ-loop
+step-at-requires c κs = let a = c .before .before in (a .loop .inv .0, a .loop .inv .1, a .before .before .before .before .before .pair-list .ensures)
 
-ended-requires : tie.Need-ended-requires Inv-loop μ-loop
-ended-requires c κs = tt
+enum-known-said : tie.Need-enum-known-said Inv-loop μ-loop
+enum-known-said c = search needs
 
 same-length : tie.Need-same-length Inv-loop μ-loop
 same-length c =
     let a = c .before .before .before .before .before .before .before .before in
-    c .before .before .before .before .pass .kept .1 .1 .1 .0 ∙ a .loop .inv .1 ∙ sym (a .before .before .before .before .before .before .if2 .left)
+    c .before .before .before .before .before .step-at .kept .1 .1 .1 .0 ∙ a .loop .inv .1 ∙ sym (a .before .before .before .before .before .before .if2 .left)
 
 returns-3 : tie.Need-returns-3 Inv-loop μ-loop
 returns-3 c =
     let a = c .before .before .before .before .before .before .before .before in
-    let p = c .before .before .before .before .pass .ensures in
-    let e = sym (p .0) ∙ not-true _ (c .before .if3 .taken) in
-    fill-ends _ _ _ _ _ _ (a .before .before .before .before .before .before .before .if1 .left) (a .before .before .before .before .before .before .if2 .left) (whole a ∙ passes-stop _ _ (a .loop .k) (a .loop .table) (a .loop .inv .0) e) (c .ended .ensures)
-    (p .1 ∙ passed-none _ _ (a .loop .k) (a .loop .table) (a .loop .inv .1 ∙ sym (size-is _)) e)
+    let w = step-ended _ _ _ (a .loop .inv .0) _ _ (c .before .before .before .before .before .step-at .ensures) _ (c .before .said .given .1) in
+    fill-ends _ _ _ _ _ _ (a .before .before .before .before .before .before .before .if1 .left) (a .before .before .before .before .before .before .if2 .left) (whole a) (w .0) (w .1)
+
+enum-told : tie.Need-enum-told Inv-loop μ-loop
+enum-told c = search needs
 
 add-k : tie.Need-add-k Inv-loop μ-loop
-add-k c = omega (arith, c .before .before .before .before .before .before .loop-test .taken)
+add-k c = omega (arith, c .before .before .before .before .before .before .before .loop .inv .0)
 
 loop-less : tie.Need-loop-less Inv-loop μ-loop
-loop-less c = omega (arith, c .before .before .before .before .before .before .loop-test .taken)
+loop-less c =
+    let a = c .before .before .before .before .before .before .before in
+    let w = step-went _ _ _ (a .loop .inv .0) _ _ (c .before .before .before .before .step-at .ensures) _ (c .enum-told .given .1) in
+    omega (arith, w .0)
 
 loop-again : tie.Need-loop-again Inv-loop μ-loop
 loop-again c =
     let a = c .before .before .before .before .before .before .before in
-    let p = c .before .before .before .pass .ensures in
-    let h = c .before .before .before .before .before .before .loop-test .taken in (
-      omega (arith, h),
-      c .before .before .before .pass .kept .1 .1 .1 .0 ∙ a .loop .inv .1,
-      ap (passesFrom chess (ending _) (254 - (a .loop .k + 1)) (a .loop .k + 1)) (p .1) ∙ sym (passes-on _ _ (a .loop .k) (a .loop .table) h (sym (p .0) ∙ not-false _ (c .if3 .left))) ∙ a .loop .inv .2,
-    )
-
-some-settles-requires : tie.Need-some-settles-requires Inv-loop μ-loop
-some-settles-requires c κs = let a = c .before .before .before in (a .loop .inv .1, a .before .before .before .before .before .pair-list .ensures)
-
-clear-requires : tie.Need-clear-requires Inv-loop μ-loop
-clear-requires c κs = tt
-
-same-length-2 : tie.Need-same-length-2 Inv-loop μ-loop
-same-length-2 c =
-    let a = c .before .before .before .before .before .before .before .before .before in
-    c .before .before .clear .kept .0 ∙ a .loop .inv .1 ∙ sym (a .before .before .before .before .before .before .if2 .left)
-
-returns-4 : tie.Need-returns-4 Inv-loop μ-loop
-returns-4 c =
-    let a = c .before .before .before .before .before .before .before .before .before in
-    let z : a .loop .k ≡ 254 = omega (arith, a .loop .inv .0, c .before .before .before .before .before .before .before .before .loop-test .left) in
-    let e = rw (← z) at (sym (c .before .before .before .before .before .some-settles .ensures) ∙ c .before .before .before .before .if4 .taken) in
-    fill-ends _ _ _ _ _ _ (a .before .before .before .before .before .before .before .if1 .left) (a .before .before .before .before .before .before .if2 .left) (whole a ∙ passes-deep _ _ (a .loop .k) (a .loop .table) z e) refl (c .before .before .clear .ensures)
-
-ended-requires-2 : tie.Need-ended-requires-2 Inv-loop μ-loop
-ended-requires-2 c κs = tt
-
-same-length-3 : tie.Need-same-length-3 Inv-loop μ-loop
-same-length-3 c =
-    let a = c .before .before .before .before .before .before in
-    a .loop .inv .1 ∙ sym (a .before .before .before .before .before .before .if2 .left)
-
-returns-5 : tie.Need-returns-5 Inv-loop μ-loop
-returns-5 c =
-    let a = c .before .before .before .before .before .before in
-    let z : a .loop .k ≡ 254 = omega (arith, a .loop .inv .0, c .before .before .before .before .before .loop-test .left) in
-    let e = rw (← z) at (sym (c .before .before .some-settles .ensures) ∙ c .before .if4 .left) in
-    fill-ends _ _ _ _ _ _ (a .before .before .before .before .before .before .before .if1 .left) (a .before .before .before .before .before .before .if2 .left) (whole a ∙ passes-stop _ _ (a .loop .k) (a .loop .table) (a .loop .inv .0) e) (c .ended2 .ensures ∙ rw z) refl
+    let w = step-went _ _ _ (a .loop .inv .0) _ _ (c .before .before .before .before .step-at .ensures) _ (c .enum-told .given .1) in
+    (omega (arith, w .0), c .before .before .before .before .step-at .kept .1 .1 .1 .0 ∙ a .loop .inv .1, w .1 ∙ a .loop .inv .2)
 
 pub fill-spec : {M : Type 1} → statement M
 fill-spec =
     tie.close
-    (tie.spec Inv-loop μ-loop returns returns-2 pair-list-requires start-requires loop-holds pass-requires ended-requires same-length returns-3 add-k loop-less loop-again some-settles-requires clear-requires same-length-2 returns-4 ended-requires-2 same-length-3 returns-5)
+    (tie.spec Inv-loop μ-loop returns returns-2 pair-list-requires start-requires loop-holds step-at-requires enum-known-said same-length returns-3 enum-told add-k loop-less loop-again)
