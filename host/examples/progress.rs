@@ -14,7 +14,7 @@ const WIDTH: u32 = 40;
 fn bar(out: &mut impl Write, filling: &Filling, settled: Settled) -> io::Result<()> {
     let filled = (WIDTH * filling.settled() / filling.legal().max(1)) as usize;
     let (done, rest) = ("#".repeat(filled), ".".repeat(WIDTH as usize - filled));
-    let (man, depth) = (filling.man(), settled.depth);
+    let (man, depth) = (filling.man().to_string(), settled.depth);
     write!(out, "\r{man:8} [{done}{rest}] depth {depth:2}, {} settled", filling.settled())?;
     out.flush()
 }

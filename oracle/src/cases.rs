@@ -5,7 +5,7 @@ use crate::fill_back;
 use crate::number::{back, number, NUMBERS};
 use crate::position::{Keyed, Refused};
 use crate::rules::{legal_position, moves};
-use crate::table::{check, look_up};
+use crate::table::{check, look_up, Checked};
 
 pub const RUN_INPUT: &str = "\
 Q w b3 h2 a1
@@ -38,6 +38,8 @@ pub enum Ask {
     MoveCount(&'static str),
     Legal(&'static str),
     TableOf(usize),
+    /// A man's table: the man it is checked for, the man it is filled for, and bytes altered in it.
+    Checked(u8, u8, &'static [(usize, u8)]),
 }
 
 pub struct Case {
@@ -50,8 +52,8 @@ const fn case(says: &'static str, ask: Ask, answer: &'static str) -> Case {
     Case { says, ask, answer }
 }
 
-/// "Positions to keep by the bench", in 01's order.
-pub static CASES: [Case; 18] = [
+/// "Positions to keep by the bench", in 01's order, and then tables to check.
+pub static CASES: [Case; 28] = [
     case("White Ka1 Qb1, Black Kh8, White to move", Ask::Number("Q w a1 b1 h8"), "number 2049"),
     case("White Ka1 Qa2, Black Kh8, White to move", Ask::Number("Q w a1 a2 h8"), "number 2049"),
     case("White Kh8 Qh7, Black Ka1, White to move", Ask::Number("Q w h8 h7 a1"), "number 2049"),
@@ -70,6 +72,16 @@ pub static CASES: [Case; 18] = [
     case("Kc1 Ra1 against Ke1, White to move", Ask::Legal("R w c1 a1 e1"), "legal"),
     case("Table of 59,135 bytes", Ask::TableOf(NUMBERS - 1), "refused 7"),
     case("Table of 59,137 bytes", Ask::TableOf(NUMBERS + 1), "refused 7"),
+    case("Queen's table", Ask::Checked(0, 0, &[]), "accepted"),
+    case("Queen's table, checked for a rook", Ask::Checked(1, 0, &[]), "wrong at 9"),
+    case("Queen's table, 1 at 59,135", Ask::Checked(0, 0, &[(59135, 1)]), "wrong at 59135"),
+    case("And 1 at 2,049", Ask::Checked(0, 0, &[(59135, 1), (2049, 1)]), "wrong at 2049"),
+    case("Rook's table", Ask::Checked(1, 1, &[]), "accepted"),
+    case("Rook's table, 255 at 31,617", Ask::Checked(1, 1, &[(31617, 255)]), "wrong at 31617"),
+    case("Bishop's table", Ask::Checked(2, 2, &[]), "accepted"),
+    case("Bishop's table, 2 at 31,617", Ask::Checked(2, 2, &[(31617, 2)]), "wrong at 2049"),
+    case("Knight's table", Ask::Checked(3, 3, &[]), "accepted"),
+    case("Knight's table, 0 at 2,049", Ask::Checked(3, 3, &[(2049, 0)]), "wrong at 2049"),
 ];
 
 fn number_answer(line: &str) -> Result<String, Refused> {
@@ -118,6 +130,18 @@ fn table_answer(length: usize) -> Result<String, Refused> {
     }
 }
 
+fn checked_answer(man: u8, of: u8, altered: &[(usize, u8)]) -> Result<String, Refused> {
+    let mut table = vec![0; NUMBERS];
+    fill_back::fill(of, &mut table)?;
+    for &(number, byte) in altered {
+        table[number] = byte;
+    }
+    Ok(match check(man, &table)? {
+        Checked::Accepted => "accepted".to_string(),
+        Checked::Wrong(number) => format!("wrong at {number}"),
+    })
+}
+
 /// The program's own answer to a case.
 pub fn answer(ask: &Ask) -> String {
     let answer = match *ask {
@@ -128,6 +152,7 @@ pub fn answer(ask: &Ask) -> String {
         Ask::MoveCount(line) => move_count(line),
         Ask::Legal(line) => legality(line),
         Ask::TableOf(length) => table_answer(length),
+        Ask::Checked(man, of, altered) => checked_answer(man, of, altered),
     };
     answer.unwrap_or_else(|Refused(number)| format!("refused {number}"))
 }

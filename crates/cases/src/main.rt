@@ -1,4 +1,4 @@
-// Runs 01's positions to keep by the bench, and answers as the second program does.
+// Runs 01's positions to keep by the bench, checks the four tables and altered ones, and answers as the second program does.
 use answers::Answer;
 use answers::Checked;
 use answers::Filled;
@@ -19,6 +19,10 @@ use position::standing_refusal;
 const QUEEN: u8 = 0;
 
 const ROOK: u8 = 1;
+
+const BISHOP: u8 = 2;
+
+const KNIGHT: u8 = 3;
 
 fn say(label: &[u8], answer: &[u8]) {
     io::write_all(1, label);
@@ -184,6 +188,50 @@ fn lengths() {
     length(b"Table of 59,137 bytes: ", &mut long);
 }
 
+fn checking(label: &[u8], man: u8, table: &[u8]) {
+    match check(man, table) {
+        Checked::Accepted => say(label, b"accepted"),
+        Checked::Wrong(n) => say_number(label, b"wrong at ", n as u64),
+        Checked::Refused(n) => say_number(label, b"refused ", n as u64),
+    }
+}
+
+// A table as it is filled, and altered ones: the lowest wrong number.
+fn queens_table() {
+    let mut table = [0u8; TABLE_SIZE];
+    fill(QUEEN, &mut table);
+    checking(b"Queen's table: ", QUEEN, &table);
+    checking(b"Queen's table, checked for a rook: ", ROOK, &table);
+    table[59135] = 1;
+    checking(b"Queen's table, 1 at 59,135: ", QUEEN, &table);
+    table[2049] = 1;
+    checking(b"And 1 at 2,049: ", QUEEN, &table);
+}
+
+fn rooks_table() {
+    let mut table = [0u8; TABLE_SIZE];
+    fill(ROOK, &mut table);
+    checking(b"Rook's table: ", ROOK, &table);
+    table[31617] = 255;
+    checking(b"Rook's table, 255 at 31,617: ", ROOK, &table);
+}
+
+fn bishops_table() {
+    let mut table = [0u8; TABLE_SIZE];
+    fill(BISHOP, &mut table);
+    checking(b"Bishop's table: ", BISHOP, &table);
+    table[31617] = 2;
+    checking(b"Bishop's table, 2 at 31,617: ", BISHOP, &table);
+}
+
+fn knights_table() {
+    let mut table = [0u8; TABLE_SIZE];
+    fill(KNIGHT, &mut table);
+    checking(b"Knight's table: ", KNIGHT, &table);
+    table[2049] = 0;
+    checking(b"Knight's table, 0 at 2,049: ", KNIGHT, &table);
+}
+
 fn main() {
     numbers();
     values();
@@ -196,4 +244,8 @@ fn main() {
         lone(ROOK, 0, 2, 0, 4),
     );
     lengths();
+    queens_table();
+    rooks_table();
+    bishops_table();
+    knights_table();
 }
