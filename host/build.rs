@@ -19,15 +19,15 @@ fn folder() -> PathBuf {
 
 fn main() {
     let folder = folder();
-    let library = folder.join("libhost.a");
+    let library = folder.join("libsledgewren.a");
     println!("cargo:rerun-if-env-changed={VARIABLE}");
     println!("cargo:rerun-if-changed={}", library.display());
     if !library.is_file() {
         eprintln!("sledgewren: there is no {}", library.display());
-        eprintln!("sledgewren: make it with `rt staticlib host` from the repository's root,");
-        eprintln!("sledgewren: or name the folder that holds libhost.a in {VARIABLE}");
+        eprintln!("sledgewren: make it with `rt staticlib sledgewren` from the repository's root,");
+        eprintln!("sledgewren: or name the folder that holds libsledgewren.a in {VARIABLE}");
         exit(1);
     }
     println!("cargo:rustc-link-search=native={}", folder.display());
-    println!("cargo:rustc-link-lib=static=host");
+    println!("cargo:rustc-link-lib=static=sledgewren");
 }

@@ -3,7 +3,7 @@
  * checked, positions looked up, searched without a table, and a desk's lines answered; tables are
  * packed to pockets.
  *
- * Link with target/staticlib/libhost.a (x86-64). C99; C++ may include it.
+ * Link with target/staticlib/libsledgewren.a (x86-64). C99; C++ may include it.
  *
  * Codes
  *   man      queen 0, rook 1, bishop 2, knight 3; the man is White's

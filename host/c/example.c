@@ -2,7 +2,7 @@
  * Fills the queen's table, has it checked, looks three positions up, writes a number with its
  * check digits, and packs the table to a pocket. From the repository's root:
  *
- *   cc -std=c99 -Iinclude host/c/example.c target/staticlib/libhost.a -o target/c-example
+ *   cc -std=c99 -Iinclude host/c/example.c target/staticlib/libsledgewren.a -o target/c-example
  */
 
 #include <stdio.h>

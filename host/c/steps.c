@@ -1,7 +1,7 @@
 /*
  * Fills the queen's table in steps and tells each one. From the repository's root:
  *
- *   cc -std=c99 -Iinclude host/c/steps.c target/staticlib/libhost.a -o target/c-steps
+ *   cc -std=c99 -Iinclude host/c/steps.c target/staticlib/libsledgewren.a -o target/c-steps
  */
 
 #include <stdio.h>

@@ -1,7 +1,7 @@
 -- The reply to one line over a held table (01, "The desk program"): its slip, the man whose table is held afterwards, and the table's bytes.
 -- Definitions only.
 use mathlib.Core.Path.{_≡_}
-use mathlib.Core.Bool.{Bool, cond, not}
+use mathlib.Core.Bool.{cond, not}
 use mathlib.Core.List.{List}
 use Prim.Native.Nat.{ℕ}
 use lib.Dec.{eqb}
@@ -9,8 +9,8 @@ use Rattle.answers.specs.declared.Answer.{Answer}
 use Rattle.answers.specs.declared.Filled.{Filled}
 use Rattle.answers.specs.declared.Filled.the-variants.{Greatest, NoneDecided, Refused}
 use Rattle.position.specs.declared.Position.{Position}
-use Rattle.position.specs.Keyed.{kindOf}
-use Rattle.position.specs.Refusals.{standing}
+use Rattle.position.specs.Keyed.{manKind}
+use Rattle.position.specs.Refusals.{standingRefusal}
 use Rattle.index.specs.Answers.{placedAt}
 use Rattle.endings.specs.Answers.{fillOf, lookUpOf}
 use Rattle.lines.specs.declared.Request.{Request}
@@ -18,32 +18,32 @@ use Rattle.lines.specs.Grammar.{requestOf}
 use Rattle.slips.specs.Slip.{slipOf, placedSlip, padded}
 use Rattle.adjudication.specs.declared.Reply.{Reply}
 
-pub record Outcome : Type 0 where
+pub record LineOutcome : Type 0 where
   pub slip : List ℕ
   pub held : ℕ
   pub table : List ℕ
 
 -- what the code gives back of an outcome
-unfoldable pub Gives : Reply → Outcome → Type 0
+unfoldable pub Gives : Reply → LineOutcome → Type 0
 Gives r o = r ≡ record { slip = padded (o .slip); held = o .held }
 
 -- a position looked up in the table that filling left; where filling gave up, no table is held
-abbrev pub filledReply : Position → Filled → List ℕ → Outcome
-filledReply p (Greatest n) t = record { slip = slipOf (lookUpOf t p); held = kindOf p; table = t }
-filledReply p NoneDecided t = record { slip = slipOf (lookUpOf t p); held = kindOf p; table = t }
+abbrev pub filledReply : Position → Filled → List ℕ → LineOutcome
+filledReply p (Greatest n) t = record { slip = slipOf (lookUpOf t p); held = manKind p; table = t }
+filledReply p NoneDecided t = record { slip = slipOf (lookUpOf t p); held = manKind p; table = t }
 filledReply p (Refused n) t = record { slip = slipOf (Answer.Refused n); held = 4; table = t }
 
 -- "fills the table of a position line's man whenever that isn't the one it holds"; a refused position asks for no table
-unfoldable pub lookUpReply : Position → ℕ → List ℕ → Outcome
+unfoldable pub lookUpReply : Position → ℕ → List ℕ → LineOutcome
 lookUpReply p held t =
-    cond (not (eqb (standing p) 0)) (record { slip = slipOf (Answer.Refused (standing p)); held = held; table = t })
-    (cond (eqb (kindOf p) held) (record { slip = slipOf (lookUpOf t p); held = held; table = t })
-    (filledReply p (fillOf (kindOf p) t .answer) (fillOf (kindOf p) t .bytes)))
+    cond (not (eqb (standingRefusal p) 0)) (record { slip = slipOf (Answer.Refused (standingRefusal p)); held = held; table = t })
+    (cond (eqb (manKind p) held) (record { slip = slipOf (lookUpOf t p); held = held; table = t })
+    (filledReply p (fillOf (manKind p) t .answer) (fillOf (manKind p) t .bytes)))
 
-abbrev pub requestReply : Request → ℕ → List ℕ → Outcome
+abbrev pub requestReply : Request → ℕ → List ℕ → LineOutcome
 requestReply (Request.LookUp p) held t = lookUpReply p held t
-requestReply (Request.Back man n) held t = record { slip = placedSlip (placedAt man n); held = held; table = t }
+requestReply (Request.Back kind n) held t = record { slip = placedSlip (placedAt kind n); held = held; table = t }
 requestReply (Request.Refused n) held t = record { slip = slipOf (Answer.Refused n); held = held; table = t }
 
-unfoldable pub replyOf : List ℕ → ℕ → List ℕ → Outcome
+unfoldable pub replyOf : List ℕ → ℕ → List ℕ → LineOutcome
 replyOf line held t = requestReply (requestOf line) held t

@@ -13,9 +13,9 @@ use slips::Slip;
 use slips::answer_slip;
 use slips::placed_slip;
 ghost use mathlib.Core.Path.{_≡_};
-ghost use Rattle.position.specs.Keyed.{kindOf};
+ghost use Rattle.position.specs.Keyed.{manKind};
 ghost use Rattle.adjudication.specs.Reply.{Gives, lookUpReply, filledReply};
-ghost use Rattle.adjudication.specs.TrueSlip.{Answered};
+ghost use Rattle.adjudication.specs.TrueSlip.{LinePromise};
 
 // The man whose table is held; none from here on.
 const NONE: u8 = 4;
@@ -28,7 +28,7 @@ pub struct Reply {
 
 // A position looked up in a table that filling just left.
 fn after_fill(p: Position, kind: u8, filled: Filled, table: &[u8]) -> Reply
-    requires { ⌜ kind ≡ kindOf p ⌝ }
+    requires { ⌜ kind ≡ manKind p ⌝ }
     ensures { λ r. ⌜ Gives r (filledReply p filled (now (table .entry))) ⌝ }
 {
     match filled {
@@ -73,7 +73,7 @@ fn look_up_line(p: Position, held: u8, table: &mut [u8]) -> Reply
 
 // The slip of a line of any bytes and any length; the newline is not part of it. `held` is the man whose table the lent table is.
 pub fn answer_line(line: &[u8], held: u8, table: &mut [u8]) -> Reply
-    ensures { λ r. ⌜ Answered (now (line .entry)) held (now (table .entry)) r (now (table .exit)) ⌝ }
+    ensures { λ r. ⌜ LinePromise (now (line .entry)) held (now (table .entry)) r (now (table .exit)) ⌝ }
 {
     let request = parse(line);
     match request {

@@ -2,16 +2,16 @@
 use rules::Move;
 
 // The move of an answer; none for mate and stalemate.
-pub enum Advice {
+pub enum BestMove {
     Play(Move),
     NoMove,
 }
 
 // What look-up says of the side to move: a depth in plies with a win or a loss.
 pub enum Answer {
-    Win(u8, Advice),
-    Loss(u8, Advice),
-    Draw(Advice),
+    Win(u8, BestMove),
+    Loss(u8, BestMove),
+    Draw(BestMove),
     Refused(u8),
 }
 

@@ -1,6 +1,5 @@
 -- What the laws of the same name speak of. Definitions only.
 use Prim.Native.Nat.{ℕ, _*_, _%_, _^_}
-use native.Mathlib.Omega.{arith}
 
 -- the code's `1 << s`
 abbrev pub bit : ℕ → ℕ

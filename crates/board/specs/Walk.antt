@@ -23,9 +23,9 @@ metAt (Met.At u) t = eqb u t
 metAt Met.Edge t = false
 
 -- the squares that count as occupied where t is asked about: t itself does, since a line may end on an empty square too
-abbrev pub standing : (ℕ → Bool) → ℕ → ℕ → Bool
-standing occ t u = occ u || eqb u t
+abbrev pub withTarget : (ℕ → Bool) → ℕ → ℕ → Bool
+withTarget occ t u = occ u || eqb u t
 
 -- a walk from s in the k-th direction meets t first
 abbrev pub meetsFirst : (ℕ → Bool) → ℕ → ℕ → ℕ → Bool
-meetsFirst occ s t k = metAt (walkOf (standing occ t) s k) t
+meetsFirst occ s t k = metAt (walkOf (withTarget occ t) s k) t

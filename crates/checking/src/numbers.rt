@@ -9,12 +9,12 @@ use successors::verdict_on;
 ghost use mathlib.Core.Path.{_≡_};
 ghost use lib.Dec.{eqb};
 ghost use Rattle.theory.specs.Required.{requiredAt};
-ghost use Rattle.numbered.specs.Numbered.{requiredByte};
+ghost use Rattle.table_theory.specs.Tables.{requiredByte};
 ghost use Rattle.rules.specs.Chess.{chess};
 ghost use Rattle.position.specs.Keyed.{boardOf};
 ghost use Rattle.pairs.specs.Tables.{pairs};
 ghost use Rattle.checking.specs.Right.{Alone};
-ghost use Rattle.endings.specs.Chess.{legalNumber, byteOf, ending};
+ghost use Rattle.endings.specs.Ending.{legalNumber, byteOf, ending};
 
 // Whether the byte is the one that the position's successors require.
 fn is_required(list: &PairList, table: &[u8], p: Position, byte: u8) -> bool
@@ -40,11 +40,11 @@ fn is_required(list: &PairList, table: &[u8], p: Position, byte: u8) -> bool
 }
 
 // Whether the byte is the one required at the number.
-pub fn is_right(list: &PairList, table: &[u8], man: u8, n: u32, byte: u8) -> bool
+pub fn is_right(list: &PairList, table: &[u8], kind: u8, n: u32, byte: u8) -> bool
     requires { ⌜ now list ≡ pairs ⌝ }
-    ensures { λ r. ⌜ r ≡ eqb byte (requiredByte chess (ending man) (now (table .entry)) n) ⌝ }
+    ensures { λ r. ⌜ r ≡ eqb byte (requiredByte chess (ending kind) (now (table .entry)) n) ⌝ }
 {
-    let standing = legal_at(man, n);
+    let standing = legal_at(kind, n);
     match standing {
         Standing::Legal(p) => is_required(list, table, p, byte),
         Standing::Nothing => byte == 0,

@@ -12,17 +12,17 @@ use Rattle.rules.specs.declared.Move.{Move}
 use Rattle.rules.specs.Rules.{Board, legal}
 use Rattle.rules.specs.Chess.{chess}
 use Rattle.position.specs.declared.Position.{Position}
-use Rattle.position.specs.Keyed.{boardOf, kindOf}
-use Rattle.position.specs.Refusals.{placing, standing}
+use Rattle.position.specs.Keyed.{boardOf, manKind}
+use Rattle.position.specs.Refusals.{placingRefusal, standingRefusal}
 use Rattle.index.specs.declared.Placed.{Placed}
-use Rattle.index.specs.Answers.{numbered, placedAt}
+use Rattle.index.specs.Answers.{numberAnswer, placedAt}
 use Rattle.index.specs.NumberLaws.{SameClass}
 use Rattle.index.specs.laws.NumberLaws as numbers
 use Rattle.index.specs.BackLaws.{Bears}
 use Rattle.index.specs.laws.BackLaws as backs
 use Rattle.answers.specs.declared.Answer.{Answer}
 use Rattle.answers.specs.declared.Checked.{Checked}
-use Rattle.endings.specs.Chess.{Lone, tableSize}
+use Rattle.endings.specs.Ending.{Lone, tableSize}
 use Rattle.endings.specs.Truth.{TrueTable, TrueAnswer}
 use Rattle.endings.specs.Answers.{checkOf, fillOf, lookUpOf}
 use Rattle.endings.specs.laws.Checking as checking
@@ -30,7 +30,7 @@ use Rattle.endings.specs.FilledTrue.{FillTrue}
 use Rattle.endings.specs.laws.FilledTrue as filling
 use Rattle.endings.specs.laws.LookingUp as lookingUp
 use Rattle.endings.specs.laws.OneAnswer as answers
-use Rattle.endings.specs.Desk.{deskMove, GamePromise}
+use Rattle.endings.specs.GamePromise.{deskMove, GamePromise}
 use Rattle.endings.specs.laws.Games as playing
 use Rattle.adjudication.specs.TrueSlip.{TrueSlip, Held}
 use Rattle.adjudication.specs.laws.OneSlip as slips
@@ -40,28 +40,28 @@ use Rattle.stream.specs.laws.Written as streaming
 -- ---- demand 2: numbers
 
 -- 1. Two positions of one ending that numbering does not refuse have the same number exactly when one of the board's eight maps makes one into the other.
-pub same-number : (p q : Position) → placing p ≡ 0 → placing q ≡ 0 → kindOf p ≡ kindOf q → (numbered p ≡ numbered q) ↔ SameClass p q
+pub same-number : (p q : Position) → placingRefusal p ≡ 0 → placingRefusal q ≡ 0 → manKind p ≡ manKind q → (numberAnswer p ≡ numberAnswer q) ↔ SameClass p q
 same-number = numbers.same-number
 
 -- 2. Each used number leads back to a position that bears it.
-pub number-back : (man n : ℕ) (p : Position) → placedAt man n ≡ Placed.At p → Bears man n p
+pub number-back : (kind n : ℕ) (p : Position) → placedAt kind n ≡ Placed.At p → Bears kind n p
 number-back = backs.number-back
 
 -- ---- demand 2: tables
 
 -- 3. Checking accepts a table exactly when it is as long as a table and the true one: that table and no other, whoever made it.
-pub accepted-true : (man : ℕ) (t : List ℕ) → (checkOf man t ≡ Checked.Accepted) ↔ ((man < 4) × (length t ≡ tableSize) × TrueTable man t)
+pub accepted-true : (kind : ℕ) (t : List ℕ) → (checkOf kind t ≡ Checked.Accepted) ↔ ((kind < 4) × (length t ≡ tableSize) × TrueTable kind t)
 accepted-true = checking.accepts-true-only
 
 -- 4. Filling leaves the true table and gives the greatest depth, or says that no position is decided; or it gives refusal 10, a depth exceeds 253 and the
 -- table is all zero.
-pub filled-true : (man : ℕ) (t : List ℕ) → man < 4 → length t ≡ tableSize → FillTrue man (fillOf man t)
+pub filled-true : (kind : ℕ) (t : List ℕ) → kind < 4 → length t ≡ tableSize → FillTrue kind (fillOf kind t)
 filled-true = filling.filled-true
 
 -- ---- demand 3
 
 -- 5. With an accepted table look-up answers each legal position of the ending with its true value and depth and the first truly best move.
-pub looked-up-true : (man : ℕ) (t : List ℕ) → checkOf man t ≡ Checked.Accepted → (p : Position) → kindOf p ≡ man → standing p ≡ 0 → TrueAnswer (boardOf p) (lookUpOf t p)
+pub looked-up-true : (kind : ℕ) (t : List ℕ) → checkOf kind t ≡ Checked.Accepted → (p : Position) → manKind p ≡ kind → standingRefusal p ≡ 0 → TrueAnswer (boardOf p) (lookUpOf t p)
 looked-up-true = lookingUp.look-up-true
 
 -- 6. A board has one true answer: value, depth and move are pinned by the rules of chess alone.
@@ -70,7 +70,7 @@ one-answer = answers.one-answer
 
 -- 7. The theorem about games: every list of legal moves from any legal board of an ending, in which a side plays the moves that look-up gives with an
 -- accepted table.
-pub games : (man : ℕ) (t : List ℕ) → checkOf man t ≡ Checked.Accepted → (b : Board) → T (legal b) → Lone man b → (side : Bool) (ms : List Move) → LegalGame chess b ms → Follows chess (deskMove man t) side b ms → GamePromise man t side b ms
+pub games : (kind : ℕ) (t : List ℕ) → checkOf kind t ≡ Checked.Accepted → (b : Board) → T (legal b) → Lone kind b → (side : Bool) (ms : List Move) → LegalGame chess b ms → Follows chess (deskMove kind t) side b ms → GamePromise kind t side b ms
 games = playing.games
 
 -- ---- the desk

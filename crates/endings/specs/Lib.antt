@@ -1,6 +1,7 @@
-pub mod Chess
+pub mod Ending
 pub mod Answers
 pub mod Truth
-pub mod Desk
+pub mod GamePromise
+pub mod CheckedTrue
 pub mod FilledTrue
 pub mod laws

@@ -11,14 +11,14 @@ use Rattle.rules.specs.declared.Move.{Move}
 use Rattle.rules.specs.Rules.{Board, legal, moves}
 use Rattle.rules.specs.Chess.{chess, played}
 use Rattle.numbering.specs.Number.{numberOf}
-use Rattle.answers.specs.declared.Advice.{Advice}
+use Rattle.answers.specs.declared.BestMove.{BestMove}
 use Rattle.answers.specs.declared.Answer.{Answer}
-use Rattle.endings.specs.Chess.{Lone, tableSize, legalNumber}
+use Rattle.endings.specs.Ending.{Lone, tableSize, legalNumber}
 
 -- Every legal position's byte is its true value and depth, and every byte of an unused number or illegal position is 0.
-pub record TrueTable (man : ℕ) (t : List ℕ) : Type 0 where
-  pub legal-true : (b : Board) → T (legal b) → Lone man b → TrueByte chess b (getD t (numberOf b) 0)
-  pub others-zero : (n : ℕ) → n < tableSize → legalNumber man n ≡ false → getD t n 0 ≡ 0
+pub record TrueTable (kind : ℕ) (t : List ℕ) : Type 0 where
+  pub legal-true : (b : Board) → T (legal b) → Lone kind b → TrueByte chess b (getD t (numberOf b) 0)
+  pub others-zero : (n : ℕ) → n < tableSize → legalNumber kind n ≡ false → getD t n 0 ≡ 0
 
 -- "The move is the first in list order": m is in the list and is what is sought, and nothing before it is
 pub record First (Sought : Move → Type 0) (ms : List Move) (m : Move) : Type 0 where
@@ -31,8 +31,8 @@ pub record First (Sought : Move → Type 0) (ms : List Move) (m : Move) : Type 0
 -- The answer is the board's true value and depth, with the first move "that leads to a loss in n - 1 (from a win), a win in n - 1 (from a
 -- loss), or a draw", or none for mate and stalemate. No table is spoken of.
 pub data TrueAnswer (b : Board) (a : Answer) : Type 0 where
-  won : (n : ℕ) (m : Move) → WonIn chess n b → First (λ v. LostIn chess (n - 1) (played b v)) (moves b) m → a ≡ Answer.Win n (Advice.Play m) → TrueAnswer b a
-  lost : (n : ℕ) (m : Move) → LostIn chess n b → First (λ v. WonIn chess (n - 1) (played b v)) (moves b) m → a ≡ Answer.Loss n (Advice.Play m) → TrueAnswer b a
-  mate : LostIn chess 0 b → moves b ≡ [] → a ≡ Answer.Loss 0 Advice.NoMove → TrueAnswer b a
-  drawn : (m : Move) → Drawn chess b → First (λ v. Drawn chess (played b v)) (moves b) m → a ≡ Answer.Draw (Advice.Play m) → TrueAnswer b a
-  stalemate : Drawn chess b → moves b ≡ [] → a ≡ Answer.Draw Advice.NoMove → TrueAnswer b a
+  won : (n : ℕ) (m : Move) → WonIn chess n b → First (λ v. LostIn chess (n - 1) (played b v)) (moves b) m → a ≡ Answer.Win n (BestMove.Play m) → TrueAnswer b a
+  lost : (n : ℕ) (m : Move) → LostIn chess n b → First (λ v. WonIn chess (n - 1) (played b v)) (moves b) m → a ≡ Answer.Loss n (BestMove.Play m) → TrueAnswer b a
+  mate : LostIn chess 0 b → moves b ≡ [] → a ≡ Answer.Loss 0 BestMove.NoMove → TrueAnswer b a
+  drawn : (m : Move) → Drawn chess b → First (λ v. Drawn chess (played b v)) (moves b) m → a ≡ Answer.Draw (BestMove.Play m) → TrueAnswer b a
+  stalemate : Drawn chess b → moves b ≡ [] → a ≡ Answer.Draw BestMove.NoMove → TrueAnswer b a

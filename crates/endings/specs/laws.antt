@@ -1,6 +1,6 @@
-pub mod Ending
+pub mod EndingDrawn
 pub mod IndexLaws
-pub mod Endings
+pub mod EndingLaws
 pub mod Halves
 pub mod Checking
 pub mod LookingUp

@@ -5,12 +5,12 @@ use mathlib.Core.List.{List}
 use Prim.Native.Nat.{ℕ, zero, suc}
 use lib.Dec.{leb, eqb}
 use lib.ListN.{length}
-use Rattle.numbered.specs.declared.Progress.{Progress}
-use Rattle.numbered.specs.Steps as over
-use Rattle.numbered.specs.Steps.{goingOn, Said, settled, ends, started, stepAt, stepFrom}
+use Rattle.table_theory.specs.declared.Progress.{Progress}
+use Rattle.table_theory.specs.Steps as over
+use Rattle.table_theory.specs.Steps.{goingOn, Said, settled, ends, started, stepAt, stepFrom}
 use Rattle.rules.specs.Chess.{chess}
 use Rattle.answers.specs.declared.Filled.{Filled}
-use Rattle.endings.specs.Chess.{tableSize, ending}
+use Rattle.endings.specs.Ending.{tableSize, ending}
 use Rattle.endings.specs.Answers.{resultOf}
 use Rattle.filling.specs.declared.steps.Stepped.{Stepped}
 use Rattle.filling.specs.declared.steps.Step.{Step}
@@ -37,7 +37,7 @@ abbrev pub refused : ℕ → List ℕ → Progress → Taken
 refused k t p = record { step = record { said = Stepped.Says (Filled.Refused k); progress = p }; bytes = t }
 
 unfoldable pub admitted : ℕ → List ℕ → Progress → Taken → Taken
-admitted man t p s = cond (leb 4 man) (refused 1 t p) (cond (not (eqb (length t) tableSize)) (refused 7 t p) s)
+admitted kind t p s = cond (leb 4 kind) (refused 1 t p) (cond (not (eqb (length t) tableSize)) (refused 7 t p) s)
 
 -- three men: nothing is lent
 abbrev pub noneDeeper : ℕ → Bool
@@ -45,16 +45,21 @@ noneDeeper k = false
 
 -- the start hands back the progress at its beginning, refused or not
 unfoldable pub startOf : ℕ → List ℕ → Taken
-startOf man t = admitted man t (goingOn 0 0) (takenOf (started chess (ending man) t))
+startOf kind t = admitted kind t (goingOn 0 0) (takenOf (started chess (ending kind) t))
 
 -- the step for depth k, the one before having settled its depth
 unfoldable pub stepAlone : ℕ → ℕ → List ℕ → Taken
-stepAlone man k t = takenOf (stepAt chess (ending man) noneDeeper k k t)
+stepAlone kind k t = takenOf (stepAt chess (ending kind) noneDeeper k k t)
 
 unfoldable pub stepOf : ℕ → List ℕ → Progress → Taken
-stepOf man t p = admitted man t p (takenOf (stepFrom chess (ending man) noneDeeper p t))
+stepOf kind t p = admitted kind t p (takenOf (stepFrom chess (ending kind) noneDeeper p t))
 
 -- n steps, "each progress given to the next step, no other hand on the table"
 unfoldable pub stepsOf : ℕ → ℕ → Taken → Taken
-stepsOf man zero s = s
-stepsOf man (suc n) s = stepsOf man n (stepOf man (s .bytes) (s .step .progress))
+stepsOf kind zero s = s
+stepsOf kind (suc n) s = stepsOf kind n (stepOf kind (s .bytes) (s .step .progress))
+
+-- how many numbers a call settled
+abbrev pub settledOf : Stepped → ℕ
+settledOf (Stepped.Settled n) = n
+settledOf (Stepped.Says f) = 0

@@ -5,19 +5,19 @@ use super::pass::pass;
 use super::pass::some_settles;
 use answers::Filled;
 use index::TABLE_SIZE;
-use numbered::Progress;
 use pairs::PairList;
 use pairs::pair_list;
 use position::BAD_MAN;
 use position::TABLE_LENGTH;
 use position::TOO_DEEP;
+use table_theory::Progress;
 ghost use mathlib.Core.Path.{_≡_};
 ghost use Prim.Native.Nat.{_≤_, min};
 ghost use lib.ListN.{length};
-ghost use Rattle.numbered.specs.Numbered.{ended as endedOf};
+ghost use Rattle.table_theory.specs.Tables.{ended as endedOf};
 ghost use Rattle.pairs.specs.Tables.{pairs};
 ghost use Rattle.endings.specs.Answers.{resultOf};
-ghost use Rattle.endings.specs.Chess.{tableSize};
+ghost use Rattle.endings.specs.Ending.{tableSize};
 ghost use Rattle.filling.specs.Steps.{Hands, stepAlone, startOf, stepOf};
 
 // The first depth that no byte holds.
@@ -71,12 +71,12 @@ fn progress_at(stage: u8, k: u8) -> Progress
 }
 
 // The step for depth k, on any bytes.
-pub fn step_at(list: &PairList, man: u8, k: u8, table: &mut [u8]) -> Step
+pub fn step_at(list: &PairList, kind: u8, k: u8, table: &mut [u8]) -> Step
     requires { ⌜ (k ≤ 254) × (length (now table) ≡ tableSize) × (now list ≡ pairs) ⌝ }
-    ensures { λ r. ⌜ Hands (stepAlone man k (now (table .entry))) r (now (table .exit)) ⌝ }
+    ensures { λ r. ⌜ Hands (stepAlone kind k (now (table .entry))) r (now (table .exit)) ⌝ }
 {
     if k < DEPTHS {
-        let settled = pass(list, man, k, &mut *table);
+        let settled = pass(list, kind, k, &mut *table);
         if settled == 0 {
             let last = ended(k);
             let over = progress_at(DONE, k);
@@ -91,7 +91,7 @@ pub fn step_at(list: &PairList, man: u8, k: u8, table: &mut [u8]) -> Step
             progress: on,
         };
     }
-    if some_settles(list, &*table, man, DEPTHS) {
+    if some_settles(list, &*table, kind, DEPTHS) {
         clear(&mut *table);
         let over = progress_at(GAVE_TEN, DEPTHS);
         return Step {
@@ -108,11 +108,11 @@ pub fn step_at(list: &PairList, man: u8, k: u8, table: &mut [u8]) -> Step
 }
 
 // Sets every legal number to 1 and the rest to 0. Refusals 1 and 7 leave the table as it was.
-pub fn start_filling(man: u8, table: &mut [u8]) -> Step
-    ensures { λ r. ⌜ Hands (startOf man (now (table .entry))) r (now (table .exit)) ⌝ }
+pub fn start_filling(kind: u8, table: &mut [u8]) -> Step
+    ensures { λ r. ⌜ Hands (startOf kind (now (table .entry))) r (now (table .exit)) ⌝ }
 {
     let first = progress_at(GOING, 0);
-    if 4 <= man {
+    if 4 <= kind {
         return Step {
             said: Stepped::Says(Filled::Refused(BAD_MAN)),
             progress: first,
@@ -124,7 +124,7 @@ pub fn start_filling(man: u8, table: &mut [u8]) -> Step
             progress: first,
         };
     }
-    start(man, &mut *table);
+    start(kind, &mut *table);
     Step {
         said: Stepped::Settled(0),
         progress: first,
@@ -133,10 +133,10 @@ pub fn start_filling(man: u8, table: &mut [u8]) -> Step
 
 // One step, on any bytes and any progress. Refusals 1 and 7 leave the table and the progress as they were; once a step has said done, or has
 // given 10 and cleared the table, later ones repeat it and write nothing.
-pub fn take_step(man: u8, table: &mut [u8], progress: Progress) -> Step
-    ensures { λ r. ⌜ Hands (stepOf man (now (table .entry)) progress) r (now (table .exit)) ⌝ }
+pub fn take_step(kind: u8, table: &mut [u8], progress: Progress) -> Step
+    ensures { λ r. ⌜ Hands (stepOf kind (now (table .entry)) progress) r (now (table .exit)) ⌝ }
 {
-    if 4 <= man {
+    if 4 <= kind {
         return Step {
             said: Stepped::Says(Filled::Refused(BAD_MAN)),
             progress,
@@ -152,7 +152,7 @@ pub fn take_step(man: u8, table: &mut [u8], progress: Progress) -> Step
     if stage == GOING {
         let list = pair_list();
         let k = next_depth(progress.next);
-        return step_at(&list, man, k, &mut *table);
+        return step_at(&list, kind, k, &mut *table);
     }
     if stage == DONE {
         let last = ended(progress.last);

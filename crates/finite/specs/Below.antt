@@ -32,7 +32,8 @@ below2 f a b t i j hi hj = below (f i) b (below (λ k. allBelow (f k) b) a t i h
 unfoldable pub allBelow3 : (ℕ → ℕ → ℕ → Bool) → ℕ → ℕ → ℕ → Bool
 allBelow3 f a b c = allBelow (λ i. allBelow2 (f i) b c) a
 
-pub below3 : (f : ℕ → ℕ → ℕ → Bool) (a b c : ℕ) → T (allBelow3 f a b c) → (i j k : ℕ) → i < a → j < b → k < c → T (f i j k)
+pub below3 : (f : ℕ → ℕ → ℕ → Bool) (a b c : ℕ) → T (allBelow3 f a b c) → (i j k : ℕ) → i < a → j < b → k < c
+    → T (f i j k)
 unfolding allBelow3
 below3 f a b c t i j k hi hj hk = below2 (f i) b c (below (λ l. allBelow2 (f l) b c) a t i hi) j k hj hk
 
@@ -42,6 +43,7 @@ unfolding allBelow
 fails-below f zero t = absurd t
 fails-below f (suc n) t = go (f n) refl (λ (s : T (not (allBelow f n))). fails-below f n s) t
   where
-    go : (b : Bool) → f n ≡ b → (T (not (allBelow f n)) → (k : ℕ) × (k < n) × T (not (f k))) → T (not (b && allBelow f n)) → (k : ℕ) × (k < suc n) × T (not (f k))
+    go : (b : Bool) → f n ≡ b → (T (not (allBelow f n)) → (k : ℕ) × (k < n) × T (not (f k)))
+        → T (not (b && allBelow f n)) → (k : ℕ) × (k < suc n) × T (not (f k))
     go true e rest s = let r = rest s in (r .0, omega (arith, r .1), r .2)
     go false e rest s = (n, omega arith, subst (λ (b : Bool). T (not b)) (sym e) tt)

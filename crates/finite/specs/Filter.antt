@@ -42,7 +42,8 @@ module _ {A : Type 0} (p : A → Bool) where
       both e rest (inl q) = (List·Memᴰ·head q, subst (λ (z : A). T (p z)) (sym q) (of-true e))
       both e rest (inr n) = let r = rest n in (List·Memᴰ·tail (r .0), r .1)
 
-      go : (b : Bool) → p y ≡ b → (x ∈ filter p l → (x ∈ l) × T (p x)) → x ∈ keep b y (filter p l) → (x ∈ y ∷ l) × T (p x)
+      go : (b : Bool) → p y ≡ b → (x ∈ filter p l → (x ∈ l) × T (p x)) → x ∈ keep b y (filter p l)
+          → (x ∈ y ∷ l) × T (p x)
       go true e rest n = both e rest (List·Memᴰ·cases-cons n)
       go false e rest n = let r = rest n in (List·Memᴰ·tail (r .0), r .1)
 
@@ -64,7 +65,8 @@ module _ {A : Type 0} (p : A → Bool) where
     filter-fewer [] h = omega arith
     filter-fewer (x ∷ l) h = go (p x) (q x) (h x (List·Memᴰ·head refl)) (filter-fewer l (λ y m. h y (List·Memᴰ·tail m)))
       where
-        go : (a b : Bool) → (T a → T b) → length (filter p l) ≤ length (filter q l) → length (keep a x (filter p l)) ≤ length (keep b x (filter q l))
+        go : (a b : Bool) → (T a → T b) → length (filter p l) ≤ length (filter q l)
+            → length (keep a x (filter p l)) ≤ length (keep b x (filter q l))
         go true true f k = omega arith
         go true false f k = absurd (f tt)
         go false true f k = omega arith

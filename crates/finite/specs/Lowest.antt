@@ -2,12 +2,12 @@
 use mathlib.Core.Path.{_≡_, refl, ap, subst, sym, _∙_}
 use mathlib.Core.Bool.{Bool, true, false, cond}
 use mathlib.Core.Logic.{_⊎_, inl, inr, ⊎-elim}
-use Prim.Native.Nat.{ℕ, zero, suc, _+_, _<_, _≤_}
+use Prim.Native.Nat.{ℕ, zero, suc, _<_, _≤_}
 use native.Mathlib.Nat.{le-of-suc-le-suc, not-suc-le-zero, eq-or-lt-of-le}
 use native.Mathlib.Omega.{arith}
 use lib.Dec.{T, ltb, lt→ltb, ltb→lt}
 use borrow.Author.Tests.{ltb-true, ltb-false}
-use Rattle.finite.specs.Truth.{cond-true, cond-false, by-test}
+use Rattle.finite.specs.Truth.{cond-true, cond-false}
 
 unfoldable pub lowest : (ℕ → Bool) → ℕ → ℕ
 lowest f zero = 0
@@ -19,7 +19,8 @@ unfolding lowest
 lowest-none f zero h = refl
 lowest-none f (suc n) h =
     let e : lowest f n ≡ n = lowest-none f n (λ k l. h k (omega arith)) in
-    cond-false (ltb (lowest f n) n) (lowest f n) (cond (f n) n (suc n)) (λ t. let l = ltb→lt (lowest f n) n t in absurd (omega arith))
+    cond-false (ltb (lowest f n) n) (lowest f n) (cond (f n) n (suc n))
+    (λ t. let l = ltb→lt (lowest f n) n t in absurd (omega arith))
     ∙ cond-false (f n) n (suc n) (h n (omega arith))
 
 -- where k passes and none below it does, it is k
@@ -30,7 +31,8 @@ lowest-is f (suc n) k l h t =
     ⊎-elim
     (λ e. let g : (j : ℕ) → j < n → T (f j) → ⊥ = λ j m. h j (omega arith) in
     let z : lowest f n ≡ n = lowest-none f n g in
-    cond-false (ltb (lowest f n) n) (lowest f n) (cond (f n) n (suc n)) (λ s. let l = ltb→lt (lowest f n) n s in absurd (omega arith))
+    cond-false (ltb (lowest f n) n) (lowest f n) (cond (f n) n (suc n))
+    (λ s. let l = ltb→lt (lowest f n) n s in absurd (omega arith))
     ∙ cond-true (f n) n (suc n) (subst (λ (m : ℕ). T (f m)) e t)
     ∙ sym e)
     (λ m. let z : lowest f n ≡ k = lowest-is f n k m h t in
@@ -41,9 +43,11 @@ lowest-is f (suc n) k l h t =
 pub lowest-le : (f : ℕ → Bool) (n k : ℕ) → k < n → T (f k) → lowest f n ≤ k
 unfolding lowest
 lowest-le f zero k h t = absurd (not-suc-le-zero h)
-lowest-le f (suc n) k h t = go (ltb (lowest f n) n) refl (f n) refl (eq-or-lt-of-le (le-of-suc-le-suc h)) (λ l. lowest-le f n k l t)
+lowest-le f (suc n) k h t =
+    go (ltb (lowest f n) n) refl (f n) refl (eq-or-lt-of-le (le-of-suc-le-suc h)) (λ l. lowest-le f n k l t)
   where
-    go : (a : Bool) → ltb (lowest f n) n ≡ a → (b : Bool) → f n ≡ b → (k ≡ n) ⊎ (k < n) → (k < n → lowest f n ≤ k) → cond a (lowest f n) (cond b n (suc n)) ≤ k
+    go : (a : Bool) → ltb (lowest f n) n ≡ a → (b : Bool) → f n ≡ b → (k ≡ n) ⊎ (k < n) → (k < n → lowest f n ≤ k)
+        → cond a (lowest f n) (cond b n (suc n)) ≤ k
     go true p b q (inl e) below = omega (arith, ltb-true (lowest f n) n p)
     go true p b q (inr l) below = below l
     go false p true q (inl e) below = omega arith
@@ -56,7 +60,8 @@ unfolding lowest
 lowest-passes f zero h = absurd (not-suc-le-zero h)
 lowest-passes f (suc n) h = go (ltb (lowest f n) n) refl (f n) refl (λ l. lowest-passes f n l) h
   where
-    go : (a : Bool) → ltb (lowest f n) n ≡ a → (b : Bool) → f n ≡ b → (lowest f n < n → T (f (lowest f n))) → cond a (lowest f n) (cond b n (suc n)) < suc n → T (f (cond a (lowest f n) (cond b n (suc n))))
+    go : (a : Bool) → ltb (lowest f n) n ≡ a → (b : Bool) → f n ≡ b → (lowest f n < n → T (f (lowest f n)))
+        → cond a (lowest f n) (cond b n (suc n)) < suc n → T (f (cond a (lowest f n) (cond b n (suc n))))
     go true p b q below h = below (ltb-true (lowest f n) n p)
     go false p true q below h = subst T (sym q) tt
     go false p false q below h = absurd (omega arith)

@@ -67,7 +67,8 @@ module _ {A : Type 0} where
   all-fails f [] t = absurd t
   all-fails f (x ∷ l) t = go (f x) refl (λ (s : T (not (all f l))). all-fails f l s) t
     where
-      go : (b : Bool) → f x ≡ b → (T (not (all f l)) → (y : A) × (y ∈ l) × T (not (f y))) → T (not (b && all f l)) → (y : A) × (y ∈ x ∷ l) × T (not (f y))
+      go : (b : Bool) → f x ≡ b → (T (not (all f l)) → (y : A) × (y ∈ l) × T (not (f y))) → T (not (b && all f l))
+          → (y : A) × (y ∈ x ∷ l) × T (not (f y))
       go true e rest s = let r = rest s in (r .0, List·Memᴰ·tail (r .1), r .2)
       go false e rest s = (x, List·Memᴰ·head refl, subst (λ (b : Bool). T (not b)) (sym e) tt)
 
@@ -94,21 +95,31 @@ module _ {A : Type 0} where
   first-out f [] x e = let z : true ≡ false = cc in absurd (true-not-false {b = true} refl z)
   first-out f (y ∷ l) x e = go (f y) refl (λ (d : first f l ≡ some x). first-out f l x d) e
     where
-      go : (b : Bool) → f y ≡ b → (first f l ≡ some x → (x ∈ l) × T (f x)) → cond b (some y) (first f l) ≡ some x → (x ∈ y ∷ l) × T (f x)
+      go : (b : Bool) → f y ≡ b → (first f l ≡ some x → (x ∈ l) × T (f x)) → cond b (some y) (first f l) ≡ some x
+          → (x ∈ y ∷ l) × T (f x)
       go true d rest e′ = let s : x ≡ y = cc in (List·Memᴰ·head s, subst (λ (z : A). T (f z)) (sym s) (of-true d))
       go false d rest e′ = let r = rest e′ in (List·Memᴰ·tail (r .0), r .1)
 
   -- and none before it passes
-  pub first-split : (f : A → Bool) (l : List A) (x : A) → first f l ≡ some x → (before : List A) × (rest : List A) × (l ≡ before ++ (x ∷ rest)) × T (f x) × ((y : A) → y ∈ before → f y ≡ false)
+  pub first-split : (f : A → Bool) (l : List A) (x : A) → first f l ≡ some x
+      → (before : List A) × (rest : List A) × (l ≡ before ++ (x ∷ rest)) × T (f x)
+      × ((y : A) → y ∈ before → f y ≡ false)
   unfolding first
   first-split f [] x e = let z : true ≡ false = cc in absurd (true-not-false {b = true} refl z)
   first-split f (y ∷ l) x e = go (f y) refl (λ (d : first f l ≡ some x). first-split f l x d) e
     where
-      go : (b : Bool) → f y ≡ b → (first f l ≡ some x → (before : List A) × (rest : List A) × (l ≡ before ++ (x ∷ rest)) × T (f x) × ((z : A) → z ∈ before → f z ≡ false)) → cond b (some y) (first f l) ≡ some x → (before : List A) × (rest : List A) × (y ∷ l ≡ before ++ (x ∷ rest)) × T (f x) × ((z : A) → z ∈ before → f z ≡ false)
-      go true d more q = let s : y ≡ x = cc in ([], l, ap (λ (z : A). z ∷ l) s, subst (λ (z : A). T (f z)) s (of-true d), λ z i. elim i [ ])
+      go : (b : Bool) → f y ≡ b
+          → (first f l ≡ some x
+          → (before : List A) × (rest : List A) × (l ≡ before ++ (x ∷ rest)) × T (f x)
+          × ((z : A) → z ∈ before → f z ≡ false)) → cond b (some y) (first f l) ≡ some x
+          → (before : List A) × (rest : List A) × (y ∷ l ≡ before ++ (x ∷ rest)) × T (f x)
+          × ((z : A) → z ∈ before → f z ≡ false)
+      go true d more q = let s : y ≡ x = cc in
+          ([], l, ap (λ (z : A). z ∷ l) s, subst (λ (z : A). T (f z)) s (of-true d), λ z i. elim i [ ])
       go false d more q = let r = more q in (y ∷ r .0, r .1, ap (λ (m : List A). y ∷ m) (r .2), r .3, each d (r .4))
         where
-          each : {before : List A} → f y ≡ false → ((z : A) → z ∈ before → f z ≡ false) → (z : A) → z ∈ y ∷ before → f z ≡ false
+          each : {before : List A} → f y ≡ false → ((z : A) → z ∈ before → f z ≡ false) → (z : A) → z ∈ y ∷ before
+              → f z ≡ false
           each n h z (List·Memᴰ·head i) = ap f i ∙ n
           each n h z (List·Memᴰ·tail i) = h z i
 

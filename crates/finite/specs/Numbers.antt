@@ -18,13 +18,16 @@ pub numbers-in : (n k x : ℕ) → k ≤ x → x < k + n → x ∈ numbers n k
 unfolding numbers
 numbers-in zero k x l h = absurd (omega arith)
 numbers-in (suc n) k x l h =
-    ⊎-elim (λ (e : k ≡ x). List·Memᴰ·head (sym e)) (λ (q : k < x). List·Memᴰ·tail (numbers-in n (suc k) x q (omega arith))) (eq-or-lt-of-le l)
+    ⊎-elim (λ (e : k ≡ x). List·Memᴰ·head (sym e))
+    (λ (q : k < x). List·Memᴰ·tail (numbers-in n (suc k) x q (omega arith))) (eq-or-lt-of-le l)
 
 pub numbers-out : (n k x : ℕ) → x ∈ numbers n k → (k ≤ x) × (x < k + n)
 unfolding numbers
 numbers-out zero k x m = absurd (List·Memᴰ·not-nil m)
 numbers-out (suc n) k x m =
-    ⊎-elim (λ (e : x ≡ k). (omega arith, omega arith)) (λ (i : x ∈ numbers n (suc k)). let r = numbers-out n (suc k) x i in let a = r .0 in let b = r .1 in (omega arith, omega arith))
+    ⊎-elim (λ (e : x ≡ k). (omega arith, omega arith))
+    (λ (i : x ∈ numbers n (suc k)). let r = numbers-out n (suc k) x i in let a = r .0 in let b = r .1 in
+    (omega arith, omega arith))
     (List·Memᴰ·cases-cons m)
 
 -- one of the numbers from k up to e passes: by what the first of them is

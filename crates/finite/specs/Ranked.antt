@@ -1,13 +1,13 @@
 -- The numbers that pass a test, numbered from 0 in rising order: `rank ok k` of them lie below k. Laws of that numbering for any test, and
 -- a table of it checked in a single pass.
 use mathlib.Core.Path.{_≡_, refl, ap, ap₂, subst, sym, _∙_}
-use mathlib.Core.Bool.{Bool, true, false, not, cond, _&&_}
+use mathlib.Core.Bool.{Bool, true, false, cond, _&&_}
 use mathlib.Core.Logic.{⊎-elim, _⊎_}
 use Prim.Native.Nat.{ℕ, zero, suc, _+_, _*_, _<_, _≤_}
 use native.Mathlib.Nat.{le-of-suc-le-suc, not-suc-le-zero, eq-or-lt-of-le, add-zero, add-suc}
 use native.Mathlib.Omega.{arith}
 use native.Mathlib.Numerals.{add-one}
-use lib.Dec.{T, eqb, eqb→eq, eqb-refl, ltb, ltb→lt, lt→ltb, nltb→le, not-T}
+use lib.Dec.{T, eqb, eqb→eq, eqb-refl, ltb, ltb→lt, nltb→le, not-T}
 use Rattle.finite.specs.Truth.{and-left, and-right, and-both, by-test, cond-true, cond-false, true-of, fails}
 
 -- how many of the numbers below k pass
@@ -57,9 +57,13 @@ select-rank ok zero k t h = absurd (not-suc-le-zero h)
 select-rank ok (suc n) k t h =
     by-test (ok n && eqb (rank ok n) (rank ok k))
     (λ p. cond-true (ok n && eqb (rank ok n) (rank ok k)) n (select ok n (rank ok k)) p
-    ∙ rank-one ok n k (and-left (ok n) (eqb (rank ok n) (rank ok k)) p) t (eqb→eq (rank ok n) (rank ok k) (and-right (ok n) (eqb (rank ok n) (rank ok k)) p)))
+    ∙ rank-one ok n k (and-left (ok n) (eqb (rank ok n) (rank ok k)) p) t
+    (eqb→eq (rank ok n) (rank ok k) (and-right (ok n) (eqb (rank ok n) (rank ok k)) p)))
     (λ f. cond-false (ok n && eqb (rank ok n) (rank ok k)) n (select ok n (rank ok k)) f
-    ∙ select-rank ok n k t (⊎-elim (λ e. absurd (f (subst (λ (m : ℕ). T (ok m && eqb (rank ok m) (rank ok k))) e (and-both (ok k) (eqb (rank ok k) (rank ok k)) t (eqb-refl (rank ok k))))))
+    ∙ select-rank ok n k t
+    (⊎-elim (λ e. absurd
+    (f (subst (λ (m : ℕ). T (ok m && eqb (rank ok m) (rank ok k))) e
+    (and-both (ok k) (eqb (rank ok k) (rank ok k)) t (eqb-refl (rank ok k))))))
     (λ l. l) (eq-or-lt-of-le (le-of-suc-le-suc h))))
 
 -- below the count of those that pass, the selected number passes and has that rank
@@ -70,7 +74,9 @@ pub record Selected (ok : ℕ → Bool) (n q k : ℕ) : Type 0 where
 
 -- the rank just past n where n is not the number selected
 left : (b : Bool) (r q : ℕ) → q < cond b (suc r) r → (T (b && eqb r q) → ⊥) → q < r
-left true r q h f = ⊎-elim (λ e. absurd (f (subst (λ (m : ℕ). T (eqb r m)) (sym e) (eqb-refl r)))) (λ l. l) (eq-or-lt-of-le (le-of-suc-le-suc h))
+left true r q h f =
+    ⊎-elim (λ e. absurd (f (subst (λ (m : ℕ). T (eqb r m)) (sym e) (eqb-refl r)))) (λ l. l)
+    (eq-or-lt-of-le (le-of-suc-le-suc h))
 left false r q h f = h
 
 pub selected : (ok : ℕ → Bool) (n q : ℕ) → q < rank ok n → Selected ok n q (select ok n q)
@@ -95,7 +101,8 @@ select-none ok zero q h = refl
 select-none ok (suc n) q h =
     let g = step (ok n) (rank ok n) in
     cond-false (ok n && eqb (rank ok n) q) n (select ok n q)
-    (λ p. let e = eqb→eq (rank ok n) q (and-right (ok n) (eqb (rank ok n) q) p) in let t = taken (ok n) (rank ok n) (and-left (ok n) (eqb (rank ok n) q) p) in omega arith)
+    (λ p. let e = eqb→eq (rank ok n) q (and-right (ok n) (eqb (rank ok n) q) p) in
+    let t = taken (ok n) (rank ok n) (and-left (ok n) (eqb (rank ok n) q) p) in omega arith)
     ∙ select-none ok n q (omega arith)
 
 -- one pass over the numbers below n, with the rank so far carried along: f passes at each number and its rank
@@ -103,12 +110,15 @@ unfoldable pub pass : (ℕ → Bool) → (ℕ → ℕ → Bool) → ℕ → ℕ 
 pass ok f zero k c = true
 pass ok f (suc n) k c = f k c && pass ok f n (suc k) (cond (ok k) (suc c) c)
 
-pass-from : (ok : ℕ → Bool) (f : ℕ → ℕ → Bool) (n i : ℕ) → T (pass ok f n i (rank ok i)) → (k : ℕ) → i ≤ k → k < i + n → T (f k (rank ok k))
+pass-from : (ok : ℕ → Bool) (f : ℕ → ℕ → Bool) (n i : ℕ) → T (pass ok f n i (rank ok i)) → (k : ℕ) → i ≤ k → k < i + n
+    → T (f k (rank ok k))
 unfolding pass rank
 pass-from ok f zero i t k l h = absurd (omega arith)
 pass-from ok f (suc n) i t k l h =
-    ⊎-elim (λ e. subst (λ (m : ℕ). T (f m (rank ok m))) e (and-left (f i (rank ok i)) (pass ok f n (suc i) (rank ok (suc i))) t))
-    (λ m. pass-from ok f n (suc i) (and-right (f i (rank ok i)) (pass ok f n (suc i) (rank ok (suc i))) t) k m (omega arith))
+    ⊎-elim (λ e. subst (λ (m : ℕ). T (f m (rank ok m))) e
+    (and-left (f i (rank ok i)) (pass ok f n (suc i) (rank ok (suc i))) t))
+    (λ m. pass-from ok f n (suc i) (and-right (f i (rank ok i)) (pass ok f n (suc i) (rank ok (suc i))) t) k m
+    (omega arith))
     (eq-or-lt-of-le l)
 
 pub passed : (ok : ℕ → Bool) (f : ℕ → ℕ → Bool) (n : ℕ) → T (pass ok f n 0 0) → (k : ℕ) → k < n → T (f k (rank ok k))
@@ -119,7 +129,8 @@ passed ok f n t k h = pass-from ok f n 0 t k (omega arith) (omega arith)
 pub rank-same : (f g : ℕ → Bool) (n : ℕ) → ((k : ℕ) → k < n → f k ≡ g k) → rank f n ≡ rank g n
 unfolding rank
 rank-same f g zero e = refl
-rank-same f g (suc n) e = ap₂ (λ (b : Bool) (r : ℕ). cond b (suc r) r) (e n (omega arith)) (rank-same f g n (λ k h. e k (omega arith)))
+rank-same f g (suc n) e =
+    ap₂ (λ (b : Bool) (r : ℕ). cond b (suc r) r) (e n (omega arith)) (rank-same f g n (λ k h. e k (omega arith)))
 
 -- a sum over the numbers below n, and over those that pass
 unfoldable pub sum : (ℕ → ℕ) → ℕ → ℕ
@@ -141,7 +152,8 @@ unfolding sum sumOf rank
 sum-ranks ok F m zero h = refl
 sum-ranks ok F m (suc n) h =
     by-test (ok n)
-    (λ t. rw (true-of {b = ok n} t) (rw (select-rank ok m n t h) (ap (λ (s : ℕ). F n + s) (sum-ranks ok F m n (omega arith)))))
+    (λ t. rw (true-of {b = ok n} t)
+    (rw (select-rank ok m n t h) (ap (λ (s : ℕ). F n + s) (sum-ranks ok F m n (omega arith)))))
     (λ f. rw (fails (ok n) f) (sum-ranks ok F m n (omega arith)))
 
 -- a count in two parts, and in blocks of 64
@@ -152,7 +164,8 @@ joined false x y z e = e
 pub rank-add : (f : ℕ → Bool) (a b : ℕ) → rank f (b + a) ≡ rank (λ k. f (b + k)) a + rank f b
 unfolding rank
 rank-add f zero b = rw (add-zero b) (omega arith)
-rank-add f (suc a) b = rw (add-suc b a) (joined (f (b + a)) (rank f (b + a)) (rank (λ k. f (b + k)) a) (rank f b) (rank-add f a b))
+rank-add f (suc a) b =
+    rw (add-suc b a) (joined (f (b + a)) (rank f (b + a)) (rank (λ k. f (b + k)) a) (rank f b) (rank-add f a b))
 
 pub rank-blocks : (f : ℕ → Bool) (m : ℕ) → rank f (m * 64) ≡ sum (λ q. rank (λ a. f (q * 64 + a)) 64) m
 unfolding rank sum
@@ -174,4 +187,5 @@ rank-most f (suc n) = omega (arith, rank-most f n, most (f n) (rank f n))
 
 pub rank-next : (f : ℕ → Bool) (n : ℕ) (b : Bool) → f n ≡ b → rank f (n + 1) ≡ cond b (rank f n + 1) (rank f n)
 unfolding rank
-rank-next f n b e = ap (rank f) (add-one n) ∙ ap (λ (x : Bool). cond x (suc (rank f n)) (rank f n)) e ∙ ap (λ (m : ℕ). cond b m (rank f n)) (sym (add-one (rank f n)))
+rank-next f n b e = ap (rank f) (add-one n) ∙ ap (λ (x : Bool). cond x (suc (rank f n)) (rank f n)) e
+    ∙ ap (λ (m : ℕ). cond b m (rank f n)) (sym (add-one (rank f n)))

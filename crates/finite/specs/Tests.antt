@@ -30,7 +30,8 @@ module _ {A : Type 0} (f : A → Bool) where
   any-append (x ∷ k) l = rw (any-append k l) (sym (or-assoc (f x) (any f k) (any f l)))
 
   -- of those that pass p, only those that pass q need be tried, where no other passes f
-  pub any-kept : (p q : A → Bool) (l : List A) → ((x : A) → x ∈ l → T (p x) → T (f x) → T (q x)) → any f (filter (λ x. p x && q x) l) ≡ any f (filter p l)
+  pub any-kept : (p q : A → Bool) (l : List A) → ((x : A) → x ∈ l → T (p x) → T (f x) → T (q x))
+      → any f (filter (λ x. p x && q x) l) ≡ any f (filter p l)
   unfolding any filter
   any-kept p q [] h = refl
   any-kept p q (x ∷ l) h = go (p x) (q x) (h x (List·Memᴰ·head refl)) (any-kept p q l (λ y m. h y (List·Memᴰ·tail m)))

@@ -5,14 +5,14 @@ use lib.Dec.{leb, eqb}
 use Rattle.numbering.specs.Kings.{above, onDiagonal, kingsOf}
 use Rattle.numbering.specs.Number.{numberOf}
 use Rattle.position.specs.declared.Position.{Position}
-use Rattle.position.specs.Keyed.{boardOf, lone, squareOf}
-use Rattle.position.specs.Refusals.{placing}
-use Rattle.index.specs.declared.Numbered.{Numbered}
+use Rattle.position.specs.Keyed.{boardOf, lone, manSquare}
+use Rattle.position.specs.Refusals.{placingRefusal}
+use Rattle.index.specs.declared.NumberAnswer.{NumberAnswer}
 use Rattle.index.specs.declared.Placed.{Placed}
 
 -- "Numbering asks 1 to 5"
-unfoldable pub numbered : Position → Numbered
-numbered p = cond (eqb (placing p) 0) (Numbered.Number (numberOf (boardOf p))) (Numbered.Refused (placing p))
+unfoldable pub numberAnswer : Position → NumberAnswer
+numberAnswer p = cond (eqb (placingRefusal p) 0) (NumberAnswer.Number (numberOf (boardOf p))) (NumberAnswer.Refused (placingRefusal p))
 
 -- what stands at a number, used or not: number = (side x 462 + pair) x 64 + man's square
 unfoldable pub positionAt : ℕ → ℕ → Position
@@ -20,7 +20,7 @@ positionAt kind n = let kings = kingsOf (n / 64 % 462) in lone kind (n / 64 / 46
 
 -- "A number is unused if the man shares a king's square, or if both kings are on the diagonal and the man above it."
 unfoldable pub unused : Position → Bool
-unused p = eqb (p .«white_king») (squareOf p) || (eqb (squareOf p) (p .«black_king») || (onDiagonal (p .«white_king») && (onDiagonal (p .«black_king») && above (squareOf p))))
+unused p = eqb (p .«white_king») (manSquare p) || (eqb (manSquare p) (p .«black_king») || (onDiagonal (p .«white_king») && (onDiagonal (p .«black_king») && above (manSquare p))))
 
 -- "numbering back [asks] 1, 8, 9"
 unfoldable pub placedAt : ℕ → ℕ → Placed

@@ -16,7 +16,7 @@ ghost use mathlib.Core.List.{_++_};
 ghost use Prim.Native.Nat.{ℕ, _+_, _*_, _^_, _≤_, _<_};
 ghost use Rattle.numbering.specs.Number.{keyFrom, numberOf};
 ghost use Rattle.position.specs.Keyed.{slotMen, boardOf, lone as loneOf};
-ghost use Rattle.index.specs.Answers.{numbered, unused, placedAt};
+ghost use Rattle.index.specs.Answers.{numberAnswer, unused, placedAt};
 
 // How many numbers one side to move has, and how many there are: a table's bytes.
 pub const HALF: usize = PAIR_COUNT as usize * 64;
@@ -34,7 +34,7 @@ pub struct Frame {
 }
 
 // A number, or the refusal.
-pub enum Numbered {
+pub enum NumberAnswer {
     Number(u32),
     Refused(u8),
 }
@@ -77,17 +77,17 @@ pub fn number_of(p: Position) -> u32
     key_of(n, pairs::pair_of(n.white_king, n.black_king))
 }
 
-pub fn number(p: Position) -> Numbered
-    ensures { λ r. ⌜ r ≡ numbered p ⌝ }
+pub fn number(p: Position) -> NumberAnswer
+    ensures { λ r. ⌜ r ≡ numberAnswer p ⌝ }
 {
     let refusal = position::placing_refusal(p);
     if refusal != 0 {
-        return Numbered::Refused(refusal);
+        return NumberAnswer::Refused(refusal);
     }
-    Numbered::Number(number_of(p))
+    NumberAnswer::Number(number_of(p))
 }
 
-// Whether the number of what stands so is unused.
+// Whether this placing's number is unused.
 fn is_unused(white: u8, square: u8, black: u8) -> bool
     ensures { λ r. ⌜ ((kind side : ℕ) → r ≡ unused (loneOf kind side white square black)) ⌝ }
 {

@@ -42,16 +42,16 @@ numberShape = bytes ". # 0000000"
 -- ---- parts
 
 -- "Men are Q R B N", of the material codes 0 to 3; 4 for another byte
-unfoldable pub manOf : ℕ → ℕ
-manOf b = cond (eqb b (code "Q")) 0 (cond (eqb b (code "R")) 1 (cond (eqb b (code "B")) 2 (cond (eqb b (code "N")) 3 4)))
+unfoldable pub kindNamed : ℕ → ℕ
+kindNamed b = cond (eqb b (code "Q")) 0 (cond (eqb b (code "R")) 1 (cond (eqb b (code "B")) 2 (cond (eqb b (code "N")) 3 4)))
 
 -- "sides w b", White 0 and Black 1; 2 for another byte
 unfoldable pub sideOf : ℕ → ℕ
 sideOf b = cond (eqb b (code "w")) 0 (cond (eqb b (code "b")) 1 2)
 
 -- "files a to h, ranks 1 to 8", the square 8 x rank + file; 64 where either is another byte
-unfoldable pub squareOf : ℕ → ℕ → ℕ
-squareOf file rank = cond (between (code "a") (code "h") file && between (code "1") (code "8") rank) (8 * (rank - code "1") + (file - code "a")) 64
+unfoldable pub squareNamed : ℕ → ℕ → ℕ
+squareNamed file rank = cond (between (code "a") (code "h") file && between (code "1") (code "8") rank) (8 * (rank - code "1") + (file - code "a")) 64
 
 -- the value of a digit; 0 for another byte
 unfoldable pub digitOf : ℕ → ℕ
@@ -62,7 +62,7 @@ digitOf b = cond (between (code "0") (code "9") b) (b - code "0") 0
 -- the parts of a position line, each out of range where its byte is wrong: "any other wrong byte in a man's, side's or square's place is 1, 2 or 3"
 unfoldable pub keyedOf : List ℕ → Position
 keyedOf line =
-    lone (manOf (getD line 0 0)) (sideOf (getD line 2 0)) (squareOf (getD line 4 0) (getD line 5 0)) (squareOf (getD line 7 0) (getD line 8 0)) (squareOf (getD line 10 0) (getD line 11 0))
+    lone (kindNamed (getD line 0 0)) (sideOf (getD line 2 0)) (squareNamed (getD line 4 0) (getD line 5 0)) (squareNamed (getD line 7 0) (getD line 8 0)) (squareNamed (getD line 10 0) (getD line 11 0))
 
 -- the number that five digits name
 unfoldable pub fiveDigits : List ℕ → ℕ
@@ -81,7 +81,7 @@ sevenDigits line = fiveDigits line * 100 + typedCheck line
 unfoldable pub numberRequest : List ℕ → Request
 numberRequest line =
     cond (not (rightNumber (sevenDigits line))) (Request.Refused 13)
-    (cond (leb 4 (manOf (getD line 0 0))) (Request.Refused 1) (Request.Back (manOf (getD line 0 0)) (fiveDigits line)))
+    (cond (leb 4 (kindNamed (getD line 0 0))) (Request.Refused 1) (Request.Back (kindNamed (getD line 0 0)) (fiveDigits line)))
 
 -- "Another length, .. a space out of place or missing, or a non-digit in a digit's place is refusal 12"; "a line's shape comes first". "The old
 -- nine-byte line becomes refusal 12", as another length

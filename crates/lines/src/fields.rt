@@ -1,11 +1,11 @@
 // The parts of a line: what a letter or a digit stands for, with a value out of range for a wrong byte.
 ghost use mathlib.Core.Path.{_≡_};
 ghost use Prim.Native.Nat.{_≤_};
-ghost use Rattle.lines.specs.Grammar.{manOf, sideOf, squareOf, digitOf};
+ghost use Rattle.lines.specs.Grammar.{kindNamed, sideOf, squareNamed, digitOf};
 
 // The material code of a man's letter; 4 for any other byte.
 pub fn man_code(letter: u8) -> u8
-    ensures { λ r. ⌜ r ≡ manOf letter ⌝ }
+    ensures { λ r. ⌜ r ≡ kindNamed letter ⌝ }
 {
     match letter {
         b'Q' => 0,
@@ -29,7 +29,7 @@ pub fn side_code(letter: u8) -> u8
 
 // The square of a file's letter and a rank's digit; 64 where either is another byte.
 pub fn square_named(file: u8, rank: u8) -> u8
-    ensures { λ r. ⌜ r ≡ squareOf file rank ⌝ }
+    ensures { λ r. ⌜ r ≡ squareNamed file rank ⌝ }
 {
     if file < b'a' {
         return 64;

@@ -86,9 +86,9 @@ fn number_request(line: &[u8]) -> Request
     if !is_right(five * 100 + check) {
         return Request::Refused(BAD_CHECK);
     }
-    let man = man_code(line[0]);
-    if man < 4 {
-        return Request::Back(man, five);
+    let kind = man_code(line[0]);
+    if kind < 4 {
+        return Request::Back(kind, five);
     }
     Request::Refused(BAD_MAN)
 }

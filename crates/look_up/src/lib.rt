@@ -1,6 +1,6 @@
 // Looking a position up in its ending's table.
-use answers::Advice;
 use answers::Answer;
+use answers::BestMove;
 use index::TABLE_SIZE;
 use pairs::pair_list;
 use position::INCONSISTENT;
@@ -15,7 +15,7 @@ ghost use mathlib.Core.Path.{_≡_};
 ghost use Rattle.endings.specs.Answers.{answerOf, lookUpOf};
 
 // What a byte that stands says of the side to move.
-fn answer(byte: u8, advice: Advice) -> Answer
+fn answer(byte: u8, advice: BestMove) -> Answer
     ensures { λ r. ⌜ r ≡ answerOf byte advice ⌝ }
 {
     if byte <= 1 {

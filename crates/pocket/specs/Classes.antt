@@ -8,7 +8,7 @@ use lib.Dec.{leb, eqb}
 use lib.ListN.{getD}
 use Rattle.finite.specs.Ranked.{rank}
 use Rattle.theory.specs.Required.{Win, Loss}
-use Rattle.endings.specs.Chess.{tableSize}
+use Rattle.endings.specs.Ending.{tableSize}
 
 -- the entry e tells the class of the byte b
 pub record Class (b e : ℕ) : Type 0 where

@@ -7,11 +7,11 @@ use lib.ListN.{length, getD}
 use Rattle.finite.specs.Mapped.{mapFrom}
 use Rattle.position.specs.declared.Position.{Position}
 use Rattle.position.specs.Keyed.{boardOf}
-use Rattle.position.specs.Refusals.{standing}
+use Rattle.position.specs.Refusals.{standingRefusal}
 use Rattle.numbering.specs.Number.{numberOf}
 use Rattle.answers.specs.declared.Answer.{Answer}
 use Rattle.answers.specs.declared.Answer.the-variants.{Win, Loss, Draw, Refused}
-use Rattle.endings.specs.Chess.{tableSize}
+use Rattle.endings.specs.Ending.{tableSize}
 use Rattle.pocket.specs.declared.Packed.{Packed}
 use Rattle.pocket.specs.declared.PocketAnswer.{PocketAnswer}
 
@@ -84,6 +84,6 @@ entryTells e = cond (eqb e 0) (refusing 11) (cond (eqb e 1) draw (cond (eqb e 2)
 
 unfoldable pub pocketLookUpOf : List ℕ → Position → Told
 pocketLookUpOf pocket p =
-    cond (not (eqb (standing p) 0)) (refusing (standing p))
+    cond (not (eqb (standingRefusal p) 0)) (refusing (standingRefusal p))
     (cond (not (eqb (length pocket) pocketSize)) (refusing 7)
     (entryTells (entryAt pocket (numberOf (boardOf p)))))

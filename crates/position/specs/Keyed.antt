@@ -24,13 +24,13 @@ abbrev pub nobody : Piece
 nobody = pieceOf 4 0 64
 
 -- the man in a slot
-abbrev pub manOf : Slot → Piece
-manOf Absent = nobody
-manOf (Present m) = m
+abbrev pub manIn : Slot → Piece
+manIn Absent = nobody
+manIn (Present m) = m
 
 -- the first man's kind and square
-abbrev pub kindOf : Position → ℕ
-kindOf p = manOf (p .first) .kind
+abbrev pub manKind : Position → ℕ
+manKind p = manIn (p .first) .kind
 
-abbrev pub squareOf : Position → ℕ
-squareOf p = manOf (p .first) .square
+abbrev pub manSquare : Position → ℕ
+manSquare p = manIn (p .first) .square

@@ -39,12 +39,12 @@ abbrev pub otherInCheck : Position → Bool
 otherInCheck p = inCheck (boardOf p) (1 - p .side)
 
 -- 1 to 5, which numbering asks: the lowest that applies, 0 where none does
-unfoldable pub placing : Position → ℕ
-placing p = cond (badMan p) 1 (cond (badSide p) 2 (cond (badSquare p) 3 (cond (sharedSquare p) 4 (cond (kingsTouch p) 5 0))))
+unfoldable pub placingRefusal : Position → ℕ
+placingRefusal p = cond (badMan p) 1 (cond (badSide p) 2 (cond (badSquare p) 3 (cond (sharedSquare p) 4 (cond (kingsTouch p) 5 0))))
 
 -- 1 to 6, which the move list and look-up ask
-unfoldable pub standing : Position → ℕ
-standing p = cond (eqb (placing p) 0) (cond (otherInCheck p) 6 0) (placing p)
+unfoldable pub standingRefusal : Position → ℕ
+standingRefusal p = cond (eqb (placingRefusal p) 0) (cond (otherInCheck p) 6 0) (placingRefusal p)
 
 -- ---- slot by slot, as code asks them
 

@@ -2,7 +2,7 @@
 use rules::Piece;
 ghost use mathlib.Core.Path.{_≡_};
 ghost use Prim.Native.Nat.{_-_};
-ghost use Rattle.position.specs.Keyed.{manOf, lone as loneOf};
+ghost use Rattle.position.specs.Keyed.{manIn, lone as loneOf};
 
 mod attack;
 mod maps;
@@ -95,7 +95,7 @@ pub fn lone(kind: u8, side: u8, white: u8, square: u8, black: u8) -> Position
 
 // The man in a slot; one that stands off the board where there is none.
 pub fn man_in(slot: Slot) -> Piece
-    ensures { λ r. ⌜ r ≡ manOf slot ⌝ }
+    ensures { λ r. ⌜ r ≡ manIn slot ⌝ }
 {
     match slot {
         Slot::Absent => Piece {

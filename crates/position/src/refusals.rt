@@ -12,7 +12,7 @@ use super::other;
 use board::has;
 use board::targets;
 ghost use mathlib.Core.Path.{_≡_};
-ghost use Rattle.position.specs.Refusals.{badMen, badSquare, sharedSquare, slotOff, slotOn, slotsShare, placing, standing};
+ghost use Rattle.position.specs.Refusals.{badMen, badSquare, sharedSquare, slotOff, slotOn, slotsShare, placingRefusal, standingRefusal};
 
 // Whether the men are none that have a table.
 fn bad_men(first: Slot, second: Slot) -> bool
@@ -81,7 +81,7 @@ fn shared_square(p: Position) -> bool
 
 // Refusals 1 to 5, the lowest that applies; 0 where none does.
 pub fn placing_refusal(p: Position) -> u8
-    ensures { λ r. ⌜ r ≡ placing p ⌝ }
+    ensures { λ r. ⌜ r ≡ placingRefusal p ⌝ }
 {
     let first = p.first;
     let second = p.second;
@@ -105,7 +105,7 @@ pub fn placing_refusal(p: Position) -> u8
 
 // Refusals 1 to 6, the lowest that applies; 0 where none does.
 pub fn standing_refusal(p: Position) -> u8
-    ensures { λ r. ⌜ r ≡ standing p ⌝ }
+    ensures { λ r. ⌜ r ≡ standingRefusal p ⌝ }
 {
     let refusal = placing_refusal(p);
     if refusal != 0 {

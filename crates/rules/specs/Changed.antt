@@ -2,7 +2,6 @@
 use mathlib.Core.Bool.{Bool, cond}
 use mathlib.Core.List.{map}
 use Prim.Native.Nat.{ℕ, zero, suc}
-use native.Mathlib.Omega.{arith}
 use Rattle.symmetry.specs.Symmetry.{Symmetry, mapped}
 use Rattle.rules.specs.declared.Piece.{Piece}
 use Rattle.rules.specs.Rules.{Board, pieceOf}

@@ -9,7 +9,7 @@ use Rattle.rules.specs.Rules.{Board}
 use Rattle.rules.specs.Chess.{chess}
 use Rattle.position.specs.declared.Position.{Position}
 use Rattle.position.specs.Keyed.{boardOf}
-use Rattle.position.specs.Refusals.{standing}
+use Rattle.position.specs.Refusals.{standingRefusal}
 use Rattle.search.specs.declared.Opinion.{Opinion}
 
 -- the most plies that may be asked
@@ -36,9 +36,9 @@ searched b k =
 
 unfoldable pub opinionOf : Position → ℕ → Opinion
 opinionOf p k =
-    cond (eqb (standing p) 0)
+    cond (eqb (standingRefusal p) 0)
     (cond (leb k most) (searched (boardOf p) k) (Opinion.Refused 16))
-    (Opinion.Refused (standing p))
+    (Opinion.Refused (standingRefusal p))
 
 -- The number and values of each case of the answer: the refusal's number, or 0; the value (win 1, loss 2, not within k 4), or 0 with a
 -- refusal; the depth in plies, or 0 where none is told.

@@ -1,7 +1,7 @@
 // Moves that may give check: for the last ply only these are tried, since mate is check.
 use board::targets;
 use board::without;
-use moves::legal_targets;
+use movegen::legal_targets;
 use position::Position;
 use position::Slot;
 use position::attacked_over;

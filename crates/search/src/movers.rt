@@ -1,7 +1,7 @@
 // The squares where moves start, and whether there is a move.
 use board::lowest;
 use board::without;
-use moves::legal_targets;
+use movegen::legal_targets;
 use position::Position;
 use position::Slot;
 use position::own;

@@ -7,7 +7,7 @@ use lib.ListN.{length, take, drop}
 use Rattle.finite.specs.Mapped.{mapFrom}
 use Rattle.finite.specs.Pieces.{over}
 use Rattle.answers.specs.declared.Filled.{Filled}
-use Rattle.endings.specs.Chess.{tableSize}
+use Rattle.endings.specs.Ending.{tableSize}
 use Rattle.endings.specs.Answers.{Fill, fillOf}
 use Rattle.sets.specs.declared.Choice.{Choice}
 use Rattle.sets.specs.declared.Found.{Found}

@@ -5,7 +5,7 @@ use mathlib.Core.List.{List, [], _∷_, _++_}
 use Prim.Native.Nat.{ℕ, zero, suc, _+_, _*_, _/_, _%_}
 use lib.Dec.{leb, ltb, eqb}
 use lib.ListN.{length, getD, drop}
-use Rattle.endings.specs.Chess.{tableSize}
+use Rattle.endings.specs.Ending.{tableSize}
 use Rattle.sets.specs.declared.Choice.{Choice}
 use Rattle.sets.specs.declared.Found.{Found}
 

@@ -6,10 +6,10 @@ use Prim.Native.Char.{code}
 use lib.Dec.{ltb, eqb}
 use lib.ListN.{length, replicate}
 use Rattle.ascii.specs.Bytes.{bytes}
-use Rattle.position.specs.Keyed.{squareOf}
+use Rattle.position.specs.Keyed.{manSquare}
 use Rattle.index.specs.declared.Placed.{Placed}
-use Rattle.answers.specs.declared.Advice.{Advice}
-use Rattle.answers.specs.declared.Advice.the-variants.{Play, NoMove}
+use Rattle.answers.specs.declared.BestMove.{BestMove}
+use Rattle.answers.specs.declared.BestMove.the-variants.{Play, NoMove}
 use Rattle.answers.specs.declared.Answer.{Answer}
 use Rattle.slips.specs.declared.Slip.{Slip}
 
@@ -33,42 +33,42 @@ unfoldable pub sideLetter : ℕ → ℕ
 sideLetter side = cond (eqb side 0) (code "w") (code "b")
 
 -- a word and a number; a space and a square
-unfoldable pub counted : List ℕ → ℕ → List ℕ
-counted word n = word ++ decimal n
+unfoldable pub wordAndNumber : List ℕ → ℕ → List ℕ
+wordAndNumber word n = word ++ decimal n
 
 unfoldable pub gapped : ℕ → List ℕ
 gapped s = bytes " " ++ squareName s
 
 -- an answer's move, from-square and to-square, after a space; nothing where there is none
-unfoldable pub adviceText : Advice → List ℕ
+unfoldable pub adviceText : BestMove → List ℕ
 adviceText (Play m) = gapped (m .from) ++ squareName (m .to)
 adviceText NoMove = []
 
 -- `win 1 h2g1`, `loss 0`, `draw`, `draw a1b2`, `refused 6`
 unfoldable pub answerText : Answer → List ℕ
-answerText (Answer.Win n a) = counted (bytes "win ") n ++ adviceText a
-answerText (Answer.Loss n a) = counted (bytes "loss ") n ++ adviceText a
+answerText (Answer.Win n a) = wordAndNumber (bytes "win ") n ++ adviceText a
+answerText (Answer.Loss n a) = wordAndNumber (bytes "loss ") n ++ adviceText a
 answerText (Answer.Draw a) = bytes "draw" ++ adviceText a
-answerText (Answer.Refused n) = counted (bytes "refused ") n
+answerText (Answer.Refused n) = wordAndNumber (bytes "refused ") n
 
 -- `w a1 b1 h8`: side, white king, man's square, black king
 unfoldable pub placedText : Placed → List ℕ
-placedText (Placed.At p) = sideLetter (p .side) ∷ gapped (p .«white_king») ++ gapped (squareOf p) ++ gapped (p .«black_king»)
-placedText (Placed.Refused n) = counted (bytes "refused ") n
+placedText (Placed.At p) = sideLetter (p .side) ∷ gapped (p .«white_king») ++ gapped (manSquare p) ++ gapped (p .«black_king»)
+placedText (Placed.Refused n) = wordAndNumber (bytes "refused ") n
 
 -- "a newline ends the line"
-abbrev pub ended : List ℕ → List ℕ
-ended text = text ++ bytes "\n"
+abbrev pub withNewline : List ℕ → List ℕ
+withNewline text = text ++ bytes "\n"
 
 -- the slip of look-up's answer, of numbering back's, and of a refusal
 unfoldable pub slipOf : Answer → List ℕ
-slipOf a = ended (answerText a)
+slipOf a = withNewline (answerText a)
 
 unfoldable pub placedSlip : Placed → List ℕ
-placedSlip p = ended (placedText p)
+placedSlip p = withNewline (placedText p)
 
 unfoldable pub refusedSlip : ℕ → List ℕ
-refusedSlip n = ended (counted (bytes "refused ") n)
+refusedSlip n = withNewline (wordAndNumber (bytes "refused ") n)
 
 -- a list of at most 16 bytes as a slip: zeros fill the unused places
 unfoldable pub padded : List ℕ → Slip

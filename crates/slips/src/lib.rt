@@ -1,8 +1,8 @@
 // The output slip of an answer: the bytes of its line, with the newline.
 mod writing;
 
-use answers::Advice;
 use answers::Answer;
+use answers::BestMove;
 use index::Placed;
 use position::Position;
 use position::man_in;
@@ -13,7 +13,7 @@ use writing::with_square;
 use writing::with_text;
 ghost use mathlib.Core.Path.{_≡_};
 ghost use mathlib.Core.List.{[]};
-ghost use Rattle.slips.specs.Slip.{counted, adviceText, sideLetter, gapped, padded, slipOf, placedSlip, refusedSlip};
+ghost use Rattle.slips.specs.Slip.{wordAndNumber, adviceText, sideLetter, gapped, padded, slipOf, placedSlip, refusedSlip};
 ghost use Rattle.slips.specs.Appending.{appended};
 
 // The line is the first `len` bytes; the rest are zero.
@@ -65,18 +65,18 @@ fn refused_slip(n: u8) -> Slip
 
 // A word and a number.
 fn number_slip(word: &[u8], n: u8) -> Slip
-    ensures { λ r. ⌜ r ≡ appended (padded []) (counted (now (word .entry)) n) ⌝ }
+    ensures { λ r. ⌜ r ≡ appended (padded []) (wordAndNumber (now (word .entry)) n) ⌝ }
 {
     with_number(with_text(blank(), word), n)
 }
 
 // A space and the move, or nothing.
-fn with_advice(s: Slip, a: Advice) -> Slip
+fn with_advice(s: Slip, a: BestMove) -> Slip
     ensures { λ r. ⌜ r ≡ appended s (adviceText a) ⌝ }
 {
     match a {
-        Advice::Play(m) => with_square(with_gap(s, m.from), m.to),
-        Advice::NoMove => s,
+        BestMove::Play(m) => with_square(with_gap(s, m.from), m.to),
+        BestMove::NoMove => s,
     }
 }
 

@@ -6,7 +6,7 @@ use Prim.Native.Nat.{ℕ, _+_, _*_, _≤_}
 use Prim.Native.Char.{code}
 use lib.Dec.{eqb, ltb}
 use lib.ListN.{length, set, take, replicate}
-use Rattle.adjudication.specs.Reply.{Outcome, replyOf}
+use Rattle.adjudication.specs.Reply.{LineOutcome, replyOf}
 use Rattle.stream.specs.declared.State.{State}
 use Rattle.stream.specs.Stream.{Run}
 
@@ -54,7 +54,7 @@ kept s t o = record { state = s; table = t; output = o }
 -- The line that ends here is answered: its slip is written after what waits, and the next line begins. A count above 13 counts all the places.
 unfoldable pub lineAnswered : Kept → Kept
 lineAnswered k =
-    let o : Outcome = replyOf (take (k .state .len) (k .state .line)) (k .state .held) (k .table) in
+    let o : LineOutcome = replyOf (take (k .state .len) (k .state .line)) (k .state .held) (k .table) in
     let s : Sheet = putAll (sheet (k .output) (k .state .waiting)) (o .slip) in
     kept (record { line = k .state .line; len = 0; held = o .held; waiting = s .used }) (o .table) (s .bytes)
 

@@ -5,7 +5,7 @@ use mathlib.Core.List.{List, [], _∷_, _++_, foldl}
 use Prim.Native.Nat.{ℕ}
 use Prim.Native.Char.{code}
 use lib.Dec.{eqb}
-use Rattle.adjudication.specs.Reply.{Outcome, replyOf}
+use Rattle.adjudication.specs.Reply.{LineOutcome, replyOf}
 use Rattle.adjudication.specs.TrueSlip.{TrueSlip}
 
 -- ---- byte by byte
@@ -26,9 +26,9 @@ abbrev pub quiet : Run → Run
 quiet s = record { line = s .line; held = s .held; table = s .table; out = [] }
 
 -- the line that ends here is answered by its slip
-unfoldable pub ended : Run → Run
-ended s =
-    let o : Outcome = replyOf (s .line) (s .held) (s .table) in
+unfoldable pub lineOver : Run → Run
+lineOver s =
+    let o : LineOutcome = replyOf (s .line) (s .held) (s .table) in
     record { line = []; held = o .held; table = o .table; out = s .out ++ o .slip }
 
 -- "a newline ends the line": any other byte belongs to it, CR and NUL too
@@ -36,7 +36,7 @@ unfoldable pub longer : Run → ℕ → Run
 longer s b = record { line = s .line ++ b ∷ []; held = s .held; table = s .table; out = s .out }
 
 unfoldable pub took : Run → ℕ → Run
-took s b = cond (eqb b (code "\n")) (ended s) (longer s b)
+took s b = cond (eqb b (code "\n")) (lineOver s) (longer s b)
 
 abbrev pub tookAll : Run → List ℕ → Run
 tookAll = foldl took
@@ -44,7 +44,7 @@ tookAll = foldl took
 -- "(the last may lack it)": at the end an unfinished line is answered, and an empty one is none; "Empty input writes nothing"
 abbrev pub closedBy : List ℕ → Run → Run
 closedBy [] s = s
-closedBy (b ∷ bs) s = ended s
+closedBy (b ∷ bs) s = lineOver s
 
 unfoldable pub closed : Run → Run
 closed s = closedBy (s .line) s
@@ -74,11 +74,11 @@ linesOf [] = []
 linesOf (b ∷ bs) = cond (eqb b (code "\n")) ([] ∷ linesOf bs) (begun b (linesOf bs))
 
 -- the lines answered one after the other: their slips, and what is held afterwards
-unfoldable pub answeredAll : ℕ → List ℕ → List (List ℕ) → Outcome
+unfoldable pub answeredAll : ℕ → List ℕ → List (List ℕ) → LineOutcome
 answeredAll held t [] = record { slip = []; held = held; table = t }
 answeredAll held t (l ∷ ls) =
-    let o : Outcome = replyOf l held t in
-    let rest : Outcome = answeredAll (o .held) (o .table) ls in
+    let o : LineOutcome = replyOf l held t in
+    let rest : LineOutcome = answeredAll (o .held) (o .table) ls in
     record { slip = o .slip ++ rest .slip; held = rest .held; table = rest .table }
 
 -- the output is the true slips of the lines, in their order, and nothing else
@@ -87,5 +87,5 @@ pub data AllTrue : List (List ℕ) → List ℕ → Type 0 where
   more : (line slip : List ℕ) (lines : List (List ℕ)) (out : List ℕ) → TrueSlip line slip → AllTrue lines out → AllTrue (line ∷ lines) (slip ++ out)
 
 -- a run's outcome
-abbrev pub told : Run → Outcome
+abbrev pub told : Run → LineOutcome
 told s = record { slip = s .out; held = s .held; table = s .table }

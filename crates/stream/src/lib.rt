@@ -4,7 +4,7 @@ use adjudication::answer_line;
 use slips::Slip;
 ghost use mathlib.Core.Path.{_≡_};
 ghost use lib.ListN.{take};
-ghost use Rattle.adjudication.specs.TrueSlip.{Answered};
+ghost use Rattle.adjudication.specs.TrueSlip.{LinePromise};
 ghost use Rattle.stream.specs.Keeping.{sheet, put, putAll, started, emptied, withByte, kept, lineAnswered, byteTaken, allTaken, lastAnswered};
 
 // What is kept from byte to byte: the unfinished line, the man whose table is held, and how much of the output waits.
@@ -93,7 +93,7 @@ fn append(slip: Slip, waiting: usize, output: &mut [u8]) -> usize
 
 // The reply to the line of which the first `len` bytes are kept.
 fn reply_to(line: &[u8], len: u8, held: u8, table: &mut [u8]) -> Reply
-    ensures { λ r. ⌜ Answered (take len (now (line .entry))) held (now (table .entry)) r (now (table .exit)) ⌝ }
+    ensures { λ r. ⌜ LinePromise (take len (now (line .entry))) held (now (table .entry)) r (now (table .exit)) ⌝ }
 {
     let end = len as usize;
     if end > line.len() {

@@ -1,4 +1,4 @@
--- The byte of a board by a lent list of pairs, and a byte held against those of a board's successors. Definitions only.
+-- The byte of a board by a lent list of pairs, and a byte compared with those of a board's successors. Definitions only.
 use mathlib.Core.Bool.{Bool, cond, _&&_, _||_}
 use mathlib.Core.List.{List}
 use mathlib.Core.Option.{Option, none, some}
@@ -12,10 +12,10 @@ use Rattle.theory.specs.Judge.{judge}
 use Rattle.rules.specs.declared.Move.{Move}
 use Rattle.rules.specs.Rules.{Board, empty, inCheck, moves}
 use Rattle.rules.specs.Chess.{chess, played}
-use Rattle.answers.specs.declared.Advice.{Advice}
+use Rattle.answers.specs.declared.BestMove.{BestMove}
 use Rattle.index.specs.Frames.{numberBy}
 use Rattle.index.specs.Answers.{positionAt}
-use Rattle.endings.specs.Chess.{legalNumber}
+use Rattle.endings.specs.Ending.{legalNumber}
 use Rattle.endings.specs.Answers.{adviceOf}
 use Rattle.successors.specs.declared.Standing.{Standing}
 use Rattle.successors.specs.declared.Judged.{Judged}
@@ -34,15 +34,15 @@ abbrev pub kingMoves : ℕ → ℕ → ℕ → Bool
 kingMoves white black from = eqb white from || eqb black from
 
 -- the move in an answer, back from `adviceOf`
-abbrev pub moveIn : Advice → Option Move
-moveIn Advice.NoMove = none
-moveIn (Advice.Play m) = some m
+abbrev pub moveFound : BestMove → Option Move
+moveFound BestMove.NoMove = none
+moveFound (BestMove.Play m) = some m
 
 abbrev pub judgedOf : Option (Option Move) → Judged
 judgedOf none = Judged.Refuted
 judgedOf (some found) = Judged.Found (adviceOf found)
 
--- byte c held against some moves of a board, from what is found so far
+-- byte c compared with some moves of a board, from what is found so far
 abbrev pub judgedFrom : (Board → ℕ) → ℕ → Board → Option Move → List Move → Option (Option Move)
 judgedFrom byte c b found ms = judge c (λ m. byte (played b m)) found ms
 

@@ -2,7 +2,7 @@
 use index::Frame;
 use index::frame_of;
 use index::number_in;
-use moves::carried;
+use movegen::carried;
 use pairs::PairList;
 use position::other;
 ghost use mathlib.Core.Path.{_≡_};

@@ -1,16 +1,16 @@
-// A byte held against a position's successors in one pass, which stops at the first that refutes it.
+// A byte compared with a position's successors in one pass, which stops at the first that refutes it.
 use super::Judged;
 use super::after::byte_after;
 use super::after::frame_for;
-use answers::Advice;
+use answers::BestMove;
 use board::lowest;
 use board::without;
-use moves::legal_targets;
+use byte_rule::refutes;
+use byte_rule::suits;
+use movegen::legal_targets;
 use pairs::PairList;
 use position::lone;
 use position::own;
-use rule::refutes;
-use rule::suits;
 use rules::move_of;
 ghost use mathlib.Core.Path.{_≡_};
 ghost use mathlib.Core.Bool.{cond};
@@ -22,19 +22,19 @@ ghost use Rattle.board.specs.Sets.{members};
 ghost use Rattle.rules.specs.Rules.{moveOf, movesOnto, moves};
 ghost use Rattle.position.specs.Keyed.{boardOf, lone as loneOf};
 ghost use Rattle.endings.specs.Answers.{adviceOf};
-ghost use Rattle.successors.specs.Successors.{byteBy, moveIn, judgedOf, judgedFrom};
+ghost use Rattle.successors.specs.Successors.{byteBy, moveFound, judgedOf, judgedFrom};
 
 // What is found with one more move, to byte c: the first that suits stays.
-fn first_of(found: Advice, byte: u16, c: u8, from: u8, to: u8) -> Advice
-    ensures { λ r. ⌜ r ≡ adviceOf (firstOf (moveIn found) (cond (suitsOf byte c) (some (moveOf from to)) none)) ⌝ }
+fn first_of(found: BestMove, byte: u16, c: u8, from: u8, to: u8) -> BestMove
+    ensures { λ r. ⌜ r ≡ adviceOf (firstOf (moveFound found) (cond (suitsOf byte c) (some (moveOf from to)) none)) ⌝ }
 {
     match found {
-        Advice::Play(m) => Advice::Play(m),
-        Advice::NoMove => {
+        BestMove::Play(m) => BestMove::Play(m),
+        BestMove::NoMove => {
             if suits(byte, c) {
-                return Advice::Play(move_of(from, to));
+                return BestMove::Play(move_of(from, to));
             }
-            Advice::NoMove
+            BestMove::NoMove
         },
     }
 }
@@ -50,9 +50,9 @@ fn judge_targets(
     from: u8,
     targets: u64,
     byte: u16,
-    before: Advice,
+    before: BestMove,
 ) -> Judged
-    ensures { λ r. ⌜ ((kind : ℕ) → r ≡ judgedOf (judgedFrom (byteBy (now (list .entry)) (now (table .entry))) byte (boardOf (loneOf kind side white square black)) (moveIn before) (movesOnto from (members targets)))) ⌝ }
+    ensures { λ r. ⌜ ((kind : ℕ) → r ≡ judgedOf (judgedFrom (byteBy (now (list .entry)) (now (table .entry))) byte (boardOf (loneOf kind side white square black)) (moveFound before) (movesOnto from (members targets)))) ⌝ }
 {
     let f = frame_for(list, side, white, black, from);
     let mut found = before;
@@ -83,7 +83,7 @@ pub fn judge(
     ensures { λ r. ⌜ r ≡ judgedOf (judgedFrom (byteBy (now (list .entry)) (now (table .entry))) byte (boardOf (loneOf kind side white square black)) none (moves (boardOf (loneOf kind side white square black)))) ⌝ }
 {
     let p = lone(kind, side, white, square, black);
-    let mut found = Advice::NoMove;
+    let mut found = BestMove::NoMove;
     let mut rest = own(p, side);
     while rest != 0 {
         let from = lowest(rest);

@@ -1,5 +1,5 @@
-// A byte of a table held against those of a position's successors: whether it is the one required, and the move that it advises.
-use answers::Advice;
+// A byte of a table compared with those of a position's successors: whether it is the one required, and the move that it advises.
+use answers::BestMove;
 use position::Position;
 
 mod after;
@@ -19,14 +19,14 @@ pub enum Standing {
     Nothing,
 }
 
-// A byte held against some successors: one refutes it, or the first move found that suits.
+// A byte compared with some successors: one refutes it, or the first move found that suits.
 pub enum Judged {
     Refuted,
-    Found(Advice),
+    Found(BestMove),
 }
 
 // The verdict on a byte: it is not the one required; or it is, with the move that it advises.
 pub enum Verdict {
     Wrong,
-    Right(Advice),
+    Right(BestMove),
 }

@@ -4,7 +4,7 @@ use index::Placed;
 use index::position_of;
 use position::standing_refusal;
 ghost use mathlib.Core.Path.{_≡_};
-ghost use Rattle.endings.specs.Chess.{legalNumber};
+ghost use Rattle.endings.specs.Ending.{legalNumber};
 ghost use Rattle.successors.specs.Successors.{standingAt};
 
 // The position at the number, if the number is used and its position legal.

@@ -2,8 +2,8 @@
 use super::Judged;
 use super::Verdict;
 use super::judging::judge;
-use answers::Advice;
-use listing::count_of;
+use answers::BestMove;
+use move_list::count_of;
 use pairs::PairList;
 use position::Position;
 use position::in_check;
@@ -52,10 +52,10 @@ pub fn verdict_on(
     match judged {
         Judged::Refuted => Verdict::Wrong,
         Judged::Found(found) => match found {
-            Advice::Play(m) => Verdict::Right(Advice::Play(m)),
-            Advice::NoMove => {
+            BestMove::Play(m) => Verdict::Right(BestMove::Play(m)),
+            BestMove::NoMove => {
                 if is_over_with(lone(kind, side, white, square, black), byte) {
-                    return Verdict::Right(Advice::NoMove);
+                    return Verdict::Right(BestMove::NoMove);
                 }
                 Verdict::Wrong
             },
@@ -94,8 +94,8 @@ pub fn requires_depth(
     match judged {
         Judged::Refuted => false,
         Judged::Found(found) => match found {
-            Advice::Play(_) => true,
-            Advice::NoMove => false,
+            BestMove::Play(_) => true,
+            BestMove::NoMove => false,
         },
     }
 }

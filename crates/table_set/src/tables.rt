@@ -7,7 +7,7 @@ ghost use mathlib.Core.Path.{_≡_};
 ghost use Prim.Native.Nat.{_+_, _≤_};
 ghost use lib.ListN.{length, take, drop};
 ghost use Rattle.finite.specs.Pieces.{over};
-ghost use Rattle.endings.specs.Chess.{tableSize};
+ghost use Rattle.endings.specs.Ending.{tableSize};
 ghost use Rattle.endings.specs.Answers.{fillOf};
 ghost use Rattle.sets.specs.Answers.{isRefusal, filledAt};
 

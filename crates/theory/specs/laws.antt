@@ -13,3 +13,4 @@ pub mod Choice
 pub mod OnePly
 pub mod Games
 pub mod MovesMade
+pub mod Judge

@@ -5,15 +5,13 @@ use mathlib.Core.Bool.{Bool, true, false, not, _&&_}
 use mathlib.Core.List.{List, [], _∷_, map, List·Memᴰ·head, List·Memᴰ·tail}
 use mathlib.Core.Option.{some}
 use Prim.Native.Nat.{ℕ, _≤_, _<_}
-use native.Mathlib.Omega.{arith}
 use lib.Dec.{T, eqb, ltb, eqb→eq, ltb→lt, lit<}
 use lib.ListN.{length, getD}
-use Rattle.finite.specs.Truth.{and-left, and-right}
-use Rattle.finite.specs.Members.{_∈_, any, all, some?, first, all-out, map-out}
+use Rattle.finite.specs.Members.{any, all, some?, first, all-out, map-out}
 use Rattle.finite.specs.Below.{allBelow, below}
-use Rattle.theory.specs.Game.{Game, next}
-use Rattle.theory.specs.Value.{won, lost, WonIn, DepthIs}
-use Rattle.theory.specs.Required.{required, best, better, back, winning, requiredAt, Closed, Consistent}
+use Rattle.theory.specs.Game.{Game}
+use Rattle.theory.specs.Value.{won, lost, WonIn}
+use Rattle.theory.specs.Required.{required, best, better, back, winning, Closed, Consistent}
 use Rattle.theory.specs.laws.Step.{required-moves}
 use Rattle.theory.specs.laws.Consistency.{consistent-depth}
 use Rattle.theory.specs.laws.Depth.{depth-odd}

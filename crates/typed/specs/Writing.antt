@@ -9,7 +9,7 @@ use Rattle.check_digits.specs.Check.{withCheck, digitBytes}
 use Rattle.index.specs.declared.Placed.{Placed}
 use Rattle.index.specs.Answers.{placedAt, positionAt}
 use Rattle.lines.specs.declared.Request.{Request}
-use Rattle.lines.specs.Grammar.{manOf, requestOf}
+use Rattle.lines.specs.Grammar.{kindNamed, requestOf}
 use Rattle.lines.specs.Typed.{RightLine}
 use Rattle.typed.specs.declared.Written.{Written}
 
@@ -29,5 +29,5 @@ typedLine letter w = letter ∷ bytes " # " ++ w .digits
 -- the line is accepted, and leads back to the number's position
 pub record LeadsBack (letter n : ℕ) (line : List ℕ) : Type 0 where
   pub right : RightLine line
-  pub request : requestOf line ≡ Request.Back (manOf letter) n
-  pub placed : placedAt (manOf letter) n ≡ Placed.At (positionAt (manOf letter) n)
+  pub request : requestOf line ≡ Request.Back (kindNamed letter) n
+  pub placed : placedAt (kindNamed letter) n ≡ Placed.At (positionAt (kindNamed letter) n)

@@ -10,28 +10,28 @@ use Rattle.theory.specs.Play.{atPly, Promised}
 use Rattle.rules.specs.declared.Move.{Move}
 use Rattle.rules.specs.Rules.{Board, empty}
 use Rattle.rules.specs.Chess.{chess}
-use Rattle.endings.specs.Chess.{byteOf}
+use Rattle.endings.specs.Ending.{byteOf}
 use Rattle.endings.specs.Truth.{TrueAnswer}
 use Rattle.endings.specs.Answers.{lookUpOf}
-use Rattle.endings.specs.Desk.{keyed, given, GamePromise}
+use Rattle.endings.specs.GamePromise.{keyed, given, GamePromise}
 use Rattle.words.specs.Words.{answerWord}
 use Rattle.words.specs.Reading.{adviceRead, answerRead}
 
 -- what `sledgewren_look_up` answers when it is lent the table t and given the man and the board's side and squares
 unfoldable pub lookUpWord : ℕ → List ℕ → Board → ℕ
-lookUpWord man t b = answerWord (lookUpOf t (keyed man b))
+lookUpWord kind t b = answerWord (lookUpOf t (keyed kind b))
 
 -- the move read from that word, if bit 24 says that there is one; bare kings are not looked up
 unfoldable pub hostMove : ℕ → List ℕ → Board → Option Move
-hostMove man t b = cond (empty (b .men)) none (given (adviceRead (lookUpWord man t b)))
+hostMove kind t b = cond (empty (b .men)) none (given (adviceRead (lookUpWord kind t b)))
 
 -- What is promised of the game ms from the board b, in which `side` plays the host's moves by the table t.
-pub record HostPromise (man : ℕ) (t : List ℕ) (side : Bool) (b : Board) (ms : List Move) : Type 0 where
+pub record HostPromise (kind : ℕ) (t : List ℕ) (side : Bool) (b : Board) (ms : List Move) : Type 0 where
   -- all that the theorem about games promises
-  pub game : GamePromise man t side b ms
+  pub game : GamePromise kind t side b ms
   -- what the first position is called, read from its word, is its true value and depth
-  pub called : TrueAnswer b (answerRead (lookUpWord man t b))
+  pub called : TrueAnswer b (answerRead (lookUpWord kind t b))
   -- so it is for every position of the game, bare kings apart
-  pub answers : (i : ℕ) → i ≤ length ms → empty (atPly chess b ms i .men) ≡ false → TrueAnswer (atPly chess b ms i) (answerRead (lookUpWord man t (atPly chess b ms i)))
+  pub answers : (i : ℕ) → i ≤ length ms → empty (atPly chess b ms i .men) ≡ false → TrueAnswer (atPly chess b ms i) (answerRead (lookUpWord kind t (atPly chess b ms i)))
   -- won, lost, drawn, and both sides following, in terms of the moves read
-  pub promised : Promised chess (byteOf t) (hostMove man t) side b ms
+  pub promised : Promised chess (byteOf t) (hostMove kind t) side b ms

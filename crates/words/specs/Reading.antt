@@ -5,17 +5,16 @@ use mathlib.Core.List.{List}
 use Prim.Native.Nat.{ℕ, _/_, _%_, _^_, _≤_, _<_}
 use lib.Dec.{eqb}
 use lib.ListN.{getD}
-use Rattle.rules.specs.declared.Move.{Move}
 use Rattle.rules.specs.Rules.{moveOf}
-use Rattle.answers.specs.declared.Advice.{Advice}
+use Rattle.answers.specs.declared.BestMove.{BestMove}
 use Rattle.answers.specs.declared.Answer.{Answer}
 use Rattle.answers.specs.declared.Checked.{Checked}
 use Rattle.answers.specs.declared.Filled.{Filled}
 use Rattle.position.specs.declared.Position.{Position}
-use Rattle.position.specs.Keyed.{lone, squareOf}
-use Rattle.index.specs.declared.Numbered.{Numbered}
+use Rattle.position.specs.Keyed.{lone, manSquare}
+use Rattle.index.specs.declared.NumberAnswer.{NumberAnswer}
 use Rattle.index.specs.declared.Placed.{Placed}
-use Rattle.listing.specs.declared.Counted.{Counted}
+use Rattle.move_list.specs.declared.Counted.{Counted}
 
 -- the bits of a word from the first on, as many as the width
 abbrev pub bits : ℕ → ℕ → ℕ → ℕ
@@ -28,12 +27,12 @@ unlessRefused answer refused word = cond (eqb (bits 0 8 word) 0) answer (refused
 -- ---- one reader for each word
 
 -- "The number of a position, or SLEDGEWREN_NUMBER_REFUSED + refusal", which is bit 31
-abbrev pub numberRead : ℕ → Numbered
-numberRead word = cond (eqb (bits 31 1 word) 1) (Numbered.Refused (bits 0 8 word)) (Numbered.Number (bits 0 31 word))
+abbrev pub numberRead : ℕ → NumberAnswer
+numberRead word = cond (eqb (bits 31 1 word) 1) (NumberAnswer.Refused (bits 0 8 word)) (NumberAnswer.Number (bits 0 31 word))
 
 -- "bits 0-7 refusal, 8-15 side, 16-23 white king, 24-31 man's square, 32-39 black king"; the man is the caller's
 abbrev pub placedRead : ℕ → ℕ → Placed
-placedRead man word = unlessRefused (Placed.At (lone man (bits 8 8 word) (bits 16 8 word) (bits 24 8 word) (bits 32 8 word))) Placed.Refused word
+placedRead kind word = unlessRefused (Placed.At (lone kind (bits 8 8 word) (bits 16 8 word) (bits 24 8 word) (bits 32 8 word))) Placed.Refused word
 
 -- "bits 0-7 refusal, 8-15 count"
 abbrev pub countRead : ℕ → Counted
@@ -48,11 +47,11 @@ abbrev pub checkedRead : ℕ → Checked
 checkedRead word = unlessRefused (cond (eqb (bits 8 1 word) 1) (Checked.Wrong (bits 32 32 word)) Checked.Accepted) Checked.Refused word
 
 -- "bit 24 a move is given, 32-39 from, 40-47 to"
-abbrev pub adviceRead : ℕ → Advice
-adviceRead word = cond (eqb (bits 24 1 word) 1) (Advice.Play (moveOf (bits 32 8 word) (bits 40 8 word))) Advice.NoMove
+abbrev pub adviceRead : ℕ → BestMove
+adviceRead word = cond (eqb (bits 24 1 word) 1) (BestMove.Play (moveOf (bits 32 8 word) (bits 40 8 word))) BestMove.NoMove
 
 -- win 1, loss 2, draw 3, with a depth
-abbrev pub valueRead : ℕ → ℕ → Advice → Answer
+abbrev pub valueRead : ℕ → ℕ → BestMove → Answer
 valueRead value depth advice = cond (eqb value 1) (Answer.Win depth advice) (cond (eqb value 2) (Answer.Loss depth advice) (Answer.Draw advice))
 
 -- "bits 0-7 refusal, 8-15 value, 16-23 depth", and the move's
@@ -67,25 +66,25 @@ Byte n = n < 2 ^ 8
 abbrev pub RefusalFits : ℕ → Type 0
 RefusalFits k = (1 ≤ k) × Byte k
 
-abbrev pub NumberFits : Numbered → Type 0
-NumberFits (Numbered.Number n) = n < 2 ^ 31
-NumberFits (Numbered.Refused k) = RefusalFits k
+abbrev pub NumberFits : NumberAnswer → Type 0
+NumberFits (NumberAnswer.Number n) = n < 2 ^ 31
+NumberFits (NumberAnswer.Refused k) = RefusalFits k
 
 -- every byte of a lent table
 abbrev pub TableBytes : List ℕ → Type 0
 TableBytes t = (n : ℕ) → Byte (getD t n 0)
 
 -- a position with the caller's man alone
-pub record PositionFits (man : ℕ) (p : Position) : Type 0 where
-  pub own : p ≡ lone man (p .side) (p .«white_king») (squareOf p) (p .«black_king»)
+pub record PositionFits (kind : ℕ) (p : Position) : Type 0 where
+  pub own : p ≡ lone kind (p .side) (p .«white_king») (manSquare p) (p .«black_king»)
   pub side : Byte (p .side)
   pub white : Byte (p .«white_king»)
-  pub square : Byte (squareOf p)
+  pub square : Byte (manSquare p)
   pub black : Byte (p .«black_king»)
 
 abbrev pub PlacedFits : ℕ → Placed → Type 0
-PlacedFits man (Placed.At p) = PositionFits man p
-PlacedFits man (Placed.Refused k) = RefusalFits k
+PlacedFits kind (Placed.At p) = PositionFits kind p
+PlacedFits kind (Placed.Refused k) = RefusalFits k
 
 abbrev pub CountFits : Counted → Type 0
 CountFits (Counted.Count n) = Byte n
@@ -101,9 +100,9 @@ CheckedFits Checked.Accepted = Unit {0}
 CheckedFits (Checked.Wrong n) = n < 2 ^ 32
 CheckedFits (Checked.Refused k) = RefusalFits k
 
-abbrev pub AdviceFits : Advice → Type 0
-AdviceFits (Advice.Play m) = Byte (m .from) × Byte (m .to)
-AdviceFits Advice.NoMove = Unit {0}
+abbrev pub AdviceFits : BestMove → Type 0
+AdviceFits (BestMove.Play m) = Byte (m .from) × Byte (m .to)
+AdviceFits BestMove.NoMove = Unit {0}
 
 abbrev pub AnswerFits : Answer → Type 0
 AnswerFits (Answer.Win n a) = Byte n × AdviceFits a

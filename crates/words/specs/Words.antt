@@ -1,25 +1,23 @@
 -- The word of each answer (include/sledgewren.h): which bits hold its refusal and its values. Definitions only.
 use Prim.Native.Nat.{ℕ, _+_, _*_, _^_}
-use Rattle.rules.specs.declared.Move.{Move}
-use Rattle.answers.specs.declared.Advice.{Advice}
-use Rattle.answers.specs.declared.Advice.the-variants.{Play, NoMove}
+use Rattle.answers.specs.declared.BestMove.{BestMove}
+use Rattle.answers.specs.declared.BestMove.the-variants.{Play, NoMove}
 use Rattle.answers.specs.declared.Answer.{Answer}
 use Rattle.answers.specs.declared.Checked.{Checked}
 use Rattle.answers.specs.declared.Filled.{Filled}
-use Rattle.position.specs.declared.Position.{Position}
-use Rattle.position.specs.Keyed.{squareOf}
-use Rattle.index.specs.declared.Numbered.{Numbered}
+use Rattle.position.specs.Keyed.{manSquare}
+use Rattle.index.specs.declared.NumberAnswer.{NumberAnswer}
 use Rattle.index.specs.declared.Placed.{Placed}
-use Rattle.listing.specs.declared.Counted.{Counted}
+use Rattle.move_list.specs.declared.Counted.{Counted}
 
 -- the number; or bit 31 and the refusal
-abbrev pub numberWord : Numbered → ℕ
-numberWord (Numbered.Number n) = n
-numberWord (Numbered.Refused k) = 2 ^ 31 + k
+abbrev pub numberWord : NumberAnswer → ℕ
+numberWord (NumberAnswer.Number n) = n
+numberWord (NumberAnswer.Refused k) = 2 ^ 31 + k
 
 -- bits 0-7 refusal, 8-15 side, 16-23 white king, 24-31 man's square, 32-39 black king
 abbrev pub placedWord : Placed → ℕ
-placedWord (Placed.At p) = p .side * 2 ^ 8 + p .«white_king» * 2 ^ 16 + squareOf p * 2 ^ 24 + p .«black_king» * 2 ^ 32
+placedWord (Placed.At p) = p .side * 2 ^ 8 + p .«white_king» * 2 ^ 16 + manSquare p * 2 ^ 24 + p .«black_king» * 2 ^ 32
 placedWord (Placed.Refused k) = k
 
 -- bits 0-7 refusal, 8-15 count
@@ -40,7 +38,7 @@ checkedWord (Checked.Wrong n) = 2 ^ 8 + n * 2 ^ 32
 checkedWord (Checked.Refused k) = k
 
 -- bit 24 a move is given, 32-39 from, 40-47 to
-abbrev pub adviceWord : Advice → ℕ
+abbrev pub adviceWord : BestMove → ℕ
 adviceWord (Play m) = 2 ^ 24 + m .from * 2 ^ 32 + m .to * 2 ^ 40
 adviceWord NoMove = 0
 

@@ -1,11 +1,11 @@
 // The word of each answer (include/sledgewren.h).
-use answers::Advice;
 use answers::Answer;
+use answers::BestMove;
 use answers::Checked;
 use answers::Filled;
-use index::Numbered;
+use index::NumberAnswer;
 use index::Placed;
-use listing::Counted;
+use move_list::Counted;
 use position::Position;
 use position::man_in;
 use rules::Move;
@@ -13,12 +13,12 @@ ghost use mathlib.Core.Path.{_≡_};
 ghost use Prim.Native.Nat.{_+_, _*_, _^_, _≤_, _<_};
 ghost use Rattle.words.specs.Words.{numberWord, placedWord, countWord, filledWord, checkedWord, adviceWord, answerWord};
 
-pub fn number_word(n: Numbered) -> u32
+pub fn number_word(n: NumberAnswer) -> u32
     ensures { λ r. ⌜ r ≡ numberWord n ⌝ }
 {
     match n {
-        Numbered::Number(k) => k,
-        Numbered::Refused(k) => 0x8000_0000 + k as u32,
+        NumberAnswer::Number(k) => k,
+        NumberAnswer::Refused(k) => 0x8000_0000 + k as u32,
     }
 }
 
@@ -72,22 +72,22 @@ pub fn checked_word(c: Checked) -> u64
 }
 
 fn move_word(m: Move) -> u64
-    ensures { λ r. ⌜ (r ≡ adviceWord (Advice.Play m)) × (r < 2 ^ 48) ⌝ }
+    ensures { λ r. ⌜ (r ≡ adviceWord (BestMove.Play m)) × (r < 2 ^ 48) ⌝ }
 {
     0x100_0000 + m.from as u64 * 0x1_0000_0000 + m.to as u64 * 0x100_0000_0000
 }
 
-fn advice_word(a: Advice) -> u64
+fn advice_word(a: BestMove) -> u64
     ensures { λ r. ⌜ (r ≡ adviceWord a) × (r < 2 ^ 48) ⌝ }
 {
     match a {
-        Advice::Play(m) => move_word(m),
-        Advice::NoMove => 0,
+        BestMove::Play(m) => move_word(m),
+        BestMove::NoMove => 0,
     }
 }
 
 // A value, a depth and a move.
-fn value_word(value: u64, depth: u8, a: Advice) -> u64
+fn value_word(value: u64, depth: u8, a: BestMove) -> u64
     requires { ⌜ value ≤ 3 ⌝ }
     ensures { λ r. ⌜ r ≡ value * 2 ^ 8 + depth * 2 ^ 16 + adviceWord a ⌝ }
 {

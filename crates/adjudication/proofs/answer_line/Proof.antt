@@ -1,5 +1,4 @@
 -- `adjudication::answer_line` meets its contract.
-use mathlib.Core.Path.{_∙_}
 use borrow.Author.Needs.{needs}
 use Rattle.adjudication.specs.laws.Laws.{position-line, number-line, refused-line}
 use Rattle.adjudication.proofs.answer_line.Statement.{statement}
@@ -33,13 +32,21 @@ same-length : tie.Need-same-length
 same-length c = c .before .before .look-up-line .kept .1 .1 .0
 
 returns : tie.Need-returns
-returns c = position-line _ _ _ _ (c .before .before .before .before .before .before .before .parse .ensures) _ _ _ (c .before .before .before .before .before .request .given .1) (c .before .before .look-up-line .ensures)
+returns c = position-line _ _ _ _ (c .before .before .before .before .before .before .before .parse .ensures) _ _ _
+    (c .before .before .before .before .before .request .given .1) (c .before .before .look-up-line .ensures)
 
 returns-2 : tie.Need-returns-2
-returns-2 c = number-line _ _ _ _ (c .before .before .before .before .before .parse .ensures) _ _ _ _ (c .before .before .before .request2 .given .1) (c .before .position-of .ensures) (c .placed-slip .ensures)
+returns-2 c =
+    number-line _ _ _ _ (c .before .before .before .before .before .parse .ensures) _ _ _ _
+    (c .before .before .before .request2 .given .1) (c .before .position-of .ensures) (c .placed-slip .ensures)
 
 returns-3 : tie.Need-returns-3
-returns-3 c = refused-line _ _ _ _ (c .before .before .before .before .parse .ensures) _ _ (c .before .before .request3 .given .1) (c .answer-slip .ensures)
+returns-3 c =
+    refused-line _ _ _ _ (c .before .before .before .before .parse .ensures) _ _
+    (c .before .before .request3 .given .1) (c .answer-slip .ensures)
 
 pub answer-line-spec : {M : Type 1} → statement M
-answer-line-spec = tie.close (tie.spec parse-requires enum-known-request look-up-line-requires enum-known-request-2 position-of-requires placed-slip-requires enum-known-request-3 answer-slip-requires same-length returns returns-2 returns-3)
+answer-line-spec =
+    tie.close
+    (tie.spec parse-requires enum-known-request look-up-line-requires enum-known-request-2 position-of-requires
+    placed-slip-requires enum-known-request-3 answer-slip-requires same-length returns returns-2 returns-3)

@@ -27,20 +27,24 @@ module _ (occ occ′ : ℕ → Bool) (t : ℕ) (fewer : (u : ℕ) → (u ≡ t �
       and-both on (eqb u t || not (occ′ u) && line occ′ n u dx dy t) (and-left on goal h)
       (go (eqb u t) refl (λ r. line-fewer n u dx dy r) (and-right on goal h))
     where
-      go : (b : Bool) → eqb (shift s dx dy) t ≡ b → (T (line occ n (shift s dx dy) dx dy t) → T (line occ′ n (shift s dx dy) dx dy t))
-          → T (b || not (occ (shift s dx dy)) && line occ n (shift s dx dy) dx dy t) → T (b || not (occ′ (shift s dx dy)) && line occ′ n (shift s dx dy) dx dy t)
+      go : (b : Bool) → eqb (shift s dx dy) t ≡ b
+          → (T (line occ n (shift s dx dy) dx dy t) → T (line occ′ n (shift s dx dy) dx dy t))
+          → T (b || not (occ (shift s dx dy)) && line occ n (shift s dx dy) dx dy t)
+          → T (b || not (occ′ (shift s dx dy)) && line occ′ n (shift s dx dy) dx dy t)
       go true e more r = tt
       go false e more r =
           let u = shift s dx dy in
           and-both (not (occ′ u)) (line occ′ n u dx dy t)
-          (not-T (occ′ u) (λ o. T-not (occ u) (and-left (not (occ u)) (line occ n u dx dy t) r) (fewer u (eqb-false u t e) o)))
+          (not-T (occ′ u)
+          (λ o. T-not (occ u) (and-left (not (occ u)) (line occ n u dx dy t) r) (fewer u (eqb-false u t e) o)))
           (more (and-right (not (occ u)) (line occ n u dx dy t) r))
 
   pub reaches-fewer : (kind s : ℕ) → T (reaches occ kind s t) → T (reaches occ′ kind s t)
   unfolding reaches
   reaches-fewer kind s h =
       let w = any-out (lineOf occ kind s t) (stepsOf kind) h in
-      any-in (lineOf occ′ kind s t) (w .1) (line-fewer (getD stepRanges kind 0) s (getD stepXs (w .0) 0) (getD stepYs (w .0) 0) (w .2))
+      any-in (lineOf occ′ kind s t) (w .1)
+      (line-fewer (getD stepRanges kind 0) s (getD stepXs (w .0) 0) (getD stepYs (w .0) 0) (w .2))
 
 -- on the empty board, by one test over all kinds and squares
 away : ℕ → ℕ → Bool
@@ -52,7 +56,8 @@ all-away = tt
 
 pub reaches-own : (occ : ℕ → Bool) (kind s : ℕ) → reaches occ kind s s ≡ false
 unfolding away
-reaches-own occ kind s = ⊎-elim (λ h. reaches-none occ kind s s h) (λ h. fails (reaches occ kind s s) (λ r. own h r)) (le-or-lt 6 kind)
+reaches-own occ kind s =
+    ⊎-elim (λ h. reaches-none occ kind s s h) (λ h. fails (reaches occ kind s s) (λ r. own h r)) (le-or-lt 6 kind)
   where
     own : kind < 6 → T (reaches occ kind s s) → ⊥
     own h r =

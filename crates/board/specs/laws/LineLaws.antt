@@ -25,12 +25,14 @@ line-squares occ (suc n) s dx dy t h =
     let more = not (occ u) && line occ n u dx dy t in
     let on = ltb→lt u 64 (and-left (ltb u 64) (eqb u t || more) h) in (
       shift-from s dx dy on,
-      ⊎-elim (λ e. subst (λ (z : ℕ). z < 64) (eqb→eq u t e) on) (λ r. line-squares occ n u dx dy t (and-right (not (occ u)) (line occ n u dx dy t) r) .1)
+      ⊎-elim (λ e. subst (λ (z : ℕ). z < 64) (eqb→eq u t e) on)
+          (λ r. line-squares occ n u dx dy t (and-right (not (occ u)) (line occ n u dx dy t) r) .1)
           (or-cases (eqb u t) more (and-right (ltb u 64) (eqb u t || more) h)),
     )
 
 -- only what stands on the board counts
-pub line-same : (occ occ′ : ℕ → Bool) → ((u : ℕ) → u < 64 → occ u ≡ occ′ u) → (n s dx dy t : ℕ) → line occ n s dx dy t ≡ line occ′ n s dx dy t
+pub line-same : (occ occ′ : ℕ → Bool) → ((u : ℕ) → u < 64 → occ u ≡ occ′ u) → (n s dx dy t : ℕ)
+    → line occ n s dx dy t ≡ line occ′ n s dx dy t
 unfolding line
 line-same occ occ′ same zero s dx dy t = refl
 line-same occ occ′ same (suc n) s dx dy t =

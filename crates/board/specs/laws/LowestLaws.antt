@@ -43,18 +43,27 @@ trailing-pack p zero k = refl
 trailing-pack p (suc n) k = rw (pack-low, pack-rest) (go (p k) (trailing-pack p n (suc k)))
   where
     go : (b : Bool) → suc k + trailingZeros n (pack p n (suc k)) ≡ getD (filter p (numbers n (suc k))) 0 (suc k + n)
-        → k + under (digit b) (trailingZeros n (pack p n (suc k))) ≡ getD (keep b k (filter p (numbers n (suc k)))) 0 (k + suc n)
+        → k + under (digit b) (trailingZeros n (pack p n (suc k)))
+        ≡ getD (keep b k (filter p (numbers n (suc k)))) 0 (k + suc n)
     go true e = add-zero k
-    go false e = rw (add-suc k (trailingZeros n (pack p n (suc k))), add-suc k n, ← suc-add k n, ← suc-add k (trailingZeros n (pack p n (suc k)))) e
+    go false e =
+        rw (
+          add-suc k (trailingZeros n (pack p n (suc k))),
+          add-suc k n,
+          ← suc-add k n,
+          ← suc-add k (trailingZeros n (pack p n (suc k))),
+        ) e
 
 pub trailing-lowest : (set : ℕ) → set < 2 ^ 64 → trailingZeros 64 set ≡ lowestSquare set
 unfolding setOf members squares
-trailing-lowest set h = ap (trailingZeros 64) (sym (setOf-has set h)) ∙ sym (zero-add (trailingZeros 64 (pack (has set) 64 0))) ∙ trailing-pack (has set) 64 0
+trailing-lowest set h = ap (trailingZeros 64) (sym (setOf-has set h))
+    ∙ sym (zero-add (trailingZeros 64 (pack (has set) 64 0))) ∙ trailing-pack (has set) 64 0
 
 -- ---- the set without its lowest member
 
 -- the numbers that pass, without the first of them
-tail-filter : (p : ℕ → Bool) (n k x : ℕ) (l : List ℕ) → filter p (numbers n k) ≡ x ∷ l → filter (λ u. p u && not (eqb u x)) (numbers n k) ≡ l
+tail-filter : (p : ℕ → Bool) (n k x : ℕ) (l : List ℕ) → filter p (numbers n k) ≡ x ∷ l
+    → filter (λ u. p u && not (eqb u x)) (numbers n k) ≡ l
 unfolding filter numbers
 tail-filter p zero k x l e = absurd (let z : _≡_ {A = ℕ} 0 1 = cc in omega arith)
 tail-filter p (suc n) k x l e = go (p k) refl (λ d. tail-filter p n (suc k) x l d) e
@@ -62,7 +71,8 @@ tail-filter p (suc n) k x l e = go (p k) refl (λ d. tail-filter p n (suc k) x l
     rest : List ℕ
     rest = filter (λ u. p u && not (eqb u x)) (numbers n (suc k))
 
-    go : (b : Bool) → p k ≡ b → (filter p (numbers n (suc k)) ≡ x ∷ l → rest ≡ l) → keep b k (filter p (numbers n (suc k))) ≡ x ∷ l → keep (p k && not (eqb k x)) k rest ≡ l
+    go : (b : Bool) → p k ≡ b → (filter p (numbers n (suc k)) ≡ x ∷ l → rest ≡ l)
+        → keep b k (filter p (numbers n (suc k))) ≡ x ∷ l → keep (p k && not (eqb k x)) k rest ≡ l
     go true d f q =
         let ex : k ≡ x = cc in
         let el : filter p (numbers n (suc k)) ≡ l = cc in
@@ -86,9 +96,12 @@ pub record Lowest (set t r : ℕ) : Type 0 where
 
 -- a set with no members is 0
 empty-set : (set : ℕ) → set < 2 ^ 64 → members set ≡ [] → set ≡ 0
-empty-set set h e = sym (set-is (has set) 0 (omega arith) (λ u l. has-none u ∙ sym (fails (has set u) (λ t. none-in e (members-in set u l t)))) ∙ setOf-has set h)
+empty-set set h e =
+    sym (set-is (has set) 0 (omega arith)
+    (λ u l. has-none u ∙ sym (fails (has set u) (λ t. none-in e (members-in set u l t)))) ∙ setOf-has set h)
 
-pub lowest-of : (set t r : ℕ) → set < 2 ^ 64 → (set ≡ 0 → ⊥) → t ≡ lowestSquare set → r ≡ setOf (λ u. has set u && not (eqb u t)) → Lowest set t r
+pub lowest-of : (set t r : ℕ) → set < 2 ^ 64 → (set ≡ 0 → ⊥) → t ≡ lowestSquare set
+    → r ≡ setOf (λ u. has set u && not (eqb u t)) → Lowest set t r
 lowest-of set t r h some et er = go (members set) refl
   where
     facts : members set ≡ t ∷ members r → Lowest set t r
@@ -104,11 +117,13 @@ lowest-of set t r h some et er = go (members set) refl
       where
         split : (u : ℕ) → u < 64 → (b : Bool) → eqb u t ≡ b → T (has set t) → has set u ≡ (eqb u t || has r u)
         split u l true q s = rw (q, eqb-true u t q, true-of {b = has set t} s)
-        split u l false q s = rw (q, er, has-setOf (λ u. has set u && not (eqb u t)) u l, q) (sym (and-true (has set u)))
+        split u l false q s =
+            rw (q, er, has-setOf (λ u. has set u && not (eqb u t)) u l, q) (sym (and-true (has set u)))
 
     go : (l : List ℕ) → members set ≡ l → Lowest set t r
     go [] e = absurd (some (empty-set set h e))
     go (x ∷ l) e =
         let ex : t ≡ x = et ∙ ap (λ (k : List ℕ). getD k 0 64) e in
-        let er′ : members r ≡ l = ap members er ∙ members-setOf (λ u. has set u && not (eqb u t)) ∙ rw ex (tail-members set x l e) in
+        let er′ : members r ≡ l = ap members er ∙ members-setOf (λ u. has set u && not (eqb u t))
+        ∙ rw ex (tail-members set x l e) in
         facts (e ∙ rw (ex, er′))

@@ -25,12 +25,16 @@ reaches-squares occ kind s t h =
 
 pub reaches-off : (occ : ℕ → Bool) (kind s t : ℕ) → (64 ≤ s) ⊎ (64 ≤ t) → reaches occ kind s t ≡ false
 reaches-off occ kind s t h =
-    fails (reaches occ kind s t) (λ r. let w = reaches-squares occ kind s t r in let a = w .0 in let b = w .1 in ⊎-elim (λ q. omega arith) (λ q. omega arith) h)
+    fails (reaches occ kind s t)
+    (λ r. let w = reaches-squares occ kind s t r in let a = w .0 in let b = w .1 in
+    ⊎-elim (λ q. omega arith) (λ q. omega arith) h)
 
 -- what the set of the squares that a piece reaches holds, on the board and off it
-pub reaches-has : (occ : ℕ → Bool) (kind s t : ℕ) {set : ℕ} → set ≡ setOf (reaches occ kind s) → set < 2 ^ 64 → has set t ≡ reaches occ kind s t
+pub reaches-has : (occ : ℕ → Bool) (kind s t : ℕ) {set : ℕ} → set ≡ setOf (reaches occ kind s) → set < 2 ^ 64
+    → has set t ≡ reaches occ kind s t
 reaches-has occ kind s t {set} e f =
-    ⊎-elim (λ q. has-off set t q f ∙ sym (reaches-off occ kind s t (inr q))) (set-has (reaches occ kind s) e t) (le-or-lt 64 t)
+    ⊎-elim (λ q. has-off set t q f ∙ sym (reaches-off occ kind s t (inr q))) (set-has (reaches occ kind s) e t)
+    (le-or-lt 64 t)
 
 -- a code above the king's has no steps
 pub no-steps : (kind : ℕ) → 6 ≤ kind → stepsOf kind ≡ []
@@ -47,22 +51,27 @@ unfolding reaches any numbers
 reaches-four occ s t = refl
 
 -- what is not a queen, rook, bishop, knight or king reaches nothing
-pub reaches-other : (occ : ℕ → Bool) (kind s t : ℕ) → 2 < kind → (kind ≡ 3 → ⊥) → (kind ≡ 5 → ⊥) → reaches occ kind s t ≡ false
+pub reaches-other : (occ : ℕ → Bool) (kind s t : ℕ) → 2 < kind → (kind ≡ 3 → ⊥) → (kind ≡ 5 → ⊥)
+    → reaches occ kind s t ≡ false
 reaches-other occ kind s t h a b =
-    ⊎-elim (reaches-none occ kind s t) (λ q. let e : kind ≡ 4 = omega arith in rw e (reaches-four occ s t)) (le-or-lt 6 kind)
+    ⊎-elim (reaches-none occ kind s t) (λ q. let e : kind ≡ 4 = omega arith in rw e (reaches-four occ s t))
+    (le-or-lt 6 kind)
 
 -- only what stands on the board counts
-pub reaches-same : (occ occ′ : ℕ → Bool) → ((u : ℕ) → u < 64 → occ u ≡ occ′ u) → (kind s t : ℕ) → reaches occ kind s t ≡ reaches occ′ kind s t
+pub reaches-same : (occ occ′ : ℕ → Bool) → ((u : ℕ) → u < 64 → occ u ≡ occ′ u) → (kind s t : ℕ)
+    → reaches occ kind s t ≡ reaches occ′ kind s t
 unfolding reaches
 reaches-same occ occ′ same kind s t =
     any-same (lineOf occ kind s t) (lineOf occ′ kind s t) (stepsOf kind)
     (λ k m. line-same occ occ′ same (getD stepRanges kind 0) s (getD stepXs k 0) (getD stepYs k 0) t)
 
 -- nothing stands in the way of a piece that makes single steps: the king and the knight
-near-reaches : (occ occ′ : ℕ → Bool) (kind s t : ℕ) → getD stepRanges kind 0 ≡ 1 → reaches occ kind s t ≡ reaches occ′ kind s t
+near-reaches : (occ occ′ : ℕ → Bool) (kind s t : ℕ) → getD stepRanges kind 0 ≡ 1
+    → reaches occ kind s t ≡ reaches occ′ kind s t
 unfolding reaches
 near-reaches occ occ′ kind s t e =
-    any-same (lineOf occ kind s t) (lineOf occ′ kind s t) (stepsOf kind) (λ k m. rw e (line-one occ occ′ s (getD stepXs k 0) (getD stepYs k 0) t))
+    any-same (lineOf occ kind s t) (lineOf occ′ kind s t) (stepsOf kind)
+    (λ k m. rw e (line-one occ occ′ s (getD stepXs k 0) (getD stepYs k 0) t))
 
 pub king-reaches : (occ occ′ : ℕ → Bool) (s t : ℕ) → reaches occ 5 s t ≡ reaches occ′ 5 s t
 king-reaches occ occ′ s t = near-reaches occ occ′ 5 s t refl
@@ -100,4 +109,8 @@ kind-le kind h = leb→le (getD firstSteps kind 0 + getD stepCounts kind 0) 16 (
 
 -- each step of a kind is a small one
 pub step-of : (kind k : ℕ) → k ∈ stepsOf kind → (getD stepXs k 0 < 5) × (getD stepYs k 0 < 5)
-step-of kind k i = step-lt k (⊎-elim (λ h. absurd (none-in (no-steps kind h) i)) (λ h. let a = kind-le kind h in omega (arith, numbers-out (getD stepCounts kind 0) (getD firstSteps kind 0) k i .1)) (le-or-lt 6 kind))
+step-of kind k i =
+    step-lt k
+    (⊎-elim (λ h. absurd (none-in (no-steps kind h) i))
+    (λ h. let a = kind-le kind h in
+    omega (arith, numbers-out (getD stepCounts kind 0) (getD firstSteps kind 0) k i .1)) (le-or-lt 6 kind))

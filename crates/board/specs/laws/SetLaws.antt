@@ -135,7 +135,8 @@ pack-rest p n k = omega (arith, digit-le (p k))
 has-pack : (p : ℕ → Bool) (n k i : ℕ) → i < n → has (pack p n k) i ≡ p (k + i)
 has-pack p zero k i h = absurd (omega arith)
 has-pack p (suc n) k zero h = rw (div-one, pack-low, eqb-digit, add-zero)
-has-pack p (suc n) k (suc i) h = has-suc (pack p (suc n) k) i ∙ rw (pack-rest, has-pack p n (suc k) i (le-of-suc-le-suc h), suc-add, add-suc)
+has-pack p (suc n) k (suc i) h =
+    has-suc (pack p (suc n) k) i ∙ rw (pack-rest, has-pack p n (suc k) i (le-of-suc-le-suc h), suc-add, add-suc)
 
 pack-same : (p q : ℕ → Bool) (n k : ℕ) → ((i : ℕ) → k ≤ i → i < k + n → p i ≡ q i) → pack p n k ≡ pack q n k
 unfolding pack
@@ -152,7 +153,13 @@ pack-has : (n s : ℕ) → s < 2 ^ n → pack (has s) n 0 ≡ s
 unfolding pack
 pack-has zero s h = omega arith
 pack-has (suc n) s h =
-    rw (← pack-next (has s) n 0, pack-same (λ i. has s (suc i)) (has (s / 2)) n 0 (λ i a b. has-suc s i), pack-has n (s / 2) (half-lt n s h), has-zero, digit-eqb (s % 2) (omega arith))
+    rw (
+      ← pack-next (has s) n 0,
+      pack-same (λ i. has s (suc i)) (has (s / 2)) n 0 (λ i a b. has-suc s i),
+      pack-has n (s / 2) (half-lt n s h),
+      has-zero,
+      digit-eqb (s % 2) (omega arith),
+    )
     (omega arith)
 
 pub has-setOf : (p : ℕ → Bool) (u : ℕ) → u < 64 → has (setOf p) u ≡ p u

@@ -36,7 +36,8 @@ stays-facts s dx dy t =
 -- a step that leaves it
 pub shift-out : (s dx dy : ℕ) → (Stays s dx dy → ⊥) → shift s dx dy ≡ 64
 unfolding shift
-shift-out s dx dy f = cond-false (stays s dx dy) ((s / 8 + dy - 2) * 8 + (s % 8 + dx - 2)) 64 (λ t. f (stays-facts s dx dy t))
+shift-out s dx dy f =
+    cond-false (stays s dx dy) ((s / 8 + dy - 2) * 8 + (s % 8 + dx - 2)) 64 (λ t. f (stays-facts s dx dy t))
 
 -- off the board no step leads anywhere
 pub shift-off : (s dx dy : ℕ) → 64 ≤ s → shift s dx dy ≡ 64
@@ -46,7 +47,8 @@ pub shift-le : (s dx dy : ℕ) → shift s dx dy ≤ 64
 unfolding shift
 shift-le s dx dy =
     by-test (stays s dx dy)
-    (λ t. let h = stays-facts s dx dy t in rw (cond-true (stays s dx dy) ((s / 8 + dy - 2) * 8 + (s % 8 + dx - 2)) 64 t) (omega arith))
+    (λ t. let h = stays-facts s dx dy t in
+    rw (cond-true (stays s dx dy) ((s / 8 + dy - 2) * 8 + (s % 8 + dx - 2)) 64 t) (omega arith))
     (λ f. rw (cond-false (stays s dx dy) ((s / 8 + dy - 2) * 8 + (s % 8 + dx - 2)) 64 f) (omega arith))
 
 -- a step that ends on the board starts on it

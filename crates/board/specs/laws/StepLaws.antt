@@ -1,13 +1,13 @@
 -- Steps of a square's bit by shifts and masks: that they are the steps of the board, and steps made once.
 -- A step is one number here, its change of file and 8 times its change of rank (Square).
 use mathlib.Core.Path.{_≡_, sym, ap, _∙_}
-use mathlib.Core.Bool.{Bool, false, cond, _&&_, _||_, or-false}
+use mathlib.Core.Bool.{Bool, false, _&&_, _||_, or-false}
 use mathlib.Core.List.{List, [], _∷_}
 use mathlib.Core.Logic.{⊎-elim}
-use Prim.Native.Nat.{ℕ, _+_, _-_, _*_, _/_, _%_, _^_, _<_}
+use Prim.Native.Nat.{ℕ, _+_, _-_, _*_, _/_, _%_, _<_}
 use native.Mathlib.Omega.{arith}
-use lib.Dec.{T, leb, ltb, eqb, eqb→eq}
-use lib.Bits.{bitAnd, bitOr}
+use lib.Dec.{T, eqb, eqb→eq}
+use lib.Bits.{bitOr}
 use lib.ListN.{getD}
 use borrow.Author.Tests.{lt-ltb}
 use Rattle.finite.specs.Truth.{eqb-sym, le-or-lt, and-left, and-right}
@@ -26,7 +26,8 @@ use Rattle.board.specs.StepLaws.{IsStep, endsOn, next, stepBits}
 
 -- the code's table of these squares
 abbrev stepEnds : List ℕ
-stepEnds = 4557430888798830399 ∷ 9187201950435737471 ∷ 18446744073709551615 ∷ 18374403900871474942 ∷ 18229723555195321596 ∷ []
+stepEnds =
+    4557430888798830399 ∷ 9187201950435737471 ∷ 18446744073709551615 ∷ 18374403900871474942 ∷ 18229723555195321596 ∷ []
 
 ends-right : ℕ → Bool
 ends-right x = eqb (getD stepEnds x 0) (setOf (endsOn x))
@@ -48,7 +49,8 @@ unfolding allBelow allBelow2 allBelow3 shift-right stepBits shift stays
 shifts-right = tt
 
 module _ (b step ends : ℕ) (x : step % 8 < 5) (y : step / 8 < 5) (m : ends ≡ setOf (endsOn (step % 8))) where
-  pub step-bit : {r : ℕ} → r ≡ stepBits b step ends → (s : ℕ) → s < 64 → b ≡ bit s → r ≡ bit (shift s (step % 8) (step / 8))
+  pub step-bit : {r : ℕ} → r ≡ stepBits b step ends → (s : ℕ) → s < 64 → b ≡ bit s
+      → r ≡ bit (shift s (step % 8) (step / 8))
   unfolding shift-right
   step-bit q s h e =
       let parts : step ≡ step % 8 + 8 * (step / 8) = omega arith in
@@ -95,9 +97,11 @@ module _ (s k step b t : ℕ) (p : IsStep step k) (e : b ≡ bit (next s step)) 
       (λ q.
       let z : stepped s k ≡ 64 = omega (arith, shift-le s (getD stepXs k 0) (getD stepYs k 0)) in
       rw (lands, z) (has-none t) ∙ sym (line-off (λ u. false) 1 s (getD stepXs k 0) (getD stepYs k 0) t z))
-      (λ q. rw (lands, has-bit (stepped s k) t q h, eqb-sym t (stepped s k), lt-ltb (stepped s k) 64 q) (sym (or-false (eqb (stepped s k) t))))
+      (λ q. rw (lands, has-bit (stepped s k) t q h, eqb-sym t (stepped s k), lt-ltb (stepped s k) 64 q)
+      (sym (or-false (eqb (stepped s k) t))))
       (le-or-lt 64 (stepped s k))
 
   -- the set gathers it
-  pub once-next : (set : ℕ) → has (bitOr set b) t ≡ (has set t || line (λ u. false) 1 s (getD stepXs k 0) (getD stepYs k 0) t)
+  pub once-next : (set : ℕ)
+      → has (bitOr set b) t ≡ (has set t || line (λ u. false) 1 s (getD stepXs k 0) (getD stepYs k 0) t)
   once-next set = has-or set b t ∙ ap (λ z. has set t || z) once-has

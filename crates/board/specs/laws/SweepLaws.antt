@@ -18,9 +18,17 @@ module _ (occ : ℕ → Bool) (s k t : ℕ) (h : k < 8) (on : stepped s k < 64) 
   pub sweep-stop : occ (stepped s k) ≡ true → (a || lineOf occ 0 s t k) ≡ (a || eqb t (stepped s k))
   sweep-stop o = rw (line-next occ t s k h on, o, eqb-sym t (stepped s k), or-false (eqb (stepped s k) t))
 
-  pub sweep-next : occ (stepped s k) ≡ false → (a || lineOf occ 0 s t k) ≡ ((a || eqb t (stepped s k)) || lineOf occ 0 (stepped s k) t k)
-  sweep-next o = rw (line-next occ t s k h on, o, eqb-sym t (stepped s k), or-assoc a (eqb (stepped s k) t) (lineOf occ 0 (stepped s k) t k))
+  pub sweep-next : occ (stepped s k) ≡ false
+      → (a || lineOf occ 0 s t k) ≡ ((a || eqb t (stepped s k)) || lineOf occ 0 (stepped s k) t k)
+  sweep-next o =
+      rw (
+        line-next occ t s k h on,
+        o,
+        eqb-sym t (stepped s k),
+        or-assoc a (eqb (stepped s k) t) (lineOf occ 0 (stepped s k) t k),
+      )
 
 -- one more of the lines k up to e
-pub sweep-line : (f : ℕ → Bool) (k e : ℕ) → k < e → (a : Bool) → (a || any f (numbers (e - k) k)) ≡ ((a || f k) || any f (numbers (e - (k + 1)) (k + 1)))
+pub sweep-line : (f : ℕ → Bool) (k e : ℕ) → k < e → (a : Bool)
+    → (a || any f (numbers (e - k) k)) ≡ ((a || f k) || any f (numbers (e - (k + 1)) (k + 1)))
 sweep-line f k e l a = rw (any-first f k e l, or-assoc a (f k) (any f (numbers (e - (k + 1)) (k + 1))))

@@ -97,7 +97,8 @@ module _ (k step s b : ℕ) (h : k < 8) (p : IsStep step k) (e : b ≡ bit (next
   pub on-board : (b ≡ 0 → ⊥) → stepped s k < 64
   on-board z =
       ⊎-elim
-      (λ q. let o : stepped s k ≡ 64 = omega (arith, shift-le s (getD stepXs k 0) (getD stepYs k 0)) in absurd (z (lands ∙ rw o)))
+      (λ q. let o : stepped s k ≡ 64 = omega (arith, shift-le s (getD stepXs k 0) (getD stepYs k 0)) in
+      absurd (z (lands ∙ rw o)))
       (λ q. q)
       (le-or-lt 64 (stepped s k))
 
@@ -108,7 +109,9 @@ module _ (k step s b : ℕ) (h : k < 8) (p : IsStep step k) (e : b ≡ bit (next
       let here = getD stepXs k 0 + 8 * getD stepYs k 0 in
       let less = ltb (left here (bit (stepped s k))) (left here (bit s)) in
       rw (lands, parts)
-      (ltb→lt (left here (bit (stepped s k))) (left here (bit s)) (implied (ltb (stepped s k) 64) less (below2 nearer-right 8 64 all-nearer k s h l) (of-true (lt-ltb (stepped s k) 64 q))))
+      (ltb→lt (left here (bit (stepped s k))) (left here (bit s))
+      (implied (ltb (stepped s k) 64) less (below2 nearer-right 8 64 all-nearer k s h l)
+      (of-true (lt-ltb (stepped s k) 64 q))))
 
   module _ (occ : ℕ) (f : occ < 2 ^ 64) where
     pub meets-edge : b ≡ 0 → walkOf (has occ) s k ≡ Met.Edge
@@ -117,7 +120,8 @@ module _ (k step s b : ℕ) (h : k < 8) (p : IsStep step k) (e : b ≡ bit (next
     pub meets-piece : (b ≡ 0 → ⊥) → (bitAnd b occ ≡ 0 → ⊥) → walkOf (has occ) s k ≡ Met.At (lowestSquare b)
     meets-piece z o =
         let q = on-board z in
-        walk-next (has occ) s k h q ∙ rw (shared (stepped s k) occ q f (λ y. o (rw lands y)), lands, lowest-bit (stepped s k) q)
+        walk-next (has occ) s k h q
+        ∙ rw (shared (stepped s k) occ q f (λ y. o (rw lands y)), lands, lowest-bit (stepped s k) q)
 
     pub goes-on : (b ≡ 0 → ⊥) → bitAnd b occ ≡ 0 → walkOf (has occ) s k ≡ walkOf (has occ) (stepped s k) k
     goes-on z o = let q = on-board z in walk-next (has occ) s k h q ∙ rw (apart (stepped s k) occ q (rw (← lands) o))
@@ -131,10 +135,14 @@ module _ (k step s b : ℕ) (h : k < 8) (p : IsStep step k) (e : b ≡ bit (next
 
     -- the set gathers the squares of a line
     module _ (set t : ℕ) (l : t < 64) where
-      pub gathers-on : (free ≡ 0 → ⊥) → (has set t || lineOf (has occ) 0 s t k) ≡ (has (bitOr set b) t || lineOf (has occ) 0 (stepped s k) t k)
+      pub gathers-on : (free ≡ 0 → ⊥)
+          → (has set t || lineOf (has occ) 0 s t k) ≡ (has (bitOr set b) t || lineOf (has occ) 0 (stepped s k) t k)
       gathers-on z =
           let q = free-board z in
-          let o : has occ (stepped s k) ≡ false = not-true (has occ (stepped s k)) (sym (has-not occ (stepped s k) q f) ∙ shared (stepped s k) ((2 ^ 64 - 1) - occ) q (omega arith) (λ y. z (rw lands y))) in
+          let o : has occ (stepped s k) ≡ false =
+          not-true (has occ (stepped s k))
+          (sym (has-not occ (stepped s k) q f)
+          ∙ shared (stepped s k) ((2 ^ 64 - 1) - occ) q (omega arith) (λ y. z (rw lands y))) in
           sweep-next (has occ) s k t h q (has set t) o ∙ rw (lands, has-added set (stepped s k) t q l)
 
       pub gathers-last : free ≡ 0 → (has set t || lineOf (has occ) 0 s t k) ≡ has (bitOr set b) t
@@ -148,5 +156,7 @@ module _ (k step s b : ℕ) (h : k < 8) (p : IsStep step k) (e : b ≡ bit (next
 
           piece : stepped s k < 64 → (has set t || lineOf (has occ) 0 s t k) ≡ has (bitOr set b) t
           piece q =
-              let o : has occ (stepped s k) ≡ true = not-false (has occ (stepped s k)) (sym (has-not occ (stepped s k) q f) ∙ apart (stepped s k) ((2 ^ 64 - 1) - occ) q (rw (← lands) z)) in
+              let o : has occ (stepped s k) ≡ true =
+              not-false (has occ (stepped s k))
+              (sym (has-not occ (stepped s k) q f) ∙ apart (stepped s k) ((2 ^ 64 - 1) - occ) q (rw (← lands) z)) in
               sweep-stop (has occ) s k t h q (has set t) o ∙ sym (rw (lands, has-added set (stepped s k) t q l))

@@ -77,15 +77,19 @@ module _ (occ : ℕ → Bool) (s k : ℕ) (h : k < 8) where
   walk-edge q = walk-first ∙ rw (le-ltb (stepped s k) 64 q)
 
   -- a square does: it is the first met, or the walk goes on from there
-  pub walk-next : stepped s k < 64 → walkOf occ s k ≡ cond (occ (stepped s k)) (Met.At (stepped s k)) (walkOf occ (stepped s k) k)
+  pub walk-next : stepped s k < 64
+      → walkOf occ s k ≡ cond (occ (stepped s k)) (Met.At (stepped s k)) (walkOf occ (stepped s k) k)
   unfolding firstMet walkOf
   walk-next q = walk-first ∙ rw (lt-ltb (stepped s k) 64 q, lt-ltb k 8 h)
 
 -- only what stands on the board counts
-pub walk-same : (occ occ′ : ℕ → Bool) → ((u : ℕ) → u < 64 → occ u ≡ occ′ u) → (s k : ℕ) → walkOf occ s k ≡ walkOf occ′ s k
+pub walk-same : (occ occ′ : ℕ → Bool) → ((u : ℕ) → u < 64 → occ u ≡ occ′ u) → (s k : ℕ)
+    → walkOf occ s k ≡ walkOf occ′ s k
 unfolding walkOf firstMet
 walk-same occ occ′ same s k = rw (go 7 s)
   where
     go : (n s : ℕ) → firstMet occ n s k ≡ firstMet occ′ n s k
     go zero s = refl
-    go (suc n) s = ⊎-elim (λ h. rw (le-ltb (stepped s k) 64 h)) (λ h. rw (same (stepped s k) h, go n (stepped s k))) (le-or-lt 64 (stepped s k))
+    go (suc n) s =
+        ⊎-elim (λ h. rw (le-ltb (stepped s k) 64 h)) (λ h. rw (same (stepped s k) h, go n (stepped s k)))
+        (le-or-lt 64 (stepped s k))

@@ -39,7 +39,16 @@ digit-requires-7 c κs = search needs
 
 returns : tie.Need-returns
 unfolding digitBytes digits withCheck
-returns c = simp (c .before .before .before .before .before .before .digit .ensures, c .before .before .before .before .before .digit2 .ensures, c .before .before .before .before .digit3 .ensures, c .before .before .before .digit4 .ensures, c .before .before .digit5 .ensures, c .before .digit6 .ensures, c .digit7 .ensures, c .before .before .before .before .before .before .before .check-after .ensures)
+returns c = simp (
+  c .before .before .before .before .before .before .digit .ensures,
+  c .before .before .before .before .before .digit2 .ensures,
+  c .before .before .before .before .digit3 .ensures,
+  c .before .before .before .digit4 .ensures,
+  c .before .before .digit5 .ensures,
+  c .before .digit6 .ensures,
+  c .digit7 .ensures,
+  c .before .before .before .before .before .before .before .check-after .ensures,
+)
 
 pub seven-bytes-spec : {M : Type 1} → statement M
 seven-bytes-spec =

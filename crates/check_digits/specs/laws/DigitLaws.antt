@@ -21,7 +21,8 @@ unfolding digits reading
 digits-read zero n h = omega arith
 digits-read (suc k) n h =
     let s : n / 10 < 10 ^ k = omega arith in
-    reading-last (digits k (n / 10)) 0 (n % 10) ∙ ap (λ (m : ℕ). m * 10 + n % 10) (digits-read k (n / 10) s) ∙ omega arith
+    reading-last (digits k (n / 10)) 0 (n % 10) ∙ ap (λ (m : ℕ). m * 10 + n % 10) (digits-read k (n / 10) s)
+    ∙ omega arith
 
 getD-last : (ds : List ℕ) (d k : ℕ) → Digits ds → d < 10 → getD (ds ++ (d ∷ [])) k 0 < 10
 getD-last [] d zero h l = l
@@ -37,7 +38,8 @@ digits-small (suc k) n i = getD-last (digits k (n / 10)) (n % 10) i (digits-smal
 pub digits-length : (k n : ℕ) → length (digits k n) ≡ k
 unfolding digits
 digits-length zero n = refl
-digits-length (suc k) n = length-append (digits k (n / 10)) (n % 10 ∷ []) ∙ ap (λ (m : ℕ). m + 1) (digits-length k (n / 10)) ∙ add-one k
+digits-length (suc k) n =
+    length-append (digits k (n / 10)) (n % 10 ∷ []) ∙ ap (λ (m : ℕ). m + 1) (digits-length k (n / 10)) ∙ add-one k
 
 -- a number of five digits, written with its check: seven digits that name both, and are right
 pub written-reads : (n : ℕ) → n < 100000 → reading 0 (digits 7 (withCheck n)) ≡ withCheck n

@@ -22,7 +22,8 @@ pub exchanged-drop : (n i : ℕ) (xs : List ℕ) → drop n (exchanged (n + i) x
 unfolding exchanged
 exchanged-drop zero i xs = ap (λ (k : ℕ). exchanged k xs) (zero-add i)
 exchanged-drop (suc n) i [] = refl
-exchanged-drop (suc n) i (x ∷ xs) = ap (λ (k : ℕ). drop (suc n) (exchanged k (x ∷ xs))) (suc-add n i) ∙ exchanged-drop n i xs
+exchanged-drop (suc n) i (x ∷ xs) =
+    ap (λ (k : ℕ). drop (suc n) (exchanged k (x ∷ xs))) (suc-add n i) ∙ exchanged-drop n i xs
 
 pub exchanged-map : (f : ℕ → ℕ) (i : ℕ) (xs : List ℕ) → map f (exchanged i xs) ≡ exchanged i (map f xs)
 unfolding exchanged

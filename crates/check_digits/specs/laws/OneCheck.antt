@@ -37,7 +37,9 @@ check-range n = (omega arith, omega arith)
 
 pub check-right : (n : ℕ) → T (rightNumber (withCheck n))
 unfolding checkAfter withCheck
-check-right n = facts-right (100 * n + (98 - (100 * n) % 97)) (record { leaves = omega arith; least = omega arith; most = omega arith })
+check-right n =
+    facts-right (100 * n + (98 - (100 * n) % 97))
+    (record { leaves = omega arith; least = omega arith; most = omega arith })
 
 pub check-only : (n c : ℕ) → c < 100 → T (rightNumber (100 * n + c)) → c ≡ checkAfter n
 unfolding checkAfter

@@ -23,12 +23,12 @@ use Rattle.numbering.specs.Normal.{firstAbove, turn, swapsKings, normalMap, nor
 use Rattle.numbering.specs.Number.{keyFrom, keyOf, numberOf}
 use Rattle.position.specs.declared.Position.{Position}
 use Rattle.position.specs.Keyed.{boardOf, lone}
-use Rattle.position.specs.Refusals.{badSquare, sharedSquare, placing, standing}
-use Rattle.index.specs.declared.Numbered.{Numbered}
+use Rattle.position.specs.Refusals.{badSquare, sharedSquare, placingRefusal, standingRefusal}
+use Rattle.index.specs.declared.NumberAnswer.{NumberAnswer}
 use Rattle.index.specs.declared.Placed.{Placed}
-use Rattle.index.specs.Answers.{numbered, positionAt, unused, placedAt}
+use Rattle.index.specs.Answers.{numberAnswer, positionAt, unused, placedAt}
 use Rattle.index.specs.laws.AnswerLaws.{placed-above, placed-unused, placed-used}
-use Rattle.endings.specs.Chess.{tableSize}
+use Rattle.endings.specs.Ending.{tableSize}
 use Rattle.endings.specs.laws.LastNumbers.{corner-kings, last-kings, last-unused}
 
 pub data Case : Type 0 where
@@ -40,14 +40,16 @@ pub data Case : Type 0 where
   drawn-no-move : Position → Case
 
 -- What a case says. A number is spoken of with any man.
-abbrev pub Holds : Case → Type 0
-Holds (has-number p n) = numbered p ≡ Numbered.Number n
-Holds (refused p r) = numbered p ≡ Numbered.Refused r
-Holds (back-refused n r) = (man : ℕ) → man < 4 → placedAt man n ≡ Placed.Refused r
-Holds (highest-used n) =
-    (man : ℕ) → man < 4 → (placedAt man n ≡ Placed.At (positionAt man n)) × ((k : ℕ) → n < k → k < tableSize → placedAt man k ≡ Placed.Refused 9)
-Holds (lost-in-0 p) = (standing p ≡ 0) × LostIn chess 0 (boardOf p) × (moves (boardOf p) ≡ [])
-Holds (drawn-no-move p) = (standing p ≡ 0) × Drawn chess (boardOf p) × (moves (boardOf p) ≡ [])
+abbrev pub CaseHolds : Case → Type 0
+CaseHolds (has-number p n) = numberAnswer p ≡ NumberAnswer.Number n
+CaseHolds (refused p r) = numberAnswer p ≡ NumberAnswer.Refused r
+CaseHolds (back-refused n r) = (kind : ℕ) → kind < 4 → placedAt kind n ≡ Placed.Refused r
+CaseHolds (highest-used n) =
+    (kind : ℕ) → kind < 4
+    → (placedAt kind n ≡ Placed.At (positionAt kind n))
+    × ((k : ℕ) → n < k → k < tableSize → placedAt kind k ≡ Placed.Refused 9)
+CaseHolds (lost-in-0 p) = (standingRefusal p ≡ 0) × LostIn chess 0 (boardOf p) × (moves (boardOf p) ≡ [])
+CaseHolds (drawn-no-move p) = (standingRefusal p ≡ 0) × Drawn chess (boardOf p) × (moves (boardOf p) ≡ [])
 
 -- a man by his kind, the side to move, the white king's square, the man's, the black king's
 abbrev pub starred : List Case
@@ -67,23 +69,27 @@ starred =
 
 data AllHold : List Case → Type 0 where
   no-more : AllHold []
-  also : {c : Case} {l : List Case} → Holds c → AllHold l → AllHold (c ∷ l)
+  also : {c : Case} {l : List Case} → CaseHolds c → AllHold l → AllHold (c ∷ l)
 
-each : {l : List Case} → AllHold l → (c : Case) → c ∈ l → Holds c
+each : {l : List Case} → AllHold l → (c : Case) → c ∈ l → CaseHolds c
 each no-more c m = absurd (List·Memᴰ·not-nil m)
-each (also h rest) c m = ⊎-elim (λ e. subst Holds (sym e) h) (each rest c) (List·Memᴰ·cases-cons m)
+each (also h rest) c m = ⊎-elim (λ e. subst CaseHolds (sym e) h) (each rest c) (List·Memᴰ·cases-cons m)
 
-pub bench : (c : Case) → c ∈ starred → Holds c
-unfolding numbered numberOf keyOf keyFrom normalised normalMap turn swapsKings firstAbove changed swapped mapped boardOf badSquare sharedSquare placing standing apart positionAt unused pairOf rank kingPair kingRule cornered separate reaches any all numbers line shift stays touching mated moves allMoves movesFrom movesOnto flatMap filter squares canMove goes goesTo stands moved inCheck attacked attacks occupied
+pub bench : (c : Case) → c ∈ starred → CaseHolds c
+unfolding numberAnswer numberOf keyOf keyFrom normalised normalMap turn swapsKings firstAbove changed swapped mapped boardOf badSquare sharedSquare placingRefusal standingRefusal apart positionAt unused pairOf rank kingPair kingRule cornered separate reaches any all numbers line shift stays touching mated moves allMoves movesFrom movesOnto flatMap filter squares canMove goes goesTo stands moved inCheck attacked attacks occupied
 bench =
     each
     (also refl
     (also refl
     (also refl
-    (also (λ man h. placed-unused man 2056 h (lit< tt) (rw corner-kings refl))
-    (also (λ man h. (placed-used man 59127 h (lit< tt) (rw last-kings refl), λ k a b. placed-unused man k h b (last-unused man k a b)))
-    (also (λ man h. placed-unused man 59128 h (lit< tt) (rw last-kings refl))
-    (also (λ man h. placed-above man 59136 h (omega arith))
+    (also (λ kind h. placed-unused kind 2056 h (lit< tt) (rw corner-kings refl))
+    (also (λ kind
+    h. (
+      placed-used kind 59127 h (lit< tt) (rw last-kings refl),
+      λ k a b. placed-unused kind k h b (last-unused kind k a b),
+    ))
+    (also (λ kind h. placed-unused kind 59128 h (lit< tt) (rw last-kings refl))
+    (also (λ kind h. placed-above kind 59136 h (omega arith))
     (also refl
     (also (refl, mate-is chess (boardOf (lone 1 1 16 7 0)) .1 tt, refl)
     (also (refl, mate-is chess (boardOf (lone 0 1 17 9 0)) .1 tt, refl)

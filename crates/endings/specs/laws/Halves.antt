@@ -13,23 +13,28 @@ use Rattle.rules.specs.Chess.{chess, played}
 use Rattle.position.specs.Keyed.{boardOf}
 use Rattle.numbering.specs.Number.{numberOf}
 use Rattle.index.specs.Answers.{positionAt}
-use Rattle.endings.specs.Chess.{Ending, tableSize, boardAt}
+use Rattle.endings.specs.Ending.{Ending, tableSize, loneBoardAt}
 use Rattle.endings.specs.laws.IndexLaws.{image-at, number-of-ending}
-use Rattle.endings.specs.laws.Endings.{has-man}
+use Rattle.endings.specs.laws.EndingLaws.{has-man}
 
-pub side-at : (man n : ℕ) → boardAt man n .side ≡ n / 64 / 462
-unfolding boardAt boardOf positionAt
-side-at man n = refl
+pub side-at : (kind n : ℕ) → loneBoardAt kind n .side ≡ n / 64 / 462
+unfolding loneBoardAt boardOf positionAt
+side-at kind n = refl
 
 side-changed : (m : Symmetry) (b : Board) → changed m false b .side ≡ b .side
 unfolding changed swapped
 side-changed m b = refl
 
 pub side-next : (b q : Board) → q ∈ next chess b → q .side ≡ 1 - b .side
-side-next b q i = let w = map-out (played b) q (moves b) i in ap (λ (c : Board). c .side) (w .2) ∙ moved-side b (w .0 .from) (w .0 .to)
+side-next b q i = let w = map-out (played b) q (moves b) i in ap (λ (c : Board). c .side) (w .2)
+    ∙ moved-side b (w .0 .from) (w .0 .to)
 
-pub number-side : (man : ℕ) (q : Board) → Ending man q → T (not (empty (q .men))) → (numberOf q < tableSize) × (numberOf q / 64 / 462 ≡ q .side)
-number-side man q d i =
-    let l = has-man man q d i in
-    let w = image-at man q (d .legality) l in
-    (number-of-ending man q (d .legality) l .0, sym (side-at man (numberOf q)) ∙ ap (λ (c : Board). c .side) (w .1) ∙ side-changed (w .0) q)
+pub number-side : (kind : ℕ) (q : Board) → Ending kind q → T (not (empty (q .men)))
+    → (numberOf q < tableSize) × (numberOf q / 64 / 462 ≡ q .side)
+number-side kind q d i =
+    let l = has-man kind q d i in
+    let w = image-at kind q (d .legality) l in (
+      number-of-ending kind q (d .legality) l .0,
+      sym (side-at kind (numberOf q)) ∙ ap (λ (c : Board). c .side) (w .1)
+          ∙ side-changed (w .0) q,
+    )

@@ -2,17 +2,15 @@
 -- with that number, and legal boards are those that no refusal from 1 to 6 meets.
 use mathlib.Core.Path.{_≡_, refl, sym, ap, subst, _∙_}
 use mathlib.Core.Bool.{Bool, true, false, not, _&&_, _||_}
-use mathlib.Core.List.{List, [], _∷_, map}
+use mathlib.Core.List.{List, _∷_}
 use Prim.Native.Nat.{ℕ, _<_}
-use native.Mathlib.Omega.{arith}
 use lib.Dec.{T, eqb, ltb}
-use borrow.Author.Tests.{lt-ltb, ne-eqb}
-use Rattle.finite.specs.Truth.{and-left, and-right, and-both, of-true, true-of, false-of, fails}
+use Rattle.finite.specs.Truth.{and-left, and-right, and-both, true-of}
 use Rattle.finite.specs.Members.{any, all}
 use Rattle.symmetry.specs.Symmetry.{Symmetry}
 use Rattle.rules.specs.declared.Piece.{Piece}
-use Rattle.rules.specs.Rules.{Board, pieceOf, pieces, apart, touching, legal}
-use Rattle.rules.specs.laws.Legal.{Legal, legal-facts}
+use Rattle.rules.specs.Rules.{Board, pieceOf, apart, touching, legal}
+use Rattle.rules.specs.laws.Legal.{legal-facts}
 use Rattle.rules.specs.Changed.{changed}
 use Rattle.rules.specs.laws.ChangedRules.{legal-changed}
 use Rattle.numbering.specs.Kings.{separate}
@@ -26,7 +24,7 @@ use Rattle.numbering.specs.laws.AtLaws.{used-number, at-number, number-used}
 use Rattle.position.specs.laws.PlacedLaws.{endingWith}
 use Rattle.index.specs.Answers.{positionAt, unused}
 use Rattle.index.specs.laws.AnswerLaws.{board-at, unused-exactly}
-use Rattle.endings.specs.Chess.{Lone, boardAt, legalNumber}
+use Rattle.endings.specs.Ending.{Lone, loneBoardAt, legalNumber}
 
 four : (a b c d : Bool) → T a → T b → c ≡ false → d ≡ false → T (a && b && not c && not d)
 four a b c d p q e f = rw (true-of {b = a} p, true-of {b = b} q, e, f) tt
@@ -46,47 +44,60 @@ legal-numberable b t =
       men = refl;
       side = l .side;
       squares = and-right (ltb (b .black) 64) men black;
-      kings = four (ltb (b .white) 64) (ltb (b .black) 64) (eqb (b .white) (b .black)) (reaches (λ s. false) 5 (b .white) (b .black)) (and-left (ltb (b .white) 64) (ltb (b .black) 64 && men) (l .squares)) (and-left (ltb (b .black) 64) men black)
-          (first-apart (eqb (b .white) (b .black)) (any (λ x. eqb (b .white) (x .square)) (b .men)) (apart (pieceOf 5 1 (b .black) ∷ b .men)) (l .apart)) (l .kings);
+      kings = four (ltb (b .white) 64) (ltb (b .black) 64) (eqb (b .white) (b .black))
+          (reaches (λ s. false) 5 (b .white) (b .black))
+          (and-left (ltb (b .white) 64) (ltb (b .black) 64 && men) (l .squares))
+          (and-left (ltb (b .black) 64) men black)
+          (first-apart (eqb (b .white) (b .black)) (any (λ x. eqb (b .white) (x .square)) (b .men))
+          (apart (pieceOf 5 1 (b .black) ∷ b .men)) (l .apart)) (l .kings);
     }
 
-lone-ending : (man : ℕ) (b : Board) → Lone man b → endingOf b ≡ endingWith man
+lone-ending : (kind : ℕ) (b : Board) → Lone kind b → endingOf b ≡ endingWith kind
 unfolding endingOf
-lone-ending man b l = rw (l .1)
+lone-ending kind b l = rw (l .1)
 
 -- the board of a position of the ending has a number in that ending
-lone-numberable : (man : ℕ) (b : Board) → T (legal b) → Lone man b → Numberable (endingWith man) b
-lone-numberable man b t l = subst (λ (e : List Piece). Numberable e b) (lone-ending man b l) (legal-numberable b t)
+lone-numberable : (kind : ℕ) (b : Board) → T (legal b) → Lone kind b → Numberable (endingWith kind) b
+lone-numberable kind b t l = subst (λ (e : List Piece). Numberable e b) (lone-ending kind b l) (legal-numberable b t)
 
-board-is : (man n : ℕ) → boardAt man n ≡ numbering.boardAt (endingWith man) n
-unfolding boardAt
-board-is man n = board-at man n
+board-is : (kind n : ℕ) → loneBoardAt kind n ≡ numbering.boardAt (endingWith kind) n
+unfolding loneBoardAt
+board-is kind n = board-at kind n
 
 -- numbers go with the eight maps
 pub number-image : (m : Symmetry) (b : Board) → T (legal b) → numberOf (changed m false b) ≡ numberOf b
 number-image m b t = number-mapped m b (legal-numberable b t)
 
 -- the board at a board's number is one of its images
-pub image-at : (man : ℕ) (b : Board) → T (legal b) → Lone man b → (m : Symmetry) × (boardAt man (numberOf b) ≡ changed m false b)
+pub image-at : (kind : ℕ) (b : Board) → T (legal b) → Lone kind b
+    → (m : Symmetry) × (loneBoardAt kind (numberOf b) ≡ changed m false b)
 unfolding normalised
-image-at man b t l = (normalMap b, board-is man (numberOf b) ∙ at-number b (lone-numberable man b t l))
+image-at kind b t l = (normalMap b, board-is kind (numberOf b) ∙ at-number b (lone-numberable kind b t l))
 
-used-is : (man n : ℕ) → used (boardAt man n) ≡ not (unused (positionAt man n))
-unfolding boardAt
-used-is man n = unused-exactly man n
+used-is : (kind n : ℕ) → used (loneBoardAt kind n) ≡ not (unused (positionAt kind n))
+unfolding loneBoardAt
+used-is kind n = unused-exactly kind n
 
 -- a legal board's number is in range, and legal
-pub number-of-ending : (man : ℕ) (b : Board) → T (legal b) → Lone man b → (numberOf b < 59136) × T (legalNumber man (numberOf b))
+pub number-of-ending : (kind : ℕ) (b : Board) → T (legal b) → Lone kind b
+    → (numberOf b < 59136) × T (legalNumber kind (numberOf b))
 unfolding legalNumber spread
-number-of-ending man b t l =
-    let s = lone-numberable man b t l in
-    let i = image-at man b t l in
-    let u : T (used (boardAt man (numberOf b))) = subst (λ (c : Board). T (used c)) (sym (board-is man (numberOf b))) (number-used b s (legal-facts b t .apart)) in
-    (number-lt b s, and-both (not (unused (positionAt man (numberOf b)))) (legal (boardAt man (numberOf b))) (subst T (used-is man (numberOf b)) u) (rw (i .1, legal-changed (i .0) false b) t))
+number-of-ending kind b t l =
+    let s = lone-numberable kind b t l in
+    let i = image-at kind b t l in
+    let u : T (used (loneBoardAt kind (numberOf b))) =
+    subst (λ (c : Board). T (used c)) (sym (board-is kind (numberOf b))) (number-used b s (legal-facts b t .apart))
+    in (
+      number-lt b s,
+      and-both (not (unused (positionAt kind (numberOf b)))) (legal (loneBoardAt kind (numberOf b)))
+          (subst T (used-is kind (numberOf b)) u) (rw (i .1, legal-changed (i .0) false b) t),
+    )
 
 -- the board at a legal number bears it
-pub number-at : (man n : ℕ) → n < 59136 → T (legalNumber man n) → numberOf (boardAt man n) ≡ n
+pub number-at : (kind n : ℕ) → n < 59136 → T (legalNumber kind n) → numberOf (loneBoardAt kind n) ≡ n
 unfolding legalNumber spread
-number-at man n h t =
-    let u : T (used (boardAt man n)) = subst T (sym (used-is man n)) (and-left (not (unused (positionAt man n))) (legal (boardAt man n)) t) in
-    ap numberOf (board-is man n) ∙ used-number (endingWith man) n refl h (subst (λ (c : Board). T (used c)) (board-is man n) u)
+number-at kind n h t =
+    let u : T (used (loneBoardAt kind n)) =
+    subst T (sym (used-is kind n)) (and-left (not (unused (positionAt kind n))) (legal (loneBoardAt kind n)) t) in
+    ap numberOf (board-is kind n)
+    ∙ used-number (endingWith kind) n refl h (subst (λ (c : Board). T (used c)) (board-is kind n) u)

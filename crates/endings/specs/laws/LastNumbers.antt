@@ -33,9 +33,9 @@ all-last : T (allBelow lastUnused 8)
 unfolding allBelow lastUnused unused
 all-last = tt
 
-pub last-unused : (man k : ℕ) → 59127 < k → k < 59136 → unused (positionAt man k) ≡ true
+pub last-unused : (kind k : ℕ) → 59127 < k → k < 59136 → unused (positionAt kind k) ≡ true
 unfolding positionAt lastUnused unused
-last-unused man k h l =
+last-unused kind k h l =
     let q : k / 64 % 462 ≡ 461 = omega arith in
     let s : k % 64 ≡ 56 + (k - 59128) = omega arith in
     rw (q, s, last-kings) (true-of (below lastUnused 8 all-last (k - 59128) (omega arith)))

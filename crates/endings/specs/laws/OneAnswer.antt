@@ -10,21 +10,25 @@ use Rattle.theory.specs.laws.Depth.{one-depth}
 use Rattle.rules.specs.declared.Move.{Move}
 use Rattle.rules.specs.Rules.{Board, moves}
 use Rattle.rules.specs.Chess.{chess, played}
-use Rattle.answers.specs.declared.Advice.{Advice}
+use Rattle.answers.specs.declared.BestMove.{BestMove}
 use Rattle.answers.specs.declared.Answer.{Answer}
 use Rattle.endings.specs.Truth.{First, TrueAnswer}
 
 -- ---- the first of a list is one
 
 module _ (Sought : Move → Type 0) where
-  one-split : (xs ys : List Move) (m v : Move) (r s : List Move) → xs ++ (m ∷ r) ≡ ys ++ (v ∷ s) → Sought m → Sought v → ((u : Move) → u ∈ xs → Sought u → ⊥) → ((u : Move) → u ∈ ys → Sought u → ⊥) → m ≡ v
+  one-split : (xs ys : List Move) (m v : Move) (r s : List Move) → xs ++ (m ∷ r) ≡ ys ++ (v ∷ s) → Sought m → Sought v
+      → ((u : Move) → u ∈ xs → Sought u → ⊥) → ((u : Move) → u ∈ ys → Sought u → ⊥) → m ≡ v
   one-split [] [] m v r s e p q f g = cc
   one-split [] (y ∷ ys) m v r s e p q f g = let z : m ≡ y = cc in absurd (g y (List·Memᴰ·head refl) (subst Sought z p))
   one-split (x ∷ xs) [] m v r s e p q f g = let z : v ≡ x = cc in absurd (f x (List·Memᴰ·head refl) (subst Sought z q))
-  one-split (x ∷ xs) (y ∷ ys) m v r s e p q f g = let t : xs ++ (m ∷ r) ≡ ys ++ (v ∷ s) = cc in one-split xs ys m v r s t p q (λ u i. f u (List·Memᴰ·tail i)) (λ u i. g u (List·Memᴰ·tail i))
+  one-split (x ∷ xs) (y ∷ ys) m v r s e p q f g = let t : xs ++ (m ∷ r) ≡ ys ++ (v ∷ s) = cc in
+      one-split xs ys m v r s t p q (λ u i. f u (List·Memᴰ·tail i)) (λ u i. g u (List·Memᴰ·tail i))
 
   one-first : (ms : List Move) (m v : Move) → First Sought ms m → First Sought ms v → m ≡ v
-  one-first ms m v f g = one-split (f .before) (g .before) m v (f .rest) (g .rest) (sym (f .split) ∙ g .split) (f .sought) (g .sought) (f .none-earlier) (g .none-earlier)
+  one-first ms m v f g =
+      one-split (f .before) (g .before) m v (f .rest) (g .rest) (sym (f .split) ∙ g .split) (f .sought) (g .sought)
+      (f .none-earlier) (g .none-earlier)
 
   no-first : (ms : List Move) (m : Move) → First Sought ms m → ms ≡ [] → ⊥
   no-first ms m f e = go (f .before) (sym e ∙ f .split)
@@ -45,19 +49,25 @@ module _ (b : Board) where
   lost-drawn : (n : ℕ) → LostIn chess n b → Drawn chess b → ⊥
   lost-drawn n l d = d .not-lost n (l .within)
 
-  one-won : (n k : ℕ) (m v : Move) → WonIn chess n b → WonIn chess k b → First (λ u. LostIn chess (n - 1) (played b u)) (moves b) m → First (λ u. LostIn chess (k - 1) (played b u)) (moves b) v
-      → Answer.Win n (Advice.Play m) ≡ Answer.Win k (Advice.Play v)
+  one-won : (n k : ℕ) (m v : Move) → WonIn chess n b → WonIn chess k b
+      → First (λ u. LostIn chess (n - 1) (played b u)) (moves b) m
+      → First (λ u. LostIn chess (k - 1) (played b u)) (moves b) v
+      → Answer.Win n (BestMove.Play m) ≡ Answer.Win k (BestMove.Play v)
   one-won n k m v w x f g =
       let z = one-depth chess k n b (DepthIs.win x) (DepthIs.win w) in
       let h = subst (λ (j : ℕ). First (λ u. LostIn chess (j - 1) (played b u)) (moves b) v) z g in
-      ap (λ (u : Move). Answer.Win n (Advice.Play u)) (one-first _ (moves b) m v f h) ∙ ap (λ (j : ℕ). Answer.Win j (Advice.Play v)) (sym z)
+      ap (λ (u : Move). Answer.Win n (BestMove.Play u)) (one-first _ (moves b) m v f h)
+      ∙ ap (λ (j : ℕ). Answer.Win j (BestMove.Play v)) (sym z)
 
-  one-lost : (n k : ℕ) (m v : Move) → LostIn chess n b → LostIn chess k b → First (λ u. WonIn chess (n - 1) (played b u)) (moves b) m → First (λ u. WonIn chess (k - 1) (played b u)) (moves b) v
-      → Answer.Loss n (Advice.Play m) ≡ Answer.Loss k (Advice.Play v)
+  one-lost : (n k : ℕ) (m v : Move) → LostIn chess n b → LostIn chess k b
+      → First (λ u. WonIn chess (n - 1) (played b u)) (moves b) m
+      → First (λ u. WonIn chess (k - 1) (played b u)) (moves b) v
+      → Answer.Loss n (BestMove.Play m) ≡ Answer.Loss k (BestMove.Play v)
   one-lost n k m v w x f g =
       let z = one-depth chess k n b (DepthIs.loss x) (DepthIs.loss w) in
       let h = subst (λ (j : ℕ). First (λ u. WonIn chess (j - 1) (played b u)) (moves b) v) z g in
-      ap (λ (u : Move). Answer.Loss n (Advice.Play u)) (one-first _ (moves b) m v f h) ∙ ap (λ (j : ℕ). Answer.Loss j (Advice.Play v)) (sym z)
+      ap (λ (u : Move). Answer.Loss n (BestMove.Play u)) (one-first _ (moves b) m v f h)
+      ∙ ap (λ (j : ℕ). Answer.Loss j (BestMove.Play v)) (sym z)
 
 -- a board's true answer is one
 pub one-answer : (b : Board) (a c : Answer) → TrueAnswer b a → TrueAnswer b c → a ≡ c
@@ -79,7 +89,8 @@ one-answer b a c (TrueAnswer.mate w o e) (TrueAnswer.stalemate x q d) = absurd (
 one-answer b a c (TrueAnswer.drawn m w f e) (TrueAnswer.won k v x g d) = absurd (won-drawn b k x w)
 one-answer b a c (TrueAnswer.drawn m w f e) (TrueAnswer.lost k v x g d) = absurd (lost-drawn b k x w)
 one-answer b a c (TrueAnswer.drawn m w f e) (TrueAnswer.mate x o d) = absurd (lost-drawn b 0 x w)
-one-answer b a c (TrueAnswer.drawn m w f e) (TrueAnswer.drawn v x g d) = e ∙ ap (λ (u : Move). Answer.Draw (Advice.Play u)) (one-first _ (moves b) m v f g) ∙ sym d
+one-answer b a c (TrueAnswer.drawn m w f e) (TrueAnswer.drawn v x g d) =
+    e ∙ ap (λ (u : Move). Answer.Draw (BestMove.Play u)) (one-first _ (moves b) m v f g) ∙ sym d
 one-answer b a c (TrueAnswer.drawn m w f e) (TrueAnswer.stalemate x o d) = absurd (no-first _ (moves b) m f o)
 one-answer b a c (TrueAnswer.stalemate w o e) (TrueAnswer.won k v x g d) = absurd (won-drawn b k x w)
 one-answer b a c (TrueAnswer.stalemate w o e) (TrueAnswer.lost k v x g d) = absurd (lost-drawn b k x w)

@@ -15,51 +15,74 @@ use Rattle.finite.specs.Mapped.{Upto}
 use Rattle.theory.specs.Game.{next}
 use Rattle.theory.specs.Required.{requiredAt}
 use Rattle.theory.specs.laws.RuleLaws.{required-rule, byte-before}
-use Rattle.numbered.specs.Numbered.{reads, settles, passByte}
-use Rattle.numbered.specs.laws.Acceptance.{reads-inside, reads-outside}
-use Rattle.numbered.specs.laws.Passing.{settles-in-place}
+use Rattle.table_theory.specs.Tables.{reads, settles, passByte}
+use Rattle.table_theory.specs.laws.Acceptance.{reads-inside, reads-outside}
+use Rattle.table_theory.specs.laws.Passing.{settles-in-place}
 use Rattle.rules.specs.Rules.{Board, empty, mated}
 use Rattle.rules.specs.Chess.{chess}
 use Rattle.numbering.specs.Number.{numberOf}
-use Rattle.endings.specs.Chess.{Ending, tableSize, boardAt, legalNumber, ending}
-use Rattle.endings.specs.laws.Ending.{ending-closed}
+use Rattle.endings.specs.Ending.{Ending, tableSize, loneBoardAt, legalNumber, ending}
+use Rattle.endings.specs.laws.EndingDrawn.{ending-closed}
 use Rattle.endings.specs.laws.Halves.{side-at, side-next, number-side}
-use Rattle.endings.specs.laws.Endings.{live-at}
+use Rattle.endings.specs.laws.EndingLaws.{live-at}
 use Rattle.filling.specs.Quiet.{Absent, Quiet}
 
-module _ (man k : ℕ) (t : List ℕ) (n : ℕ) (h : n < tableSize) where
+module _ (kind k : ℕ) (t : List ℕ) (n : ℕ) (h : n < tableSize) where
   -- a number that pass k settles, k not 0, has a successor in the other half with depth k - 1
-  cause : 0 < k → T (settles chess (ending man) k t n) → (m : ℕ) × (m < tableSize) × (m / 64 / 462 ≡ 1 - n / 64 / 462) × (getD t m 0 ≡ 1 + k)
+  cause : 0 < k → T (settles chess (ending kind) k t n)
+      → (m : ℕ) × (m < tableSize) × (m / 64 / 462 ≡ 1 - n / 64 / 462) × (getD t m 0 ≡ 1 + k)
   unfolding settles ending
   cause some s =
-      let byte = requiredAt chess (reads chess (ending man) t) (boardAt man n) in
-      let last = and-right (eqb (getD t n 0) 1) (legalNumber man n && eqb byte (2 + k)) s in
-      let e = eqb→eq byte (2 + k) (and-right (legalNumber man n) (eqb byte (2 + k)) last) in
-      let b = byte-before (required-rule (mated (boardAt man n)) (map (reads chess (ending man) t) (next chess (boardAt man n)))) (omega (arith, e)) in
-      let w = map-out (reads chess (ending man) t) (b .0) (next chess (boardAt man n)) (b .1) in
-      let d = ending-closed man (boardAt man n) (w .0) (live-at man n h (and-left (legalNumber man n) (eqb byte (2 + k)) last) .0) (w .1) in
-      go (w .0) d (side-next (boardAt man n) (w .0) (w .1)) (sym (w .2) ∙ before (b .0) (sym e ∙ b .2)) (decided (not (empty (w .0 .men))))
+      let byte = requiredAt chess (reads chess (ending kind) t) (loneBoardAt kind n) in
+      let last = and-right (eqb (getD t n 0) 1) (legalNumber kind n && eqb byte (2 + k)) s in
+      let e = eqb→eq byte (2 + k) (and-right (legalNumber kind n) (eqb byte (2 + k)) last) in
+      let b = byte-before
+      (required-rule (mated (loneBoardAt kind n))
+      (map (reads chess (ending kind) t) (next chess (loneBoardAt kind n)))) (omega (arith, e)) in
+      let w = map-out (reads chess (ending kind) t) (b .0) (next chess (loneBoardAt kind n)) (b .1) in
+      let d = ending-closed kind (loneBoardAt kind n) (w .0)
+      (live-at kind n h (and-left (legalNumber kind n) (eqb byte (2 + k)) last) .0) (w .1) in
+      go (w .0) d (side-next (loneBoardAt kind n) (w .0) (w .1)) (sym (w .2) ∙ before (b .0) (sym e ∙ b .2))
+      (decided (not (empty (w .0 .men))))
     where
       before : (b : ℕ) → 2 + k ≡ 1 + b → b ≡ 1 + k
       before b e = omega arith
 
-      go : (q : Board) → Ending man q → q .side ≡ 1 - boardAt man n .side → reads chess (ending man) t q ≡ 1 + k → T (not (empty (q .men))) ⊎ T (not (not (empty (q .men)))) → (m : ℕ) × (m < tableSize) × (m / 64 / 462 ≡ 1 - n / 64 / 462) × (getD t m 0 ≡ 1 + k)
-      go q d side r (inl i) = let z = number-side man q d i in (numberOf q, z .0, z .1 ∙ side ∙ ap (λ (x : ℕ). 1 - x) (side-at man n), sym (reads-inside chess (ending man) t q i) ∙ r)
-      go q d side r (inr o) = let one : reads chess (ending man) t q ≡ 1 = reads-outside chess (ending man) t q (false-of o) in absurd (omega (arith, one, r, some))
+      go : (q : Board) → Ending kind q → q .side ≡ 1 - loneBoardAt kind n .side → reads chess (ending kind) t q ≡ 1 + k
+          → T (not (empty (q .men))) ⊎ T (not (not (empty (q .men))))
+          → (m : ℕ) × (m < tableSize) × (m / 64 / 462 ≡ 1 - n / 64 / 462) × (getD t m 0 ≡ 1 + k)
+      go q d side r (inl i) = let z = number-side kind q d i in (
+        numberOf q,
+        z .0,
+        z .1 ∙ side
+            ∙ ap (λ (x : ℕ). 1 - x) (side-at kind n),
+        sym (reads-inside chess (ending kind) t q i) ∙ r,
+      )
+      go q d side r (inr o) = let one : reads chess (ending kind) t q ≡ 1 =
+          reads-outside chess (ending kind) t q (false-of o) in absurd (omega (arith, one, r, some))
 
-  pub quiet-white : n < 29568 → Quiet k t 29568 59136 → settles chess (ending man) k t n ≡ false
-  quiet-white low q = fails (settles chess (ending man) k t n) (λ s. let c = cause (q .later) s in q .absent .none (c .0) (omega (arith, c .2)) (c .1) (c .3))
+  pub quiet-white : n < 29568 → Quiet k t 29568 59136 → settles chess (ending kind) k t n ≡ false
+  quiet-white low q =
+      fails (settles chess (ending kind) k t n)
+      (λ s. let c = cause (q .later) s in q .absent .none (c .0) (omega (arith, c .2)) (c .1) (c .3))
 
-  pub quiet-black : 29568 ≤ n → Quiet k t 0 29568 → settles chess (ending man) k t n ≡ false
-  quiet-black high q = fails (settles chess (ending man) k t n) (λ s. let c = cause (q .later) s in q .absent .none (c .0) (omega arith) (omega (arith, c .2)) (c .3))
+  pub quiet-black : 29568 ≤ n → Quiet k t 0 29568 → settles chess (ending kind) k t n ≡ false
+  quiet-black high q =
+      fails (settles chess (ending kind) k t n)
+      (λ s. let c = cause (q .later) s in q .absent .none (c .0) (omega arith) (omega (arith, c .2)) (c .3))
 
   -- in place: the half's answer, asked of the table at the pass's start
-  pub quiet-in-place : (u : List ℕ) (white black may : Bool) → (white ≡ false → Quiet k t 29568 59136) → (black ≡ false → Quiet k t 0 29568) → may ≡ cond (ltb n 29568) white black → Upto (passByte chess (ending man) k t) t u n → may ≡ false → settles chess (ending man) k u n ≡ false
-  quiet-in-place u white black may fw fb e up off = settles-in-place chess (ending man) k t u n up ∙ go (le-or-lt 29568 n)
+  pub quiet-in-place : (u : List ℕ) (white black may : Bool) → (white ≡ false → Quiet k t 29568 59136)
+      → (black ≡ false → Quiet k t 0 29568) → may ≡ cond (ltb n 29568) white black
+      → Upto (passByte chess (ending kind) k t) t u n → may ≡ false → settles chess (ending kind) k u n ≡ false
+  quiet-in-place u white black may fw fb e up off =
+      settles-in-place chess (ending kind) k t u n up ∙ go (le-or-lt 29568 n)
     where
-      go : (29568 ≤ n) ⊎ (n < 29568) → settles chess (ending man) k t n ≡ false
-      go (inl high) = let z : may ≡ black = e ∙ ap (λ (b : Bool). cond b white black) (le-ltb n 29568 high) in quiet-black high (fb (sym z ∙ off))
-      go (inr low) = let z : may ≡ white = e ∙ ap (λ (b : Bool). cond b white black) (lt-ltb n 29568 low) in quiet-white low (fw (sym z ∙ off))
+      go : (29568 ≤ n) ⊎ (n < 29568) → settles chess (ending kind) k t n ≡ false
+      go (inl high) = let z : may ≡ black = e
+          ∙ ap (λ (b : Bool). cond b white black) (le-ltb n 29568 high) in quiet-black high (fb (sym z ∙ off))
+      go (inr low) = let z : may ≡ white = e
+          ∙ ap (λ (b : Bool). cond b white black) (lt-ltb n 29568 low) in quiet-white low (fw (sym z ∙ off))
 
 -- ---- looking for a byte
 
@@ -75,7 +98,8 @@ module _ (t : List ℕ) (byte from : ℕ) where
       go m a b e (inr h) = f .none m a h e
 
 pub quiet-if : (k : ℕ) (t : List ℕ) (from to n : ℕ) → (k ≡ 0 → ⊥) → to ≤ n → Absent t (1 + k) from n → Quiet k t from to
-quiet-if k t from to n z h f = record { later = positive k z; absent = record { none = λ m a b e. f .none m a (omega arith) e } }
+quiet-if k t from to n z h f =
+    record { later = positive k z; absent = record { none = λ m a b e. f .none m a (omega arith) e } }
   where
     positive : (k : ℕ) → (k ≡ 0 → ⊥) → 0 < k
     positive k z = omega arith

@@ -21,7 +21,8 @@ with-man-requires-2 : tie.Need-with-man-requires-2
 with-man-requires-2 c κs = omega (arith, c .with-man .ensures .1)
 
 returns : tie.Need-returns
-returns c = let p = c .before .before .before .args .p in by-slots _ _ _ (p .first) (p .second) (c .before .with-man .ensures .0) (c .with-man2 .ensures .0)
+returns c = let p = c .before .before .before .args .p in
+    by-slots _ _ _ (p .first) (p .second) (c .before .with-man .ensures .0) (c .with-man2 .ensures .0)
 
 pub key-of-spec : {M : Type 1} → statement M
 key-of-spec = tie.close (tie.spec cast-with-man mul-with-man add-with-man with-man-requires with-man-requires-2 returns)

@@ -1,7 +1,7 @@
 -- `index::number` meets its contract: the refusal, or the number.
 use mathlib.Core.Path.{ap, sym, _∙_}
 use borrow.Author.Needs.{needs}
-use Rattle.index.specs.declared.Numbered.{Numbered}
+use Rattle.index.specs.declared.NumberAnswer.{NumberAnswer}
 use Rattle.index.specs.laws.AnswerLaws.{numbered-is, numbered-refused}
 use Rattle.index.proofs.number.Statement.{statement}
 use Rattle.index.proofs.number.Tie as tie
@@ -12,15 +12,16 @@ placing-refusal-requires c κs = search needs
 returns : tie.Need-returns
 returns c =
     let e = c .before .placing-refusal .ensures in
-    ap Numbered.Refused e ∙ sym (numbered-refused (c .before .before .args .p) (λ z. c .if1 .taken (e ∙ z)))
+    ap NumberAnswer.Refused e ∙ sym (numbered-refused (c .before .before .args .p) (λ z. c .if1 .taken (e ∙ z)))
 
 number-of-requires : tie.Need-number-of-requires
 number-of-requires c κs = search needs
 
 returns-2 : tie.Need-returns-2
 returns-2 c =
-    ap Numbered.Number (c .number-of .ensures)
-    ∙ sym (numbered-is (c .before .before .before .args .p) (sym (c .before .before .placing-refusal .ensures) ∙ c .before .if1 .left))
+    ap NumberAnswer.Number (c .number-of .ensures)
+    ∙ sym (numbered-is (c .before .before .before .args .p)
+    (sym (c .before .before .placing-refusal .ensures) ∙ c .before .if1 .left))
 
 pub number-spec : {M : Type 1} → statement M
 number-spec = tie.close (tie.spec placing-refusal-requires returns number-of-requires returns-2)

@@ -16,7 +16,8 @@ cast-if2 : tie.Need-cast-if2
 cast-if2 c = search needs
 
 returns-2 : tie.Need-returns-2
-returns-2 c = let a = c .before .before .args in sym (placed-above (a .kind) (a .n) (c .before .if1 .left) (c .if2 .taken))
+returns-2 c =
+    let a = c .before .before .args in sym (placed-above (a .kind) (a .n) (c .before .if1 .left) (c .if2 .taken))
 
 cast-kings-of : tie.Need-cast-kings-of
 cast-kings-of c = search needs
@@ -25,7 +26,8 @@ kings-of-requires : tie.Need-kings-of-requires
 kings-of-requires c κs = search needs
 
 cast-white : tie.Need-cast-white
-cast-white c = let e = c .kings-of .ensures in let a = c .before .before .before .args in let k = kings-at (a .kind) (a .n) .white in omega arith
+cast-white c = let e = c .kings-of .ensures in let a = c .before .before .before .args in let k =
+    kings-at (a .kind) (a .n) .white in omega arith
 
 cast-square : tie.Need-cast-square
 cast-square c = search needs
@@ -41,7 +43,8 @@ returns-3 c =
     let d = c .before .before in
     let a = d .before .before .before .args in
     let e = at-parts (a .kind) (a .n) (d .kings-of .result) (d .kings-of .ensures) in
-    sym (placed-unused (a .kind) (a .n) (d .before .before .if1 .left) (d .before .if2 .left) (ap unused (sym e) ∙ sym (c .before .is-unused .ensures (a .kind) (a .n / 64 / 462)) ∙ c .if3 .taken))
+    sym (placed-unused (a .kind) (a .n) (d .before .before .if1 .left) (d .before .if2 .left)
+    (ap unused (sym e) ∙ sym (c .before .is-unused .ensures (a .kind) (a .n / 64 / 462)) ∙ c .if3 .taken))
 
 cast-lone : tie.Need-cast-lone
 cast-lone c = search needs
@@ -55,7 +58,9 @@ returns-4 c =
     let a = d .before .before .before .args in
     let e = at-parts (a .kind) (a .n) (d .kings-of .result) (d .kings-of .ensures) in
     ap Placed.At (c .lone .ensures ∙ e)
-    ∙ sym (placed-used (a .kind) (a .n) (d .before .before .if1 .left) (d .before .if2 .left) (ap unused (sym e) ∙ sym (c .before .before .is-unused .ensures (a .kind) (a .n / 64 / 462)) ∙ c .before .if3 .left))
+    ∙ sym (placed-used (a .kind) (a .n) (d .before .before .if1 .left) (d .before .if2 .left)
+    (ap unused (sym e) ∙ sym (c .before .before .is-unused .ensures (a .kind) (a .n / 64 / 462))
+    ∙ c .before .if3 .left))
 
 pub position-of-spec : {M : Type 1} → statement M
 position-of-spec =

@@ -19,13 +19,13 @@ use Rattle.position.specs.declared.Slot.{Slot}
 use Rattle.position.specs.declared.Slot.the-variants.{Absent, Present}
 use Rattle.position.specs.declared.Position.{Position}
 use Rattle.position.specs.Keyed.{slotMen, boardOf, lone}
-use Rattle.position.specs.Refusals.{placing}
+use Rattle.position.specs.Refusals.{placingRefusal}
 use Rattle.position.specs.Maps.{normalPosition}
 use Rattle.position.specs.laws.MapLaws.{map-board}
 use Rattle.position.specs.laws.PlacedLaws.{endingWith}
-use Rattle.index.specs.declared.Numbered.{Numbered}
+use Rattle.index.specs.declared.NumberAnswer.{NumberAnswer}
 use Rattle.index.specs.declared.Placed.{Placed}
-use Rattle.index.specs.Answers.{numbered, positionAt, unused, placedAt}
+use Rattle.index.specs.Answers.{numberAnswer, positionAt, unused, placedAt}
 
 -- ---- numbering
 
@@ -36,11 +36,14 @@ key-append n [] l = refl
 key-append n (m ∷ k) l = key-append (n * 64 + m .square) k l
 
 -- the digits slot by slot
-pub by-slots : (n one two : ℕ) (f s : Slot) → one ≡ keyFrom n (slotMen f) → two ≡ keyFrom one (slotMen s) → two ≡ keyFrom n (slotMen f ++ slotMen s)
+pub by-slots : (n one two : ℕ) (f s : Slot) → one ≡ keyFrom n (slotMen f) → two ≡ keyFrom one (slotMen s)
+    → two ≡ keyFrom n (slotMen f ++ slotMen s)
 by-slots n one two f s g h = h ∙ ap (λ (k : ℕ). keyFrom k (slotMen s)) g ∙ sym (key-append n (slotMen f) (slotMen s))
 
 -- the key of the normal position is the number
-pub number-key : (p n : Position) (pair key : ℕ) → n ≡ normalPosition p → pair ≡ pairOf (n .«white_king») (n .«black_king») → key ≡ keyFrom (n .side * 462 + pair) (slotMen (n .first) ++ slotMen (n .second)) → key ≡ numberOf (boardOf p)
+pub number-key : (p n : Position) (pair key : ℕ) → n ≡ normalPosition p
+    → pair ≡ pairOf (n .«white_king») (n .«black_king»)
+    → key ≡ keyFrom (n .side * 462 + pair) (slotMen (n .first) ++ slotMen (n .second)) → key ≡ numberOf (boardOf p)
 unfolding numberOf normalised normalPosition
 number-key p n pair key e f g =
     g
@@ -49,7 +52,9 @@ number-key p n pair key e f g =
     ∙ ap (λ (q : Position). keyOf (boardOf q)) e
     ∙ ap keyOf (map-board (normalMap (boardOf p)) p)
   where
-    key-slots : (q : Position) → keyFrom (q .side * 462 + pairOf (q .«white_king») (q .«black_king»)) (slotMen (q .first) ++ slotMen (q .second)) ≡ keyOf (boardOf q)
+    key-slots : (q : Position)
+        → keyFrom (q .side * 462 + pairOf (q .«white_king») (q .«black_king»))
+        (slotMen (q .first) ++ slotMen (q .second)) ≡ keyOf (boardOf q)
     key-slots q = unfold keyOf boardOf in refl
 
 -- a man's digit, by what is found in his slot
@@ -61,19 +66,20 @@ pub one-digit : (n : ℕ) (slot : Slot) (m : Piece) → slot ≡ Present m → n
 unfolding keyFrom
 one-digit n slot m e = sym (ap (λ (s : Slot). keyFrom n (slotMen s)) e)
 
-pub numbered-is : (p : Position) → placing p ≡ 0 → numbered p ≡ Numbered.Number (numberOf (boardOf p))
-unfolding numbered
-numbered-is p z = rw (eq-eqb (placing p) 0 z)
+pub numbered-is : (p : Position) → placingRefusal p ≡ 0 → numberAnswer p ≡ NumberAnswer.Number (numberOf (boardOf p))
+unfolding numberAnswer
+numbered-is p z = rw (eq-eqb (placingRefusal p) 0 z)
 
-pub numbered-refused : (p : Position) → (placing p ≡ 0 → ⊥) → numbered p ≡ Numbered.Refused (placing p)
-unfolding numbered
-numbered-refused p f = rw (ne-eqb (placing p) 0 f)
+pub numbered-refused : (p : Position) → (placingRefusal p ≡ 0 → ⊥)
+    → numberAnswer p ≡ NumberAnswer.Refused (placingRefusal p)
+unfolding numberAnswer
+numbered-refused p f = rw (ne-eqb (placingRefusal p) 0 f)
 
 -- ---- numbering back
 
-module _ (man n : ℕ) where
+module _ (kind n : ℕ) where
   -- it is the board with this key
-  pub board-at : boardOf (positionAt man n) ≡ boardAt (endingWith man) n
+  pub board-at : boardOf (positionAt kind n) ≡ boardAt (endingWith kind) n
   unfolding boardOf positionAt boardAt leading menAt
   board-at = refl
 
@@ -81,34 +87,38 @@ module _ (man n : ℕ) where
   kings-at = kings-of (n / 64 % 462) (omega arith)
 
   -- from its parts, as the code finds them
-  pub at-parts : (kings : ℕ) → kings ≡ kingsOf (n / 64 % 462) → lone man (n / 64 / 462) (kings / 64) (n % 64) (kings % 64) ≡ positionAt man n
+  pub at-parts : (kings : ℕ) → kings ≡ kingsOf (n / 64 % 462)
+      → lone kind (n / 64 / 462) (kings / 64) (n % 64) (kings % 64) ≡ positionAt kind n
   unfolding positionAt
-  at-parts kings e = ap (λ (k : ℕ). lone man (n / 64 / 462) (k / 64) (n % 64) (k % 64)) e
+  at-parts kings e = ap (λ (k : ℕ). lone kind (n / 64 / 462) (k / 64) (n % 64) (k % 64)) e
 
-  pub placed-man : 4 ≤ man → placedAt man n ≡ Placed.Refused 1
+  pub placed-man : 4 ≤ kind → placedAt kind n ≡ Placed.Refused 1
   unfolding placedAt
-  placed-man h = rw (le-leb 4 man h)
+  placed-man h = rw (le-leb 4 kind h)
 
-  pub placed-above : man < 4 → 59136 ≤ n → placedAt man n ≡ Placed.Refused 8
+  pub placed-above : kind < 4 → 59136 ≤ n → placedAt kind n ≡ Placed.Refused 8
   unfolding placedAt
-  placed-above h k = rw (lt-leb 4 man h, le-leb 59136 n k)
+  placed-above h k = rw (lt-leb 4 kind h, le-leb 59136 n k)
 
-  pub placed-unused : man < 4 → n < 59136 → unused (positionAt man n) ≡ true → placedAt man n ≡ Placed.Refused 9
+  pub placed-unused : kind < 4 → n < 59136 → unused (positionAt kind n) ≡ true → placedAt kind n ≡ Placed.Refused 9
   unfolding placedAt
-  placed-unused h k u = rw (lt-leb 4 man h, lt-leb 59136 n k, u)
+  placed-unused h k u = rw (lt-leb 4 kind h, lt-leb 59136 n k, u)
 
-  pub placed-used : man < 4 → n < 59136 → unused (positionAt man n) ≡ false → placedAt man n ≡ Placed.At (positionAt man n)
+  pub placed-used : kind < 4 → n < 59136 → unused (positionAt kind n) ≡ false
+      → placedAt kind n ≡ Placed.At (positionAt kind n)
   unfolding placedAt
-  placed-used h k u = rw (lt-leb 4 man h, lt-leb 59136 n k, u)
+  placed-used h k u = rw (lt-leb 4 kind h, lt-leb 59136 n k, u)
 
 -- ---- unused exactly where 01 says
 
 tests : (wb ws bs k dw db a o : Bool) → wb ≡ false → k ≡ true
-    → ((not (wb || (ws || false)) && (not (bs || false) && (not false && true))) && (k && implies (dw && db) (not (a || (o && false))))) ≡ not (ws || (bs || (dw && (db && a))))
+    → ((not (wb || (ws || false)) && (not (bs || false) && (not false && true)))
+    && (k && implies (dw && db) (not (a || (o && false))))) ≡ not (ws || (bs || (dw && (db && a))))
 tests wb ws bs k dw db a o p q = rw (p, q) (rest ws bs dw db a o)
   where
     rest : (ws bs dw db a o : Bool)
-        → ((not (ws || false) && (not (bs || false) && true)) && implies (dw && db) (not (a || (o && false)))) ≡ not (ws || (bs || (dw && (db && a))))
+        → ((not (ws || false) && (not (bs || false) && true)) && implies (dw && db) (not (a || (o && false))))
+        ≡ not (ws || (bs || (dw && (db && a))))
     rest true bs dw db a o = refl
     rest false true dw db a o = refl
     rest false false false db a o = refl
@@ -118,13 +128,17 @@ tests wb ws bs k dw db a o p q = rw (p, q) (rest ws bs dw db a o)
     rest false false true true false false = refl
 
 -- with kings by the rule, a board with one man is used exactly if 01's sentence does not call it unused
-pub used-is : (kind side white square black : ℕ) → T (kingRule white black) → used (boardOf (lone kind side white square black)) ≡ not (unused (lone kind side white square black))
+pub used-is : (kind side white square black : ℕ) → T (kingRule white black)
+    → used (boardOf (lone kind side white square black)) ≡ not (unused (lone kind side white square black))
 unfolding used unused normal firstAbove apart any boardOf
 used-is kind side white square black t =
-    tests (eqb white black) (eqb white square) (eqb black square) (kingRule white black) (onDiagonal white) (onDiagonal black) (above square) (onDiagonal square)
+    tests (eqb white black) (eqb white square) (eqb black square) (kingRule white black) (onDiagonal white)
+    (onDiagonal black) (above square) (onDiagonal square)
     (separate-apart white black (ruled-separate white black t)) (true-of {b = kingRule white black} t)
-    ∙ ap (λ (x : Bool). not (eqb white square || (x || (onDiagonal white && (onDiagonal black && above square))))) (eqb-sym black square)
+    ∙ ap (λ (x : Bool). not (eqb white square || (x || (onDiagonal white && (onDiagonal black && above square)))))
+    (eqb-sym black square)
 
 pub unused-exactly : (kind n : ℕ) → used (boardOf (positionAt kind n)) ≡ not (unused (positionAt kind n))
 unfolding positionAt
-unused-exactly kind n = let kings = kingsOf (n / 64 % 462) in used-is kind (n / 64 / 462) (kings / 64) (n % 64) (kings % 64) (kings-at kind n .ruled)
+unused-exactly kind n = let kings = kingsOf (n / 64 % 462) in
+    used-is kind (n / 64 / 462) (kings / 64) (n % 64) (kings % 64) (kings-at kind n .ruled)

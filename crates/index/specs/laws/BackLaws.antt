@@ -15,55 +15,63 @@ use Rattle.numbering.specs.Number.{numberOf, spread, boardAt, used}
 use Rattle.numbering.specs.laws.Numberable.{separate-touching, ruled-separate}
 use Rattle.numbering.specs.laws.AtLaws.{used-number, at-number, number-used}
 use Rattle.position.specs.declared.Position.{Position}
-use Rattle.position.specs.Keyed.{boardOf, kindOf}
-use Rattle.position.specs.Refusals.{placing}
+use Rattle.position.specs.Keyed.{boardOf, manKind}
+use Rattle.position.specs.Refusals.{placingRefusal}
 use Rattle.position.specs.laws.PlacedLaws.{WellPlaced, placed-facts, facts-placed, endingWith, placed-kind}
-use Rattle.index.specs.declared.Numbered.{Numbered}
+use Rattle.index.specs.declared.NumberAnswer.{NumberAnswer}
 use Rattle.index.specs.declared.Placed.{Placed}
-use Rattle.index.specs.Answers.{numbered, positionAt, unused, placedAt}
+use Rattle.index.specs.Answers.{numberAnswer, positionAt, unused, placedAt}
 use Rattle.index.specs.laws.AnswerLaws.{numbered-is, board-at, kings-at, placed-used, unused-exactly}
 use Rattle.index.specs.NumberLaws.{SameClass}
 use Rattle.index.specs.laws.NumberLaws.{board-numberable, number-below}
 use Rattle.index.specs.BackLaws.{Bears, Located}
 
-module _ (man n : ℕ) (h : man < 4) (k : n < 59136) (u : unused (positionAt man n) ≡ false) where
-  used-at : T (used (boardOf (positionAt man n)))
-  used-at = of-true (unused-exactly man n ∙ ap not u)
+module _ (kind n : ℕ) (h : kind < 4) (k : n < 59136) (u : unused (positionAt kind n) ≡ false) where
+  used-at : T (used (boardOf (positionAt kind n)))
+  used-at = of-true (unused-exactly kind n ∙ ap not u)
 
-  at-facts : WellPlaced (positionAt man n)
+  at-facts : WellPlaced (positionAt kind n)
   unfolding positionAt touching boardOf used all
   at-facts =
-      let p = positionAt man n in
-      let kings = kings-at man n in
+      let p = positionAt kind n in
+      let kings = kings-at kind n in
       let b = boardOf p in
       record {
-        men = rw (lt-leb 4 man h);
+        men = rw (lt-leb 4 kind h);
         side = omega arith;
-        squares = rw (lt-ltb (b .white) 64 (kings .white), lt-ltb (b .black) 64 (kings .black), lt-ltb (n % 64) 64 (omega arith)) tt;
+        squares = rw (
+          lt-ltb (b .white) 64 (kings .white),
+          lt-ltb (b .black) 64 (kings .black),
+          lt-ltb (n % 64) 64 (omega arith),
+        ) tt;
         distinct = and-left (apart (pieces b)) (normal b) used-at;
         kings = separate-touching (b .white) (b .black) (ruled-separate (b .white) (b .black) (kings .ruled));
       }
 
-  at-used : T (used (boardAt (endingWith man) n))
-  at-used = subst (λ (b : Board). T (used b)) (board-at man n) used-at
+  at-used : T (used (boardAt (endingWith kind) n))
+  at-used = subst (λ (b : Board). T (used b)) (board-at kind n) used-at
 
   -- what stands at a used number is placed and bears it
-  pub used-bears : Bears man n (positionAt man n)
+  pub used-bears : Bears kind n (positionAt kind n)
   unfolding spread positionAt
   used-bears = record {
-    man = refl;
+    ending = refl;
     side = omega arith;
-    placed = facts-placed (positionAt man n) at-facts;
-    number = ap numberOf (board-at man n) ∙ used-number (endingWith man) n refl k at-used;
+    placed = facts-placed (positionAt kind n) at-facts;
+    number = ap numberOf (board-at kind n) ∙ used-number (endingWith kind) n refl k at-used;
   }
 
 -- each number is unused, or its position is placed and bears it
-pub each-number : (man n : ℕ) → man < 4 → n < 59136 → (unused (positionAt man n) ≡ true) ⊎ Bears man n (positionAt man n)
-each-number man n h k = by-test (unused (positionAt man n)) (λ t. inl (true-of t)) (λ f. inr (used-bears man n h k (fails (unused (positionAt man n)) f)))
+pub each-number : (kind n : ℕ) → kind < 4 → n < 59136
+    → (unused (positionAt kind n) ≡ true) ⊎ Bears kind n (positionAt kind n)
+each-number kind n h k =
+    by-test (unused (positionAt kind n)) (λ t. inl (true-of t))
+    (λ f. inr (used-bears kind n h k (fails (unused (positionAt kind n)) f)))
 
 -- ---- numbering back
 
-found : (a b c : Bool) (p q : Position) → cond a (Placed.Refused 1) (cond b (Placed.Refused 8) (cond c (Placed.Refused 9) (Placed.At q))) ≡ Placed.At p
+found : (a b c : Bool) (p q : Position)
+    → cond a (Placed.Refused 1) (cond b (Placed.Refused 8) (cond c (Placed.Refused 9) (Placed.At q))) ≡ Placed.At p
     → (a ≡ false) × (b ≡ false) × (c ≡ false) × (q ≡ p)
 found true b c p q e = let z : _≡_ {A = ℕ} 0 1 = cc in absurd (omega arith)
 found false true c p q e = let z : _≡_ {A = ℕ} 0 1 = cc in absurd (omega arith)
@@ -71,39 +79,43 @@ found false false true p q e = let z : _≡_ {A = ℕ} 0 1 = cc in absurd (omega
 found false false false p q e = let z : q ≡ p = cc in (refl, refl, refl, z)
 
 -- demand 2: each used number leads back to a position that bears it
-pub number-back : (man n : ℕ) (p : Position) → placedAt man n ≡ Placed.At p → Bears man n p
+pub number-back : (kind n : ℕ) (p : Position) → placedAt kind n ≡ Placed.At p → Bears kind n p
 unfolding placedAt
-number-back man n p e =
-    let f = found (leb 4 man) (leb 59136 n) (unused (positionAt man n)) p (positionAt man n) e in
-    subst (Bears man n) (f .3) (used-bears man n (leb-false 4 man (f .0)) (leb-false 59136 n (f .1)) (f .2))
+number-back kind n p e =
+    let f = found (leb 4 kind) (leb 59136 n) (unused (positionAt kind n)) p (positionAt kind n) e in
+    subst (Bears kind n) (f .3) (used-bears kind n (leb-false 4 kind (f .0)) (leb-false 59136 n (f .1)) (f .2))
 
 -- ---- the position at a placed position's number
 
-module _ (p : Position) (z : placing p ≡ 0) where
+module _ (p : Position) (z : placingRefusal p ≡ 0) where
   abbrev own : ℕ
   own = numberOf (boardOf p)
 
-  pub number-not-unused : unused (positionAt (kindOf p) own) ≡ false
+  pub number-not-unused : unused (positionAt (manKind p) own) ≡ false
   number-not-unused =
-      flipped (unused (positionAt (kindOf p) own))
-      (sym (unused-exactly (kindOf p) own) ∙ ap used (board-at (kindOf p) own) ∙ true-of (number-used (boardOf p) (board-numberable p z) (placed-facts p z .distinct)))
+      flipped (unused (positionAt (manKind p) own))
+      (sym (unused-exactly (manKind p) own) ∙ ap used (board-at (manKind p) own)
+      ∙ true-of (number-used (boardOf p) (board-numberable p z) (placed-facts p z .distinct)))
     where
       flipped : (b : Bool) → not b ≡ true → b ≡ false
       flipped true e = sym e
       flipped false e = refl
 
-  pub number-class : SameClass p (positionAt (kindOf p) own)
+  pub number-class : SameClass p (positionAt (manKind p) own)
   unfolding normalised
-  number-class = (normalMap (boardOf p), board-at (kindOf p) own ∙ at-number (boardOf p) (board-numberable p z))
+  number-class = (normalMap (boardOf p), board-at (manKind p) own ∙ at-number (boardOf p) (board-numberable p z))
 
-pub back-number : (p : Position) → placing p ≡ 0 → Located p (numberOf (boardOf p))
+pub back-number : (p : Position) → placingRefusal p ≡ 0 → Located p (numberOf (boardOf p))
 back-number p z = record {
   number = numbered-is p z;
   below = number-below p z;
-  back = placed-used (kindOf p) (numberOf (boardOf p)) (placed-kind p (placed-facts p z .men)) (number-below p z) (number-not-unused p z);
+  back = placed-used (manKind p) (numberOf (boardOf p)) (placed-kind p (placed-facts p z .men)) (number-below p z)
+      (number-not-unused p z);
   class = number-class p z;
 }
 
 -- no position bears an unused number
-pub unused-none : (p : Position) (n : ℕ) → placing p ≡ 0 → numberOf (boardOf p) ≡ n → unused (positionAt (kindOf p) n) ≡ true → ⊥
-unused-none p n z e u = true-not-false u (subst (λ (k : ℕ). unused (positionAt (kindOf p) k) ≡ false) e (number-not-unused p z))
+pub unused-none : (p : Position) (n : ℕ) → placingRefusal p ≡ 0 → numberOf (boardOf p) ≡ n
+    → unused (positionAt (manKind p) n) ≡ true → ⊥
+unused-none p n z e u =
+    true-not-false u (subst (λ (k : ℕ). unused (positionAt (manKind p) k) ≡ false) e (number-not-unused p z))

@@ -25,21 +25,24 @@ all-pairs : sumOf kingPair squaresFor 4096 ≡ 28056
 unfolding sumOf squaresFor free rank unused kingPair kingRule cornered separate reaches any numbers line shift stays
 all-pairs = refl
 
-same-free : (man side q a : ℕ) → q < 462 → a < 64 → not (unused (positionAt man (side * 29568 + (q * 64 + a)))) ≡ free (kingsOf q) a
+same-free : (kind side q a : ℕ) → q < 462 → a < 64
+    → not (unused (positionAt kind (side * 29568 + (q * 64 + a)))) ≡ free (kingsOf q) a
 unfolding positionAt unused free
-same-free man side q a h l =
+same-free kind side q a h l =
     let n : ℕ = side * 29568 + (q * 64 + a) in
     let e : n / 64 % 462 ≡ q = omega arith in
     let f : n % 64 ≡ a = omega arith in
     ap₂ (λ (x y : ℕ). free (kingsOf x) y) e f
 
 -- of the numbers of a side, counted from its first
-pub used-count : (man side : ℕ) → rank (λ n. not (unused (positionAt man (side * 29568 + n)))) 29568 ≡ 28056
+pub used-count : (kind side : ℕ) → rank (λ n. not (unused (positionAt kind (side * 29568 + n)))) 29568 ≡ 28056
 unfolding kingsOf squaresFor
-used-count man side =
-    rank-blocks (λ n. not (unused (positionAt man (side * 29568 + n)))) 462
-    ∙ sum-same (λ q. rank (λ a. not (unused (positionAt man (side * 29568 + (q * 64 + a))))) 64) (λ q. squaresFor (select kingPair 4096 q)) 462
-    (λ q h. rank-same (λ a. not (unused (positionAt man (side * 29568 + (q * 64 + a))))) (free (kingsOf q)) 64 (λ a l. same-free man side q a h l))
+used-count kind side =
+    rank-blocks (λ n. not (unused (positionAt kind (side * 29568 + n)))) 462
+    ∙ sum-same (λ q. rank (λ a. not (unused (positionAt kind (side * 29568 + (q * 64 + a))))) 64)
+    (λ q. squaresFor (select kingPair 4096 q)) 462
+    (λ q h. rank-same (λ a. not (unused (positionAt kind (side * 29568 + (q * 64 + a))))) (free (kingsOf q)) 64
+    (λ a l. same-free kind side q a h l))
     ∙ ap (sum (λ q. squaresFor (select kingPair 4096 q))) (sym pair-count)
     ∙ sym (sum-ranks kingPair squaresFor 4096 4096 (omega arith))
     ∙ all-pairs

@@ -19,7 +19,6 @@ use Rattle.numbering.specs.laws.NormalLaws.{stays-diagonal}
 use Rattle.numbering.specs.Number.{keyFrom, keyOf, numberOf}
 use Rattle.pairs.specs.Tables.{pairs, pairIn}
 use Rattle.pairs.specs.laws.TableLaws.{lent-pair}
-use Rattle.position.specs.declared.Position.{Position}
 use Rattle.position.specs.Keyed.{boardOf, lone}
 use Rattle.position.specs.Maps.{mappedPosition, normalPosition}
 use Rattle.position.specs.laws.MapLaws.{map-board, normal-by}
@@ -30,7 +29,8 @@ use Rattle.index.specs.Frames.{numberBy, flipOf, flipped, exchangeOf, ex
 
 pub lent-number : (list : List ℕ) → list ≡ pairs → (b : Board) → numberBy list b ≡ numberOf b
 unfolding numberBy numberOf keyOf
-lent-number list e b = let n = normalised b in ap (λ (q : ℕ). keyFrom (n .side * 462 + q) (n .men)) (lent-pair list (n .white) (n .black) e)
+lent-number list e b = let n = normalised b in
+    ap (λ (q : ℕ). keyFrom (n .side * 462 + q) (n .men)) (lent-pair list (n .white) (n .black) e)
 
 -- ---- the reversals, by bits
 
@@ -51,7 +51,9 @@ flips : (files ranks : Bool) (s : ℕ) → flipped (cond files 7 0 + cond ranks 
 unfolding flipped turned
 flips files ranks s =
     ⊎-elim (λ h. rw (le-ltb s 64 h) (sym (mapped-off (reversal files ranks) s h)))
-    (λ h. rw (lt-ltb s 64 h) (eqb→eq (bitXor s (cond files 7 0 + cond ranks 56 0)) (mapped (reversal files ranks) s) (below (turned files ranks) 64 (all-turned files ranks) s h)))
+    (λ h. rw (lt-ltb s 64 h)
+    (eqb→eq (bitXor s (cond files 7 0 + cond ranks 56 0)) (mapped (reversal files ranks) s)
+    (below (turned files ranks) 64 (all-turned files ranks) s h)))
     (le-or-lt 64 s)
 
 pub flip-turns : (white s : ℕ) → flipped (flipOf white) s ≡ mapped (turn white) s
@@ -64,7 +66,9 @@ flip-turns white s = flips (ltb 3 (white % 8)) (ltb 3 (white / 8)) s
 exchange : Bool → Bool → Bool → Bool → ℕ
 exchange aw dw ab db = cond aw 1 (cond dw (cond ab 1 (cond db 2 0)) 0)
 
-man-exchanges : (aw dw ab db m o : Bool) → (aw || (dw && (ab || (db && (m || (o && false)))))) ≡ cond (eqb (exchange aw dw ab db) 1) true (eqb (exchange aw dw ab db) 2 && m)
+man-exchanges : (aw dw ab db m o : Bool)
+    → (aw || (dw && (ab || (db && (m || (o && false))))))
+    ≡ cond (eqb (exchange aw dw ab db) 1) true (eqb (exchange aw dw ab db) 2 && m)
 unfolding exchange
 man-exchanges true dw ab db m o = refl
 man-exchanges false false ab db m o = refl
@@ -76,7 +80,8 @@ man-exchanges false true false true false false = refl
 
 -- where the man's exchange is not the kings', both kings are on the diagonal
 king-stays : (aw dw ab db m : Bool) (s : ℕ) → (T dw → T db → T (onDiagonal s))
-    → mapped (swapping (cond (eqb (exchange aw dw ab db) 1) true (eqb (exchange aw dw ab db) 2 && m))) s ≡ mapped (swapping (eqb (exchange aw dw ab db) 1)) s
+    → mapped (swapping (cond (eqb (exchange aw dw ab db) 1) true (eqb (exchange aw dw ab db) 2 && m))) s
+    ≡ mapped (swapping (eqb (exchange aw dw ab db) 1)) s
 unfolding exchange
 king-stays true dw ab db m s d = refl
 king-stays false false ab db m s d = refl
@@ -89,11 +94,13 @@ module _ (white black s : ℕ) where
   unfolding swapsKings exchangesMan exchangeOf exchange
   swaps-man = man-exchanges (above white) (onDiagonal white) (above black) (onDiagonal black) (above s) (onDiagonal s)
 
-  white-stays : mapped (swapping (exchangesMan (exchangeOf white black) s)) white ≡ mapped (swapping (eqb (exchangeOf white black) 1)) white
+  white-stays : mapped (swapping (exchangesMan (exchangeOf white black) s)) white ≡ mapped (swapping
+      (eqb (exchangeOf white black) 1)) white
   unfolding exchangesMan exchangeOf exchange
   white-stays = king-stays (above white) (onDiagonal white) (above black) (onDiagonal black) (above s) white (λ d e. d)
 
-  black-stays : mapped (swapping (exchangesMan (exchangeOf white black) s)) black ≡ mapped (swapping (eqb (exchangeOf white black) 1)) black
+  black-stays : mapped (swapping (exchangesMan (exchangeOf white black) s)) black ≡ mapped (swapping
+      (eqb (exchangeOf white black) 1)) black
   unfolding exchangesMan exchangeOf exchange
   black-stays = king-stays (above white) (onDiagonal white) (above black) (onDiagonal black) (above s) black (λ d e. e)
 
@@ -101,7 +108,8 @@ module _ (white black s : ℕ) where
 
 -- as the code adds it up, with the man's square exchanged and as it is
 module _ (f : Frame) (square s : ℕ) (e : s ≡ flipped (f .flip) square) where
-  pub in-exchanged : (t : ℕ) → exchangesMan (f .exchange) s ≡ true → t ≡ mapped (swapping true) s → f .base + t ≡ numberIn f square
+  pub in-exchanged : (t : ℕ) → exchangesMan (f .exchange) s ≡ true → t ≡ mapped (swapping true) s
+      → f .base + t ≡ numberIn f square
   unfolding numberIn
   in-exchanged t x h = sym (rw (← e, x, ← h))
 
@@ -110,14 +118,20 @@ module _ (f : Frame) (square s : ℕ) (e : s ≡ flipped (f .flip) square) where
   in-plain x = sym (rw (← e, x, stays-diagonal false s (λ t. absurd t)))
 
 -- of a position with one man, by two maps in turn that make it normal
-by-two : (list : List ℕ) (m n : Symmetry) (kind side white square black : ℕ) → mappedPosition n (mappedPosition m (lone kind side white square black)) ≡ normalPosition (lone kind side white square black)
-    → numberBy list (boardOf (lone kind side white square black)) ≡ (side * 462 + pairIn list (mapped n (mapped m white)) (mapped n (mapped m black))) * 64 + mapped n (mapped m square)
+by-two : (list : List ℕ) (m n : Symmetry) (kind side white square black : ℕ)
+    → mappedPosition n (mappedPosition m (lone kind side white square black))
+    ≡ normalPosition (lone kind side white square black)
+    → numberBy list (boardOf (lone kind side white square black))
+    ≡ (side * 462 + pairIn list (mapped n (mapped m white)) (mapped n (mapped m black))) * 64 + mapped n
+    (mapped m square)
 unfolding numberBy normalised normalPosition mappedPosition keyFrom boardOf
 by-two list m n kind side white square black e =
     let p = lone kind side white square black in
-    ap (λ (b : Board). keyFrom (b .side * 462 + pairIn list (b .white) (b .black)) (b .men)) (sym (map-board (normalMap (boardOf p)) p) ∙ ap boardOf (sym e))
+    ap (λ (b : Board). keyFrom (b .side * 462 + pairIn list (b .white) (b .black)) (b .men))
+    (sym (map-board (normalMap (boardOf p)) p) ∙ ap boardOf (sym e))
 
-pub frame-number : (list : List ℕ) (kind side white square black : ℕ) → numberIn (frameOf list side white black) square ≡ numberBy list (boardOf (lone kind side white square black))
+pub frame-number : (list : List ℕ) (kind side white square black : ℕ)
+    → numberIn (frameOf list side white black) square ≡ numberBy list (boardOf (lone kind side white square black))
 unfolding numberIn frameOf mappedPosition boardOf firstAbove
 frame-number list kind side white square black =
     let p = lone kind side white square black in
@@ -126,5 +140,12 @@ frame-number list kind side white square black =
     let b = mapped (turn white) black in
     let s = mapped (turn white) square in
     let e = exchangesMan (exchangeOf w b) s in
-    rw (flip-turns white white, flip-turns white black, flip-turns white square, ← white-stays w b s, ← black-stays w b s)
-    (sym (by-two list (turn white) (swapping e) kind side white square black (normal-by p q e refl (sym (swaps-man w b s)))))
+    rw (
+      flip-turns white white,
+      flip-turns white black,
+      flip-turns white square,
+      ← white-stays w b s,
+      ← black-stays w b s,
+    )
+    (sym (by-two list (turn white) (swapping e) kind side white square black
+    (normal-by p q e refl (sym (swaps-man w b s)))))

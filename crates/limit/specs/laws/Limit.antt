@@ -22,11 +22,13 @@ module _ (side : ℕ) where
   share m = cond (eqb (m .colour) side) (most (m .kind)) 0
 
   -- from square x
-  goes-most : (occ : ℕ → Bool) (m : Piece) (x : ℕ) → count (λ t. eqb (m .colour) side && eqb (m .square) x && goesTo occ m t) ≤ only (m .square) (share m) x
+  goes-most : (occ : ℕ → Bool) (m : Piece) (x : ℕ)
+      → count (λ t. eqb (m .colour) side && eqb (m .square) x && goesTo occ m t) ≤ only (m .square) (share m) x
   unfolding share goesTo
   goes-most occ m x = go (eqb (m .colour) side) (eqb (m .square) x) refl (eqb x (m .square)) refl
     where
-      go : (a b : Bool) → eqb (m .square) x ≡ b → (d : Bool) → eqb x (m .square) ≡ d → count (λ t. a && b && goesTo occ m t) ≤ cond d (cond a (most (m .kind)) 0) 0
+      go : (a b : Bool) → eqb (m .square) x ≡ b → (d : Bool) → eqb x (m .square) ≡ d
+          → count (λ t. a && b && goesTo occ m t) ≤ cond d (cond a (most (m .kind)) 0) 0
       go true true e true f = reaches-most occ (m .kind) (m .square)
       go true true e false f = absurd (eqb-false x (m .square) f (sym (eqb-true (m .square) x e)))
       go true false e d f = count-none (λ t. false) (cond d (most (m .kind)) 0) (λ t. refl)
@@ -37,7 +39,8 @@ module _ (side : ℕ) where
   unfolding total
   total-pieces [] = omega (arith, total-none squares)
   total-pieces (m ∷ l) =
-      rw (total-add (only (m .square) (share m)) (λ x. total (λ m. only (m .square) (share m) x) l) squares) (omega (arith, total-only (m .square) (share m), total-pieces l))
+      rw (total-add (only (m .square) (share m)) (λ x. total (λ m. only (m .square) (share m) x) l) squares)
+      (omega (arith, total-only (m .square) (share m), total-pieces l))
 
   total-men : (l : List Piece) → total share l ≤ 27 * length l
   unfolding total share
@@ -54,7 +57,8 @@ module _ (side : ℕ) where
   unfolding total share
   total-kings w k l = go (eqb 0 side) refl (eqb 1 side) refl
     where
-      go : (a : Bool) → eqb 0 side ≡ a → (b : Bool) → eqb 1 side ≡ b → cond a 8 0 + (cond b 8 0 + total share l) ≤ 8 + 27 * length l
+      go : (a : Bool) → eqb 0 side ≡ a → (b : Bool) → eqb 1 side ≡ b
+          → cond a 8 0 + (cond b 8 0 + total share l) ≤ 8 + 27 * length l
       go true e true f = let p = eqb-true 0 side e in let q = eqb-true 1 side f in absurd (omega arith)
       go true e false f = omega (arith, total-men l)
       go false e true f = omega (arith, total-men l)
@@ -62,20 +66,25 @@ module _ (side : ℕ) where
 
 can-goes : (b : Board) (x t : ℕ) → T (canMove b x t) → T (goes b x t)
 unfolding canMove
-can-goes b x t h = and-left (goes b x t) (not (stands b (b .side) t)) (and-left (goes b x t && not (stands b (b .side) t)) (not (inCheck (moved b x t) (b .side))) h)
+can-goes b x t h =
+    and-left (goes b x t) (not (stands b (b .side) t))
+    (and-left (goes b x t && not (stands b (b .side) t)) (not (inCheck (moved b x t) (b .side))) h)
 
-from-most : (b : Board) (x : ℕ) → length (movesFrom (canMove b) x) ≤ total (λ m. only (m .square) (share (b .side) m) x) (pieces b)
+from-most : (b : Board) (x : ℕ)
+    → length (movesFrom (canMove b) x) ≤ total (λ m. only (m .square) (share (b .side) m) x) (pieces b)
 unfolding movesFrom goes
 from-most b x =
     simp onto-length
     (le-trans (count-fewer (canMove b x) (goes b x) (can-goes b x))
-    (count-any (λ t m. eqb (m .colour) (b .side) && eqb (m .square) x && goesTo (occupied b) m t) (λ m. only (m .square) (share (b .side) m) x) (pieces b)
+    (count-any (λ t m. eqb (m .colour) (b .side) && eqb (m .square) x && goesTo (occupied b) m t)
+    (λ m. only (m .square) (share (b .side) m) x) (pieces b)
     (λ m. goes-most (b .side) (occupied b) m x)))
 
 pub moves-most : (b : Board) → length (allMoves (canMove b)) ≤ 8 + 27 * length (b .men)
 unfolding allMoves
 moves-most b =
-    le-trans (length-flatMap (movesFrom (canMove b)) (λ x. total (λ m. only (m .square) (share (b .side) m) x) (pieces b)) squares (from-most b))
+    le-trans (length-flatMap (movesFrom (canMove b))
+    (λ x. total (λ m. only (m .square) (share (b .side) m) x) (pieces b)) squares (from-most b))
     (le-trans (total-pieces (b .side) (pieces b)) (total-kings (b .side) (b .white) (b .black) (b .men)))
 
 -- "There are at most 35" (01)

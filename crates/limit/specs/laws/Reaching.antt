@@ -31,12 +31,15 @@ line-most occ (suc n) s dx dy = go (ltb (shift s dx dy) 64) (line-most occ n (sh
     -- the next square, or one further on
     either : (t : ℕ) → T (eqb u t || not (occ u) && line occ n u dx dy t) → T (eqb t u || line occ n u dx dy t)
     either t h =
-        ⊎-elim (λ e. or-left (eqb t u) (line occ n u dx dy t) (subst T (eqb-sym u t) e)) (λ m. or-right (eqb t u) (line occ n u dx dy t) (and-right (not (occ u)) (line occ n u dx dy t) m))
+        ⊎-elim (λ e. or-left (eqb t u) (line occ n u dx dy t) (subst T (eqb-sym u t) e))
+        (λ m. or-right (eqb t u) (line occ n u dx dy t) (and-right (not (occ u)) (line occ n u dx dy t) m))
         (or-cases (eqb u t) (not (occ u) && line occ n u dx dy t) h)
 
-    go : (on : Bool) → count (line occ n u dx dy) ≤ steps n u dx dy → count (λ t. on && (eqb u t || not (occ u) && line occ n u dx dy t)) ≤ cond on (suc (steps n u dx dy)) 0
+    go : (on : Bool) → count (line occ n u dx dy) ≤ steps n u dx dy
+        → count (λ t. on && (eqb u t || not (occ u) && line occ n u dx dy t)) ≤ cond on (suc (steps n u dx dy)) 0
     go true h =
-        le-trans (count-fewer (λ t. eqb u t || not (occ u) && line occ n u dx dy t) (λ t. eqb t u || line occ n u dx dy t) either)
+        le-trans (count-fewer (λ t. eqb u t || not (occ u) && line occ n u dx dy t)
+        (λ t. eqb t u || line occ n u dx dy t) either)
         (omega (arith, count-or (λ t. eqb t u) (line occ n u dx dy), count-one u))
     go false h = count-none (λ t. false) 0 (λ t. refl)
 
@@ -58,10 +61,12 @@ pub reaches-most : (occ : ℕ → Bool) (kind s : ℕ) → count (reaches occ ki
 unfolding reaches within ofKind
 reaches-most occ kind s =
     ⊎-elim (λ h. count-none (reaches occ kind s) (most kind) (λ t. reaches-none occ kind s t h))
-    (λ h. ⊎-elim (λ o. count-none (reaches occ kind s) (most kind) (λ t. reaches-off occ kind s t (inl o))) (λ o. on h o) (le-or-lt 64 s)) (le-or-lt 6 kind)
+    (λ h. ⊎-elim (λ o. count-none (reaches occ kind s) (most kind) (λ t. reaches-off occ kind s t (inl o)))
+    (λ o. on h o) (le-or-lt 64 s)) (le-or-lt 6 kind)
   where
     on : kind < 6 → s < 64 → count (reaches occ kind s) ≤ most kind
     on h o =
         le-trans
-        (count-any (lineOf occ kind s) (λ k. steps (getD stepRanges kind 0) s (getD stepXs k 0) (getD stepYs k 0)) (stepsOf kind) (λ k. line-most occ (getD stepRanges kind 0) s (getD stepXs k 0) (getD stepYs k 0)))
+        (count-any (lineOf occ kind s) (λ k. steps (getD stepRanges kind 0) s (getD stepXs k 0) (getD stepYs k 0))
+        (stepsOf kind) (λ k. line-most occ (getD stepRanges kind 0) s (getD stepXs k 0) (getD stepYs k 0)))
         (leb→le (ofKind kind s) (most kind) (below2 within 6 64 all-within kind s h o))

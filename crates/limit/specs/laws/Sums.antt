@@ -27,7 +27,8 @@ unfolding total
 total-none [] = refl
 total-none (x ∷ l) = omega (arith, total-none l)
 
-pub length-flatMap : {A B : Type 0} (f : A → List B) (g : A → ℕ) (l : List A) → ((x : A) → length (f x) ≤ g x) → length (flatMap f l) ≤ total g l
+pub length-flatMap : {A B : Type 0} (f : A → List B) (g : A → ℕ) (l : List A) → ((x : A) → length (f x) ≤ g x)
+    → length (flatMap f l) ≤ total g l
 unfolding flatMap total
 length-flatMap f g [] h = omega arith
 length-flatMap f g (x ∷ l) h = simp length-append (omega (arith, h x, length-flatMap f g l h))
@@ -48,7 +49,8 @@ unfolding total numbers
 only-numbers k n zero t = omega arith
 only-numbers k n (suc c) t = go (eqb t k) refl (only-numbers k n c (suc t))
   where
-    go : (b : Bool) → eqb t k ≡ b → total (only k n) (numbers c (suc t)) ≤ n → cond b n 0 + total (only k n) (numbers c (suc t)) ≤ n
+    go : (b : Bool) → eqb t k ≡ b → total (only k n) (numbers c (suc t)) ≤ n
+        → cond b n 0 + total (only k n) (numbers c (suc t)) ≤ n
     go true e h = let q : t ≡ k = eqb-true t k e in omega (arith, past k n c (suc t) (omega arith))
     go false e h = omega arith
 
@@ -66,7 +68,8 @@ unfolding filter total
 length-filter p [] = refl
 length-filter p (x ∷ l) = go (p x) (length-filter p l)
   where
-    go : (b : Bool) → length (filter p l) ≡ total (λ x. cond (p x) 1 0) l → length (keep b x (filter p l)) ≡ cond b 1 0 + total (λ x. cond (p x) 1 0) l
+    go : (b : Bool) → length (filter p l) ≡ total (λ x. cond (p x) 1 0) l
+        → length (keep b x (filter p l)) ≡ cond b 1 0 + total (λ x. cond (p x) 1 0) l
     go true e = omega arith
     go false e = omega arith
 
@@ -79,13 +82,15 @@ count-none p n h = rw (filter-none p squares (λ t m. h t)) (omega arith)
 pub count-fewer : (p q : ℕ → Bool) → ((t : ℕ) → T (p t) → T (q t)) → count p ≤ count q
 count-fewer p q h = filter-fewer p q squares (λ t m. h t)
 
-filter-or : (p q : ℕ → Bool) (l : List ℕ) → length (filter (λ t. p t || q t) l) ≤ length (filter p l) + length (filter q l)
+filter-or : (p q : ℕ → Bool) (l : List ℕ)
+    → length (filter (λ t. p t || q t) l) ≤ length (filter p l) + length (filter q l)
 unfolding filter
 filter-or p q [] = omega arith
 filter-or p q (x ∷ l) = go (p x) (q x) (filter-or p q l)
   where
     go : (a b : Bool) → length (filter (λ t. p t || q t) l) ≤ length (filter p l) + length (filter q l)
-        → length (keep (a || b) x (filter (λ t. p t || q t) l)) ≤ length (keep a x (filter p l)) + length (keep b x (filter q l))
+        → length (keep (a || b) x (filter (λ t. p t || q t) l)) ≤ length (keep a x (filter p l)) + length
+        (keep b x (filter q l))
     go true true h = omega arith
     go true false h = omega arith
     go false true h = omega arith
@@ -95,7 +100,8 @@ pub count-or : (p q : ℕ → Bool) → count (λ t. p t || q t) ≤ count p + c
 count-or p q = filter-or p q squares
 
 -- squares that pass for some member of a list, at most so many for each
-pub count-any : {A : Type 0} (f : ℕ → A → Bool) (g : A → ℕ) (l : List A) → ((x : A) → count (λ t. f t x) ≤ g x) → count (λ t. any (f t) l) ≤ total g l
+pub count-any : {A : Type 0} (f : ℕ → A → Bool) (g : A → ℕ) (l : List A) → ((x : A) → count (λ t. f t x) ≤ g x)
+    → count (λ t. any (f t) l) ≤ total g l
 unfolding any total
 count-any f g [] h = count-none (λ t. false) 0 (λ t. refl)
 count-any f g (x ∷ l) h = omega (arith, count-or (λ t. f t x) (λ t. any (f t) l), h x, count-any f g l h)

@@ -61,7 +61,16 @@ add-result-4 c = search needs
 
 returns : tie.Need-returns
 unfolding fiveDigits
-returns c = (simp (c .before .before .before .before .before .before .before .before .digit-value .ensures .0, c .before .before .before .before .before .before .digit-value2 .ensures .0, c .before .before .before .before .digit-value3 .ensures .0, c .before .before .digit-value4 .ensures .0, c .digit-value5 .ensures .0), omega arith)
+returns c = (
+  simp (
+    c .before .before .before .before .before .before .before .before .digit-value .ensures .0,
+    c .before .before .before .before .before .before .digit-value2 .ensures .0,
+    c .before .before .before .before .digit-value3 .ensures .0,
+    c .before .before .digit-value4 .ensures .0,
+    c .digit-value5 .ensures .0,
+  ),
+  omega arith,
+)
 
 pub five-digits-spec : {M : Type 1} → statement M
 five-digits-spec =

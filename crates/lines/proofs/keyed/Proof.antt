@@ -49,7 +49,8 @@ lone-requires c κs = search needs
 
 returns : tie.Need-returns
 unfolding keyedOf
-returns c = c .lone .ensures ∙ rw (c .before .before .before .before .before .before .before .before .before .before .before .before .man-code .ensures, c .before .before .before .before .before .before .before .before .before .before .side-code .ensures, c .before .before .before .before .before .before .before .square-named .ensures, c .before .before .before .before .square-named2 .ensures, c .before .square-named3 .ensures)
+returns c = c .lone .ensures
+    ∙ rw (c .before .before .before .before .before .before .before .before .before .before .before .before .man-code .ensures, c .before .before .before .before .before .before .before .before .before .before .side-code .ensures, c .before .before .before .before .before .before .before .square-named .ensures, c .before .before .before .before .square-named2 .ensures, c .before .square-named3 .ensures)
 
 pub keyed-spec : {M : Type 1} → statement M
 keyed-spec =

@@ -24,7 +24,8 @@ is-right-requires c κs = search needs
 returns : tie.Need-returns
 returns c =
     let t = c .before in
-    wrong-check _ _ _ (t .before .before .five-digits .ensures .0) (t .before .typed-check .ensures .0) (sym (t .is-right .ensures) ∙ not-true _ (c .if1 .taken))
+    wrong-check _ _ _ (t .before .before .five-digits .ensures .0) (t .before .typed-check .ensures .0)
+    (sym (t .is-right .ensures) ∙ not-true _ (c .if1 .taken))
 
 shared-slice-read-man-code : tie.Need-shared-slice-read-man-code
 shared-slice-read-man-code c = search needs
@@ -36,13 +37,15 @@ returns-2 : tie.Need-returns-2
 returns-2 c =
     let m = c .before in
     let t = m .before .before .before in
-    right-man _ _ _ (t .before .before .five-digits .ensures .0) (t .before .typed-check .ensures .0) _ (m .man-code .ensures) (sym (t .is-right .ensures) ∙ not-false _ (m .before .before .if1 .left)) (c .if2 .taken)
+    right-man _ _ _ (t .before .before .five-digits .ensures .0) (t .before .typed-check .ensures .0) _
+    (m .man-code .ensures) (sym (t .is-right .ensures) ∙ not-false _ (m .before .before .if1 .left)) (c .if2 .taken)
 
 returns-3 : tie.Need-returns-3
 returns-3 c =
     let m = c .before in
     let t = m .before .before .before in
-    wrong-man _ _ _ (t .before .before .five-digits .ensures .0) (t .before .typed-check .ensures .0) _ (m .man-code .ensures) (sym (t .is-right .ensures) ∙ not-false _ (m .before .before .if1 .left)) (c .if2 .left)
+    wrong-man _ _ _ (t .before .before .five-digits .ensures .0) (t .before .typed-check .ensures .0) _
+    (m .man-code .ensures) (sym (t .is-right .ensures) ∙ not-false _ (m .before .before .if1 .left)) (c .if2 .left)
 
 pub number-request-spec : {M : Type 1} → statement M
 number-request-spec =

@@ -18,7 +18,8 @@ keyed-requires c κs = shape-length _ _ (sym (c .before .shaped .ensures) ∙ c 
 
 returns : tie.Need-returns
 unfolding requestOf
-returns c = rw (sym (c .before .before .shaped .ensures) ∙ c .before .if1 .taken) (ap Request.LookUp (c .keyed .ensures))
+returns c =
+    rw (sym (c .before .before .shaped .ensures) ∙ c .before .if1 .taken) (ap Request.LookUp (c .keyed .ensures))
 
 slice-aggregate-shaped-2 : tie.Need-slice-aggregate-shaped-2
 slice-aggregate-shaped-2 c = search needs
@@ -31,11 +32,22 @@ number-request-requires c κs = shape-length _ _ (sym (c .before .shaped2 .ensur
 
 returns-2 : tie.Need-returns-2
 unfolding requestOf
-returns-2 c = rw (sym (c .before .before .before .before .before .shaped .ensures) ∙ c .before .before .before .before .if1 .left, sym (c .before .before .shaped2 .ensures) ∙ c .before .if2 .taken) (c .number-request .ensures)
+returns-2 c =
+    rw (
+      sym (c .before .before .before .before .before .shaped .ensures)
+          ∙ c .before .before .before .before .if1 .left,
+      sym (c .before .before .shaped2 .ensures) ∙ c .before .if2 .taken,
+    )
+    (c .number-request .ensures)
 
 returns-3 : tie.Need-returns-3
 unfolding requestOf
-returns-3 c = rw (sym (c .before .before .before .before .shaped .ensures) ∙ c .before .before .before .if1 .left, sym (c .before .shaped2 .ensures) ∙ c .if2 .left)
+returns-3 c =
+    rw (
+      sym (c .before .before .before .before .shaped .ensures)
+          ∙ c .before .before .before .if1 .left,
+      sym (c .before .shaped2 .ensures) ∙ c .if2 .left,
+    )
 
 pub parse-spec : {M : Type 1} → statement M
 parse-spec =

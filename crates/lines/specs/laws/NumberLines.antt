@@ -7,18 +7,18 @@ use lib.ListN.{getD}
 use borrow.Author.Tests.{le-leb, lt-leb}
 use Rattle.check_digits.specs.Check.{rightNumber}
 use Rattle.lines.specs.declared.Request.{Request}
-use Rattle.lines.specs.Grammar.{manOf, fiveDigits, typedCheck, sevenDigits, numberRequest}
+use Rattle.lines.specs.Grammar.{kindNamed, fiveDigits, typedCheck, sevenDigits, numberRequest}
 
 module _ (line : List ℕ) (five check : ℕ) (e : five ≡ fiveDigits line) (f : check ≡ typedCheck line) where
   pub wrong-check : rightNumber (five * 100 + check) ≡ false → Request.Refused 13 ≡ numberRequest line
   unfolding numberRequest sevenDigits
   wrong-check w = rw (← e, ← f, w)
 
-  module _ (man : ℕ) (m : man ≡ manOf (getD line 0 0)) (r : rightNumber (five * 100 + check) ≡ true) where
-    pub right-man : man < 4 → Request.Back man five ≡ numberRequest line
+  module _ (kind : ℕ) (m : kind ≡ kindNamed (getD line 0 0)) (r : rightNumber (five * 100 + check) ≡ true) where
+    pub right-man : kind < 4 → Request.Back kind five ≡ numberRequest line
     unfolding numberRequest sevenDigits
-    right-man h = rw (← e, ← f, ← m, r, lt-leb 4 man h)
+    right-man h = rw (← e, ← f, ← m, r, lt-leb 4 kind h)
 
-    pub wrong-man : 4 ≤ man → Request.Refused 1 ≡ numberRequest line
+    pub wrong-man : 4 ≤ kind → Request.Refused 1 ≡ numberRequest line
     unfolding numberRequest sevenDigits
-    wrong-man h = rw (← e, ← f, ← m, r, le-leb 4 man h)
+    wrong-man h = rw (← e, ← f, ← m, r, le-leb 4 kind h)

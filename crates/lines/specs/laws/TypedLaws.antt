@@ -24,7 +24,8 @@ use Rattle.lines.specs.Typed.{Digit, typedDigits, RightLine}
 
 digit-place : (i : ℕ) → i < 7 → getD numberShape (4 + i) 0 ≡ code "0"
 unfolding allBelow
-digit-place i h = eqb→eq (getD numberShape (4 + i) 0) (code "0") (below (λ k. eqb (getD numberShape (4 + k) 0) (code "0")) 7 tt i h)
+digit-place i h =
+    eqb→eq (getD numberShape (4 + i) 0) (code "0") (below (λ k. eqb (getD numberShape (4 + k) 0) (code "0")) 7 tt i h)
 
 place-digit : (i b : ℕ) → i < 7 → Digit b → T (fitsPlace (getD numberShape (4 + i) 0) b)
 unfolding fitsPlace
@@ -57,9 +58,20 @@ seven-last : (line : List ℕ) → length line ≡ 11 → drop 11 line ≡ []
 seven-last line e = rw (sym e) (drop-length line)
 
 typed-seven : (line : List ℕ) → length line ≡ 11
-    → typedDigits line ≡ (digitOf (getD line 4 0) ∷ digitOf (getD line 5 0) ∷ digitOf (getD line 6 0) ∷ digitOf (getD line 7 0) ∷ digitOf (getD line 8 0) ∷ digitOf (getD line 9 0) ∷ digitOf (getD line 10 0) ∷ [])
+    → typedDigits line
+    ≡ (digitOf (getD line 4 0) ∷ digitOf (getD line 5 0) ∷ digitOf (getD line 6 0) ∷ digitOf
+    (getD line 7 0) ∷ digitOf (getD line 8 0) ∷ digitOf (getD line 9 0) ∷ digitOf (getD line 10 0) ∷ [])
 typed-seven line e =
-    rw (drop-cons line 4 0 (omega arith), drop-cons line 5 0 (omega arith), drop-cons line 6 0 (omega arith), drop-cons line 7 0 (omega arith), drop-cons line 8 0 (omega arith), drop-cons line 9 0 (omega arith), drop-cons line 10 0 (omega arith), seven-last line e)
+    rw (
+      drop-cons line 4 0 (omega arith),
+      drop-cons line 5 0 (omega arith),
+      drop-cons line 6 0 (omega arith),
+      drop-cons line 7 0 (omega arith),
+      drop-cons line 8 0 (omega arith),
+      drop-cons line 9 0 (omega arith),
+      drop-cons line 10 0 (omega arith),
+      seven-last line e,
+    )
 
 pub seven-reads : (line : List ℕ) → length line ≡ 11 → sevenDigits line ≡ reading 0 (typedDigits line)
 unfolding sevenDigits fiveDigits typedCheck reading
@@ -72,15 +84,20 @@ typed-right line e t = subst (λ (n : ℕ). T (rightNumber n)) (seven-reads line
 -- ---- a number line by its check
 
 -- "The old nine-byte line becomes refusal 12", as any other length does
-pub other-length : (line : List ℕ) → (length line ≡ 11 → ⊥) → (length line ≡ 12 → ⊥) → requestOf line ≡ Request.Refused 12
+pub other-length : (line : List ℕ) → (length line ≡ 11 → ⊥) → (length line ≡ 12 → ⊥)
+    → requestOf line ≡ Request.Refused 12
 unfolding requestOf
-other-length line a b = rw (shape-longer positionShape line (λ e. b (sym e)), shape-longer numberShape line (λ e. a (sym e)))
+other-length line a b =
+    rw (shape-longer positionShape line (λ e. b (sym e)), shape-longer numberShape line (λ e. a (sym e)))
 
-pub request-12 : (line : List ℕ) → length line ≡ 11 → (T (hasShape numberShape line) → ⊥) → requestOf line ≡ Request.Refused 12
+pub request-12 : (line : List ℕ) → length line ≡ 11 → (T (hasShape numberShape line) → ⊥)
+    → requestOf line ≡ Request.Refused 12
 unfolding requestOf
-request-12 line e w = rw (shape-longer positionShape line (λ d. absurd (omega (arith, d))), fails (hasShape numberShape line) w)
+request-12 line e w =
+    rw (shape-longer positionShape line (λ d. absurd (omega (arith, d))), fails (hasShape numberShape line) w)
 
-pub request-13 : (line : List ℕ) → T (hasShape numberShape line) → (T (rightNumber (sevenDigits line)) → ⊥) → requestOf line ≡ Request.Refused 13
+pub request-13 : (line : List ℕ) → T (hasShape numberShape line) → (T (rightNumber (sevenDigits line)) → ⊥)
+    → requestOf line ≡ Request.Refused 13
 unfolding requestOf numberRequest
 request-13 line t w =
     let s : hasShape numberShape line ≡ true = true-of t in
@@ -97,8 +114,10 @@ module _ (line : List ℕ) (r : RightLine line) where
   typed-length = length-map (drop 4 line) digitOf ∙ omega (arith, length-drop 4 line, right-length)
 
   -- one digit altered: to any other digit, at any of the seven places
-  pub altered-refused : (i b : ℕ) → i < 7 → Digit b → (getD line (4 + i) 0 ≡ b → ⊥) → requestOf (set line (4 + i) b) ≡ Request.Refused 13
-  altered-refused i b h d other = request-13 (set line (4 + i) b) (shape-set numberShape line (4 + i) b (r .shaped) (place-digit i b h d)) wrong
+  pub altered-refused : (i b : ℕ) → i < 7 → Digit b → (getD line (4 + i) 0 ≡ b → ⊥)
+      → requestOf (set line (4 + i) b) ≡ Request.Refused 13
+  altered-refused i b h d other =
+      request-13 (set line (4 + i) b) (shape-set numberShape line (4 + i) b (r .shaped) (place-digit i b h d)) wrong
     where
       there : typedDigits (set line (4 + i) b) ≡ set (typedDigits line) i (digitOf b)
       there = ap (map digitOf) (drop-set-add 4 line i b) ∙ set-map digitOf (drop 4 line) i b
@@ -107,12 +126,17 @@ module _ (line : List ℕ) (r : RightLine line) where
       unlike e = other (one-digit (getD line (4 + i) 0) b (digit-at line i (r .shaped) h) d (sym (typed-at line i) ∙ e))
 
       wrong : T (rightNumber (sevenDigits (set line (4 + i) b))) → ⊥
-      wrong t = altered-wrong (typedDigits line) i (digitOf b) (typed-small line) (omega (arith, typed-length)) (omega (arith, digit-most b)) unlike
-          (typed-right line right-length (r .right)) (rw there at (typed-right (set line (4 + i) b) (length-set line (4 + i) b ∙ right-length) t))
+      wrong t = altered-wrong (typedDigits line) i (digitOf b) (typed-small line) (omega (arith, typed-length))
+          (omega (arith, digit-most b)) unlike
+          (typed-right line right-length (r .right))
+          (rw there at (typed-right (set line (4 + i) b) (length-set line (4 + i) b ∙ right-length) t))
 
   -- two unequal neighbours exchanged: any of the six pairs, number and check alike
-  pub exchanged-refused : (i : ℕ) → i < 6 → (getD line (4 + i) 0 ≡ getD line (5 + i) 0 → ⊥) → requestOf (exchanged (4 + i) line) ≡ Request.Refused 13
-  exchanged-refused i h unequal = request-13 (exchanged (4 + i) line) (shape-exchanged numberShape line (4 + i) (omega arith) alike (r .shaped)) wrong
+  pub exchanged-refused : (i : ℕ) → i < 6 → (getD line (4 + i) 0 ≡ getD line (5 + i) 0 → ⊥)
+      → requestOf (exchanged (4 + i) line) ≡ Request.Refused 13
+  exchanged-refused i h unequal =
+      request-13 (exchanged (4 + i) line) (shape-exchanged numberShape line (4 + i) (omega arith) alike (r .shaped))
+      wrong
     where
       next : suc (4 + i) ≡ 4 + suc i
       next = omega arith
@@ -127,13 +151,19 @@ module _ (line : List ℕ) (r : RightLine line) where
       there = ap (map digitOf) (exchanged-drop 4 i line) ∙ exchanged-map digitOf i (drop 4 line)
 
       unlike : getD (typedDigits line) i 0 ≡ getD (typedDigits line) (suc i) 0 → ⊥
-      unlike e = unequal (one-digit (getD line (4 + i) 0) (getD line (5 + i) 0) (digit-at line i (r .shaped) (omega arith)) (rw after at (digit-at line (suc i) (r .shaped) (omega arith)))
+      unlike e = unequal
+          (one-digit (getD line (4 + i) 0) (getD line (5 + i) 0) (digit-at line i (r .shaped) (omega arith))
+          (rw after at (digit-at line (suc i) (r .shaped) (omega arith)))
           (sym (typed-at line i) ∙ e ∙ typed-at line (suc i) ∙ rw after))
 
       wrong : T (rightNumber (sevenDigits (exchanged (4 + i) line))) → ⊥
       wrong t = exchanged-wrong (typedDigits line) i (typed-small line) (omega (arith, typed-length)) unlike
-          (typed-right line right-length (r .right)) (rw there at (typed-right (exchanged (4 + i) line) (exchanged-length (4 + i) line ∙ right-length) t))
+          (typed-right line right-length (r .right))
+          (rw there at (typed-right (exchanged (4 + i) line) (exchanged-length (4 + i) line ∙ right-length) t))
 
   -- a digit altered to any other byte
   pub spoilt-refused : (i b : ℕ) → i < 7 → (Digit b → ⊥) → requestOf (set line (4 + i) b) ≡ Request.Refused 12
-  spoilt-refused i b h other = request-12 (set line (4 + i) b) (length-set line (4 + i) b ∙ right-length) (λ t. other (rw (getD-set-same line (4 + i) b 0 (omega (arith, right-length))) at (digit-at (set line (4 + i) b) i t h)))
+  spoilt-refused i b h other =
+      request-12 (set line (4 + i) b) (length-set line (4 + i) b ∙ right-length)
+      (λ t. other
+      (rw (getD-set-same line (4 + i) b 0 (omega (arith, right-length))) at (digit-at (set line (4 + i) b) i t h)))

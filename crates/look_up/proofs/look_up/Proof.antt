@@ -36,10 +36,23 @@ answer-requires : tie.Need-answer-requires
 answer-requires c κs = tt
 
 returns-3 : tie.Need-returns-3
-returns-3 c = refused-byte _ _ _ (c .before .before .before .before .before .before .before .before .before .before .standing-refusal .ensures) (c .before .before .before .before .before .before .before .before .before .if1 .left) _ (c .before .before .before .before .before .before .man-in .ensures) _ _ _ (c .before .before .before .before .before .before .before .before .if2 .left) (c .before .before .before .before .before .before .before .pair-list .ensures) (c .before .before .before .before .byte-of .ensures _) (c .before .before .verdict-on .ensures) (c .enum-told .given .1)
+returns-3 c =
+    refused-byte _ _ _
+    (c .before .before .before .before .before .before .before .before .before .before .standing-refusal .ensures)
+    (c .before .before .before .before .before .before .before .before .before .if1 .left) _
+    (c .before .before .before .before .before .before .man-in .ensures) _ _ _
+    (c .before .before .before .before .before .before .before .before .if2 .left)
+    (c .before .before .before .before .before .before .before .pair-list .ensures)
+    (c .before .before .before .before .byte-of .ensures _) (c .before .before .verdict-on .ensures)
+    (c .enum-told .given .1)
 
 returns-4 : tie.Need-returns-4
-returns-4 c = c .answer .ensures ∙ answered _ _ _ (c .before .before .before .before .before .before .before .before .before .before .before .before .standing-refusal .ensures) (c .before .before .before .before .before .before .before .before .before .before .before .if1 .left) _ (c .before .before .before .before .before .before .before .before .man-in .ensures) _ _ _ (c .before .before .before .before .before .before .before .before .before .before .if2 .left) (c .before .before .before .before .before .before .before .before .before .pair-list .ensures) (c .before .before .before .before .before .before .byte-of .ensures _) (c .before .before .before .before .verdict-on .ensures) _ (c .before .before .verdict .given .1)
+returns-4 c = c .answer .ensures
+    ∙ answered _ _ _
+    (c .before .before .before .before .before .before .before .before .before .before .before .before .standing-refusal .ensures) (c .before .before .before .before .before .before .before .before .before .before .before .if1 .left) _ (c .before .before .before .before .before .before .before .before .man-in .ensures) _ _ _ (c .before .before .before .before .before .before .before .before .before .before .if2 .left) (c .before .before .before .before .before .before .before .before .before .pair-list .ensures) (c .before .before .before .before .before .before .byte-of .ensures _) (c .before .before .before .before .verdict-on .ensures) _ (c .before .before .verdict .given .1)
 
 pub look-up-spec : {M : Type 1} → statement M
-look-up-spec = tie.close (tie.spec standing-refusal-requires returns returns-2 pair-list-requires man-in-requires byte-of-requires verdict-on-requires enum-told enum-known-verdict answer-requires returns-3 returns-4)
+look-up-spec =
+    tie.close
+    (tie.spec standing-refusal-requires returns returns-2 pair-list-requires man-in-requires byte-of-requires
+    verdict-on-requires enum-told enum-known-verdict answer-requires returns-3 returns-4)

@@ -25,7 +25,8 @@ use Rattle.numbering.specs.laws.ClassLaws.{key-own, number-lt, normal-nu
 men-key : (ending : List Piece) (n : ℕ) → keyFrom (leading ending n) (menAt ending n) ≡ n
 unfolding keyFrom leading menAt
 men-key [] n = refl
-men-key (m ∷ ms) n = let e : leading ms n / 64 * 64 + leading ms n % 64 ≡ leading ms n = omega arith in ap (λ (k : ℕ). keyFrom k (menAt ms n)) e ∙ men-key ms n
+men-key (m ∷ ms) n = let e : leading ms n / 64 * 64 + leading ms n % 64 ≡ leading ms n = omega arith in
+    ap (λ (k : ℕ). keyFrom k (menAt ms n)) e ∙ men-key ms n
 
 leading-lt : (ending : List Piece) (n k : ℕ) → n < k * spread ending → leading ending n < k
 unfolding leading spread
@@ -35,7 +36,9 @@ leading-lt (m ∷ ms) n k h = omega (arith, leading-lt ms n (k * 64) (rw (mul-as
 men-on : (ending : List Piece) (n : ℕ) → T (all onBoard (menAt ending n))
 unfolding all menAt
 men-on [] n = tt
-men-on (m ∷ ms) n = and-both (onBoard (pieceOf (m .kind) (m .colour) (leading ms n % 64))) (all onBoard (menAt ms n)) (lt→ltb (leading ms n % 64) 64 (omega arith)) (men-on ms n)
+men-on (m ∷ ms) n =
+    and-both (onBoard (pieceOf (m .kind) (m .colour) (leading ms n % 64))) (all onBoard (menAt ms n))
+    (lt→ltb (leading ms n % 64) 64 (omega arith)) (men-on ms n)
 
 men-unplaced : (ending : List Piece) (n : ℕ) → map unplaced (menAt ending n) ≡ map unplaced ending
 unfolding menAt
@@ -56,7 +59,8 @@ pub key-at : (ending : List Piece) (n : ℕ) → keyOf (boardAt ending n) ≡ n
 unfolding keyOf boardAt
 key-at ending n =
     let q = kings-at ending n .bears in
-    let e : leading ending n / 462 * 462 + pairOf (kingsOf (leading ending n % 462) / 64) (kingsOf (leading ending n % 462) % 64) ≡ leading ending n = omega arith in
+    let e : leading ending n / 462 * 462 + pairOf (kingsOf (leading ending n % 462) / 64)
+    (kingsOf (leading ending n % 462) % 64) ≡ leading ending n = omega arith in
     ap (λ (k : ℕ). keyFrom k (menAt ending n)) e ∙ men-key ending n
 
 pub ruled-at : (ending : List Piece) (n : ℕ) → T (kingRule (boardAt ending n .white) (boardAt ending n .black))
@@ -64,16 +68,24 @@ unfolding boardAt
 ruled-at ending n = kings-at ending n .ruled
 
 -- a list of men is an ending where it is some board's
-pub numberable-at : (ending : List Piece) (n : ℕ) → map unplaced ending ≡ ending → n < 924 * spread ending → Numberable ending (boardAt ending n)
+pub numberable-at : (ending : List Piece) (n : ℕ) → map unplaced ending ≡ ending → n < 924 * spread ending
+    → Numberable ending (boardAt ending n)
 unfolding boardAt endingOf
 numberable-at ending n p h =
     let k = leading-lt ending n 924 h in
     let w = kingsOf (leading ending n % 462) / 64 in
     let b = kingsOf (leading ending n % 462) % 64 in
-    record { men = men-unplaced ending n ∙ p; side = omega arith; squares = men-on ending n; kings = ruled-separate w b (ruled-at ending n) }
+    record {
+      men = men-unplaced ending n
+          ∙ p;
+      side = omega arith;
+      squares = men-on ending n;
+      kings = ruled-separate w b (ruled-at ending n);
+    }
 
 -- a used number leads back to a board that bears it
-pub used-number : (ending : List Piece) (n : ℕ) → map unplaced ending ≡ ending → n < 924 * spread ending → T (used (boardAt ending n)) → numberOf (boardAt ending n) ≡ n
+pub used-number : (ending : List Piece) (n : ℕ) → map unplaced ending ≡ ending → n < 924 * spread ending
+    → T (used (boardAt ending n)) → numberOf (boardAt ending n) ≡ n
 unfolding used
 used-number ending n p h u =
     let b = boardAt ending n in
@@ -84,8 +96,10 @@ module _ {ending : List Piece} (b : Board) (s : Numberable ending b) where
   pub at-number : boardAt ending (numberOf b) ≡ normalised b
   unfolding numberOf endingOf
   at-number =
-      let p : map unplaced ending ≡ ending = subst (λ (e : List Piece). map unplaced e ≡ e) (s .men) (unplaced-twice (b .men)) in
-      key-own (boardAt ending (numberOf b)) (numberable-at ending (numberOf b) p (number-lt b s)) (normalised b) (normalised-numberable b s) (ruled-at ending (numberOf b))
+      let p : map unplaced ending ≡ ending =
+      subst (λ (e : List Piece). map unplaced e ≡ e) (s .men) (unplaced-twice (b .men)) in
+      key-own (boardAt ending (numberOf b)) (numberable-at ending (numberOf b) p (number-lt b s)) (normalised b)
+      (normalised-numberable b s) (ruled-at ending (numberOf b))
       (normal-kings (normalised b) (normalised-normal b s))
       (key-at ending (numberOf b))
 
@@ -94,4 +108,5 @@ module _ {ending : List Piece} (b : Board) (s : Numberable ending b) where
   unfolding used normalised
   number-used t =
       subst⁻¹ (λ (c : Board). T (used c)) at-number
-      (and-both (apart (pieces (normalised b))) (normal (normalised b)) (rw (apart-changed (normalMap b) false b) t) (normalised-normal b s))
+      (and-both (apart (pieces (normalised b))) (normal (normalised b)) (rw (apart-changed (normalMap b) false b) t)
+      (normalised-normal b s))

@@ -58,7 +58,8 @@ module _ {ending : List Piece} (b : Board) (s : Numberable ending b) where
   key-own c r t u e =
       let cw = separate-white (c .white) (c .black) (r .kings) in
       let ck = separate-black (c .white) (c .black) (r .kings) in
-      let k = key-from-own (b .men) (c .men) (b .side * 462 + pairOf (b .white) (b .black)) (c .side * 462 + pairOf (c .white) (c .black)) (s .men ∙ sym (r .men)) (s .squares) (r .squares) e in
+      let k = key-from-own (b .men) (c .men) (b .side * 462 + pairOf (b .white) (b .black))
+      (c .side * 462 + pairOf (c .white) (c .black)) (s .men ∙ sym (r .men)) (s .squares) (r .squares) e in
       let n : b .side * 462 + pairOf (b .white) (b .black) ≡ c .side * 462 + pairOf (c .white) (c .black) = k .0 in
       let p = pair-lt (b .white) (b .black) white-on black-on t in
       let q = pair-lt (c .white) (c .black) cw ck u in
@@ -78,25 +79,31 @@ module _ {ending : List Piece} where
   least-is b s = ap (λ (e : List Piece). leastOf e b) (s .men)
 
   -- of the maps' images with kings by the rule, the normal one has the least key
-  normalised-least : (b : Board) → Numberable ending b → (m : Symmetry) → T (ruled (image m b)) → numberOf b ≤ keyOf (image m b)
+  normalised-least : (b : Board) → Numberable ending b → (m : Symmetry) → T (ruled (image m b))
+      → numberOf b ≤ keyOf (image m b)
   unfolding numberOf normalised changed
   normalised-least b s m t =
       let n = composed (inverse (normalMap b)) m in
-      let e : image n (normalised b) ≡ image m b = sym (maps-compose (inverse (normalMap b)) m (normalised b)) ∙ ap (image m) (changed-back (normalMap b) false b) in
+      let e : image n (normalised b) ≡ image m b = sym (maps-compose (inverse (normalMap b)) m (normalised b))
+      ∙ ap (image m) (changed-back (normalMap b) false b) in
       subst (λ (c : Board). keyOf (normalised b) ≤ keyOf c) e
-      (normal-least n (normalised b) (normalised-numberable b s) (normalised-normal b s) (subst⁻¹ (λ (c : Board). T (ruled c)) e t))
+      (normal-least n (normalised b) (normalised-numberable b s) (normalised-normal b s)
+      (subst⁻¹ (λ (c : Board). T (ruled c)) e t))
 
   pub number-lt : (b : Board) → Numberable ending b → numberOf b < 924 * spread ending
   unfolding numberOf
-  number-lt b s = key-lt (normalised b) (normalised-numberable b s) (normal-kings (normalised b) (normalised-normal b s))
+  number-lt b s =
+      key-lt (normalised b) (normalised-numberable b s) (normal-kings (normalised b) (normalised-normal b s))
 
   number-least-of : (b : Board) → Numberable ending b → numberOf b ≡ leastOf ending b
   unfolding numberOf normalised
   number-least-of b s =
       le-antisymm
-      (⊎-elim (λ z. let h = number-lt b s in omega arith) (λ z. subst⁻¹ (λ (n : ℕ). numberOf b ≤ n) (z .2) (normalised-least b s (z .0) (z .1)))
+      (⊎-elim (λ z. let h = number-lt b s in omega arith)
+      (λ z. subst⁻¹ (λ (n : ℕ). numberOf b ≤ n) (z .2) (normalised-least b s (z .0) (z .1)))
       (least-at image ruled keyOf (924 * spread ending) symmetries b))
-      (least-le image ruled keyOf (924 * spread ending) b (every-symmetry (normalMap b)) (normal-kings (normalised b) (normalised-normal b s)))
+      (least-le image ruled keyOf (924 * spread ending) b (every-symmetry (normalMap b))
+      (normal-kings (normalised b) (normalised-normal b s)))
 
   -- "normal" is the least number in the class
   pub number-least : (b : Board) → Numberable ending b → numberOf b ≡ leastKey b
@@ -109,7 +116,8 @@ module _ {ending : List Piece} where
       let m = normalMap b in
       let e : image (composed m (inverse m)) b ≡ b = sym (maps-compose m (inverse m) b) ∙ changed-back m false b in
       le-antisymm
-      (subst (λ (c : Board). numberOf b ≤ keyOf c) e (normalised-least b s (composed m (inverse m)) (subst⁻¹ (λ (c : Board). T (ruled c)) e (normal-kings b n))))
+      (subst (λ (c : Board). numberOf b ≤ keyOf c) e
+      (normalised-least b s (composed m (inverse m)) (subst⁻¹ (λ (c : Board). T (ruled c)) e (normal-kings b n))))
       (normal-least m b s n (normal-kings (normalised b) (normalised-normal b s)))
 
   -- ---- one number for each class
@@ -117,12 +125,15 @@ module _ {ending : List Piece} where
   pub number-mapped : (m : Symmetry) (b : Board) → Numberable ending b → numberOf (image m b) ≡ numberOf b
   number-mapped m b s =
       number-least-of (image m b) (numberable-mapped m b s)
-      ∙ class-kept image ruled keyOf (924 * spread ending) symmetries every-symmetry composed inverse (Numberable ending) numberable-mapped (λ m n b s. maps-compose m n b) (λ m b s. changed-back m false b) m b s
+      ∙ class-kept image ruled keyOf (924 * spread ending) symmetries every-symmetry composed inverse
+      (Numberable ending) numberable-mapped (λ m n b s. maps-compose m n b) (λ m b s. changed-back m false b) m b s
       ∙ sym (number-least-of b s)
 
-  pub number-class : (b c : Board) → Numberable ending b → Numberable ending c → numberOf b ≡ numberOf c → (m : Symmetry) × (image m b ≡ c)
+  pub number-class : (b c : Board) → Numberable ending b → Numberable ending c → numberOf b ≡ numberOf c
+      → (m : Symmetry) × (image m b ≡ c)
   number-class b c s r e =
-      class-one image ruled keyOf (924 * spread ending) symmetries every-symmetry composed inverse (Numberable ending) numberable-mapped (λ m n b s. maps-compose m n b) (λ m b s. changed-back m false b)
+      class-one image ruled keyOf (924 * spread ending) symmetries every-symmetry composed inverse (Numberable ending)
+      numberable-mapped (λ m n b s. maps-compose m n b) (λ m b s. changed-back m false b)
       (λ x y o p t u k. key-own x o y p t u k) b c s r
       (subst (λ (n : ℕ). n < 924 * spread ending) (number-least-of b s) (number-lt b s))
       (sym (number-least-of b s) ∙ e ∙ number-least-of c r)

@@ -11,7 +11,7 @@ use Rattle.symmetry.specs.laws.SymmetryLaws.{allSymmetries, symmetry-at, ltb-ma
 use Rattle.symmetry.specs.laws.ReachMapped.{reaches-mapped}
 use Rattle.numbering.specs.Kings.{onDiagonal, cornered, separate}
 use Rattle.numbering.specs.Normal.{turn, swapsKings}
-use Rattle.numbering.specs.KingMaps.{Still, kingMap, swapping}
+use Rattle.numbering.specs.KingMaps.{Still, kingMap}
 
 -- ---- it puts the kings by the rule, and where both are on the diagonal it goes the men's way
 
@@ -30,8 +30,10 @@ all-fit = tt
 
 fit : (white black : ℕ) (men : Bool) → white < 64 → black < 64 → T (fits white black men)
 unfolding fits-both
-fit white black true hw hk = and-left (fits white black true) (fits white black false) (below2 fits-both 64 64 all-fit white black hw hk)
-fit white black false hw hk = and-right (fits white black true) (fits white black false) (below2 fits-both 64 64 all-fit white black hw hk)
+fit white black true hw hk =
+    and-left (fits white black true) (fits white black false) (below2 fits-both 64 64 all-fit white black hw hk)
+fit white black false hw hk =
+    and-right (fits white black true) (fits white black false) (below2 fits-both 64 64 all-fit white black hw hk)
 
 module _ (white black : ℕ) (men : Bool) (hw : white < 64) (hk : black < 64) where
   pub king-map-corners : T (cornered (mapped (kingMap white black men) white) (mapped (kingMap white black men) black))
@@ -39,16 +41,19 @@ module _ (white black : ℕ) (men : Bool) (hw : white < 64) (hk : black < 64) wh
   king-map-corners =
       let w = mapped (kingMap white black men) white in
       let k = mapped (kingMap white black men) black in
-      and-left (cornered w k) (implies (onDiagonal w && onDiagonal k) (Bool·beq (kingMap white black men .swap) men)) (fit white black men hw hk)
+      and-left (cornered w k) (implies (onDiagonal w && onDiagonal k) (Bool·beq (kingMap white black men .swap) men))
+      (fit white black men hw hk)
 
-  pub king-map-chooses : T (onDiagonal (mapped (kingMap white black men) white) && onDiagonal (mapped (kingMap white black men) black)) → kingMap white black men .swap ≡ men
+  pub king-map-chooses : T (onDiagonal (mapped (kingMap white black men) white) && onDiagonal
+      (mapped (kingMap white black men) black)) → kingMap white black men .swap ≡ men
   unfolding fits
   king-map-chooses d =
       let w = mapped (kingMap white black men) white in
       let k = mapped (kingMap white black men) black in
       same-answer (kingMap white black men .swap) men
       (implied (onDiagonal w && onDiagonal k) (Bool·beq (kingMap white black men .swap) men)
-      (and-right (cornered w k) (implies (onDiagonal w && onDiagonal k) (Bool·beq (kingMap white black men .swap) men)) (fit white black men hw hk)) d)
+      (and-right (cornered w k) (implies (onDiagonal w && onDiagonal k) (Bool·beq (kingMap white black men .swap) men))
+      (fit white black men hw hk)) d)
 
 -- ---- a map from kings by the rule to kings by the rule reverses nothing, and exchanges file and rank only with both on the diagonal
 
@@ -65,12 +70,15 @@ all-still : T (allBelow2 stills 64 64)
 unfolding allSymmetries all allBelow allBelow2 stills still-if still mapped cornered
 all-still = tt
 
-pub kings-still : (white black : ℕ) (m : Symmetry) → white < 64 → black < 64 → T (cornered white black) → T (cornered (mapped m white) (mapped m black)) → Still white black m
+pub kings-still : (white black : ℕ) (m : Symmetry) → white < 64 → black < 64 → T (cornered white black)
+    → T (cornered (mapped m white) (mapped m black)) → Still white black m
 unfolding stills still-if still
 kings-still white black m hw hk s t =
-    let each = implied (cornered white black) (allSymmetries (still-if white black)) (below2 stills 64 64 all-still white black hw hk) s in
+    let each = implied (cornered white black) (allSymmetries (still-if white black))
+    (below2 stills 64 64 all-still white black hw hk) s in
     let r = parts (m .files) (m .ranks) (m .swap) (onDiagonal white && onDiagonal black)
-    (implied (cornered (mapped m white) (mapped m black)) (still white black m) (symmetry-at (still-if white black) each m) t) in
+    (implied (cornered (mapped m white) (mapped m black)) (still white black m)
+    (symmetry-at (still-if white black) each m) t) in
     record { only = λ i. record { files = r .0 i; ranks = r .1 i; swap = m .swap }; diagonals = r .2 }
   where
     parts : (f r e d : Bool) → T (not f && not r && implies e d) → (f ≡ false) × (r ≡ false) × (T e → T d)
@@ -80,7 +88,13 @@ kings-still white black m hw hk s t =
 
 -- ---- the maps keep kings apart
 
-pub separate-mapped : (m : Symmetry) (white black : ℕ) → separate (mapped m white) (mapped m black) ≡ separate white black
+pub separate-mapped : (m : Symmetry) (white black : ℕ)
+    → separate (mapped m white) (mapped m black) ≡ separate white black
 unfolding separate
 separate-mapped m white black =
-    rw (ltb-mapped m white, ltb-mapped m black, eqb-mapped m white black, reaches-mapped m (λ s. false) (λ s. false) (λ s. refl) 5 white black)
+    rw (
+      ltb-mapped m white,
+      ltb-mapped m black,
+      eqb-mapped m white black,
+      reaches-mapped m (λ s. false) (λ s. false) (λ s. refl) 5 white black,
+    )

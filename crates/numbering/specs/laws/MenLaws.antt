@@ -32,10 +32,12 @@ tail-on a l t = and-right (onBoard a) (all onBoard l) t
 -- ---- keys
 
 -- what comes first decides
-pub key-rises : (f : Piece → Piece) (l : List Piece) (n k : ℕ) → T (all onBoard l) → n < k → keyFrom n l < keyFrom k (map f l)
+pub key-rises : (f : Piece → Piece) (l : List Piece) (n k : ℕ) → T (all onBoard l) → n < k
+    → keyFrom n l < keyFrom k (map f l)
 unfolding keyFrom
 key-rises f [] n k t h = h
-key-rises f (a ∷ l) n k t h = let s = head-on a l t in key-rises f l (n * 64 + a .square) (k * 64 + f a .square) (tail-on a l t) (omega arith)
+key-rises f (a ∷ l) n k t h =
+    let s = head-on a l t in key-rises f l (n * 64 + a .square) (k * 64 + f a .square) (tail-on a l t) (omega arith)
 
 pub key-from-lt : (l : List Piece) (n k : ℕ) → T (all onBoard l) → n < k → keyFrom n l < k * spread l
 unfolding keyFrom spread
@@ -45,10 +47,12 @@ key-from-lt (a ∷ l) n k t h =
     rw (← mul-assoc k 64 (spread l)) (key-from-lt l (n * 64 + a .square) (k * 64) (tail-on a l t) (omega arith))
 
 piece-eq : {a b : Piece} → unplaced a ≡ unplaced b → a .square ≡ b .square → a ≡ b
-piece-eq {a} {b} u e = λ i. record { kind = ap (λ (m : Piece). m .kind) u i; colour = ap (λ (m : Piece). m .colour) u i; square = e i }
+piece-eq {a} {b} u e =
+    λ i. record { kind = ap (λ (m : Piece). m .kind) u i; colour = ap (λ (m : Piece). m .colour) u i; square = e i }
 
 -- men of one ending with one key stand on the same squares
-pub key-from-own : (l k : List Piece) (m n : ℕ) → map unplaced l ≡ map unplaced k → T (all onBoard l) → T (all onBoard k) → keyFrom m l ≡ keyFrom n k → (m ≡ n) × (l ≡ k)
+pub key-from-own : (l k : List Piece) (m n : ℕ) → map unplaced l ≡ map unplaced k → T (all onBoard l)
+    → T (all onBoard k) → keyFrom m l ≡ keyFrom n k → (m ≡ n) × (l ≡ k)
 unfolding keyFrom
 key-from-own [] [] m n u s t e = (e, refl)
 key-from-own [] (b ∷ k) m n u s t e = let z : _≡_ {A = ℕ} 0 1 = cc in absurd (omega arith)
@@ -69,7 +73,9 @@ key-from-own (a ∷ l) (b ∷ k) m n u s t e =
 
 -- a man not above the diagonal stays, on it, or goes to a higher square
 goes-up : Bool → ℕ → Bool
-goes-up e s = implies (not (e && above s)) (cond (eqb (mapped (swapping e) s) s) (implies e (onDiagonal s)) (ltb s (mapped (swapping e) s)))
+goes-up e s =
+    implies (not (e && above s))
+    (cond (eqb (mapped (swapping e) s) s) (implies e (onDiagonal s)) (ltb s (mapped (swapping e) s)))
 
 all-up : T (allBelow (λ s. goes-up true s && goes-up false s) 64)
 unfolding allBelow goes-up mapped
@@ -77,7 +83,8 @@ all-up = tt
 
 up : (e : Bool) (s : ℕ) → s < 64 → T (goes-up e s)
 up true s h = and-left (goes-up true s) (goes-up false s) (below (λ s. goes-up true s && goes-up false s) 64 all-up s h)
-up false s h = and-right (goes-up true s) (goes-up false s) (below (λ s. goes-up true s && goes-up false s) 64 all-up s h)
+up false s h =
+    and-right (goes-up true s) (goes-up false s) (below (λ s. goes-up true s && goes-up false s) 64 all-up s h)
 
 not-above : (e a d f : Bool) → (T e → (a || (d && f)) ≡ false) → T (not (e && a))
 not-above true true d f h = absurd (refuted (h tt) tt)
@@ -90,38 +97,50 @@ rest-low true false true f h i t = h tt
 rest-low true false false f h i t = absurd i
 rest-low false a d f h i t = absurd t
 
-pub swap-raises : (e : Bool) (l : List Piece) (n : ℕ) → T (all onBoard l) → (T e → firstAbove l ≡ false) → keyFrom n l ≤ keyFrom n (map (changedPiece (swapping e) false) l)
+pub swap-raises : (e : Bool) (l : List Piece) (n : ℕ) → T (all onBoard l) → (T e → firstAbove l ≡ false)
+    → keyFrom n l ≤ keyFrom n (map (changedPiece (swapping e) false) l)
 unfolding keyFrom firstAbove goes-up
 swap-raises e [] n t h = omega arith
 swap-raises e (a ∷ l) n t h =
     let s = a .square in
     let u = mapped (swapping e) s in
-    let g = implied (not (e && above s)) (cond (eqb u s) (implies e (onDiagonal s)) (ltb s u)) (up e s (head-on a l t)) (not-above e (above s) (onDiagonal s) (firstAbove l) h) in
+    let g = implied (not (e && above s)) (cond (eqb u s) (implies e (onDiagonal s)) (ltb s u)) (up e s (head-on a l t))
+    (not-above e (above s) (onDiagonal s) (firstAbove l) h) in
     by-test (eqb u s)
-    (λ q. let d : T (implies e (onDiagonal s)) = subst T (cond-true (eqb u s) (implies e (onDiagonal s)) (ltb s u) q) g in
+    (λ q. let d : T (implies e (onDiagonal s)) = subst T (cond-true (eqb u s) (implies e (onDiagonal s)) (ltb s u) q) g
+    in
     let i = swap-raises e l (n * 64 + s) (tail-on a l t) (rest-low e (above s) (onDiagonal s) (firstAbove l) h d) in
-    subst (λ (x : ℕ). keyFrom (n * 64 + s) l ≤ keyFrom (n * 64 + x) (map (changedPiece (swapping e) false) l)) (sym (eqb→eq u s q)) i)
+    subst (λ (x : ℕ). keyFrom (n * 64 + s) l ≤ keyFrom (n * 64 + x) (map (changedPiece (swapping e) false) l))
+    (sym (eqb→eq u s q)) i)
     (λ q. let o = ltb→lt s u (subst T (cond-false (eqb u s) (implies e (onDiagonal s)) (ltb s u) q) g) in
-    omega (arith, key-rises (changedPiece (swapping e) false) l (n * 64 + s) (n * 64 + u) (tail-on a l t) (omega arith)))
+    omega (
+      arith,
+      key-rises (changedPiece (swapping e) false) l (n * 64 + s) (n * 64 + u) (tail-on a l t) (omega arith),
+    ))
 
 -- where the first man off the diagonal is above it, after the exchange he is below it
 goes-down : ℕ → Bool
 goes-down s =
-    cond (onDiagonal s) (not (above s) && not (above (mapped exchange s))) (implies (above s) (not (above (mapped exchange s)) && not (onDiagonal (mapped exchange s))))
+    cond (onDiagonal s) (not (above s) && not (above (mapped exchange s)))
+    (implies (above s) (not (above (mapped exchange s)) && not (onDiagonal (mapped exchange s))))
 
 all-down : T (allBelow goes-down 64)
 unfolding allBelow goes-down mapped
 all-down = tt
 
-pub swap-lowers : (l : List Piece) → T (all onBoard l) → T (firstAbove l) → firstAbove (map (changedPiece exchange false) l) ≡ false
+pub swap-lowers : (l : List Piece) → T (all onBoard l) → T (firstAbove l)
+    → firstAbove (map (changedPiece exchange false) l) ≡ false
 unfolding firstAbove goes-down
 swap-lowers [] t h = absurd h
 swap-lowers (a ∷ l) t h =
     let s = a .square in
     let u = mapped exchange s in
-    low (onDiagonal s) (above s) (onDiagonal u) (above u) (firstAbove l) (firstAbove (map (changedPiece exchange false) l)) (below goes-down 64 all-down s (head-on a l t)) h (swap-lowers l (tail-on a l t))
+    low (onDiagonal s) (above s) (onDiagonal u) (above u) (firstAbove l)
+    (firstAbove (map (changedPiece exchange false) l)) (below goes-down 64 all-down s (head-on a l t)) h
+    (swap-lowers l (tail-on a l t))
   where
-    low : (d b d′ b′ f f′ : Bool) → T (cond d (not b && not b′) (implies b (not b′ && not d′))) → T (b || (d && f)) → (T f → f′ ≡ false) → (b′ || (d′ && f′)) ≡ false
+    low : (d b d′ b′ f f′ : Bool) → T (cond d (not b && not b′) (implies b (not b′ && not d′))) → T (b || (d && f))
+        → (T f → f′ ≡ false) → (b′ || (d′ && f′)) ≡ false
     low true true d′ b′ f f′ g k i = absurd g
     low true false d′ true f f′ g k i = absurd g
     low true false true false f f′ g k i = i k

@@ -30,21 +30,26 @@ unfolding separate
 separate-white white black t =
     let a = ltb white 64 && ltb black 64 in
     let c = a && not (eqb white black) in
-    ltb→lt white 64 (and-left (ltb white 64) (ltb black 64) (and-left a (not (eqb white black)) (and-left c (not (reaches (λ s. false) 5 white black)) t)))
+    ltb→lt white 64
+    (and-left (ltb white 64) (ltb black 64)
+    (and-left a (not (eqb white black)) (and-left c (not (reaches (λ s. false) 5 white black)) t)))
 
 pub separate-black : (white black : ℕ) → T (separate white black) → black < 64
 unfolding separate
 separate-black white black t =
     let a = ltb white 64 && ltb black 64 in
     let c = a && not (eqb white black) in
-    ltb→lt black 64 (and-right (ltb white 64) (ltb black 64) (and-left a (not (eqb white black)) (and-left c (not (reaches (λ s. false) 5 white black)) t)))
+    ltb→lt black 64
+    (and-right (ltb white 64) (ltb black 64)
+    (and-left a (not (eqb white black)) (and-left c (not (reaches (λ s. false) 5 white black)) t)))
 
 pub separate-apart : (white black : ℕ) → T (separate white black) → eqb white black ≡ false
 unfolding separate
 separate-apart white black t =
     let a = ltb white 64 && ltb black 64 in
     let c = a && not (eqb white black) in
-    false-of {b = eqb white black} (and-right a (not (eqb white black)) (and-left c (not (reaches (λ s. false) 5 white black)) t))
+    false-of {b = eqb white black}
+    (and-right a (not (eqb white black)) (and-left c (not (reaches (λ s. false) 5 white black)) t))
 
 pub separate-touching : (white black : ℕ) → T (separate white black) → reaches (λ s. false) 5 white black ≡ false
 unfolding separate
@@ -64,7 +69,8 @@ ruled-separate white black t = and-right (cornered white black) (separate white 
 
 pub ruled-triangle : (white black : ℕ) → T (kingRule white black) → T (inTriangle white)
 unfolding cornered
-ruled-triangle white black t = and-left (inTriangle white) (implies (onDiagonal white) (not (above black))) (ruled-cornered white black t)
+ruled-triangle white black t =
+    and-left (inTriangle white) (implies (onDiagonal white) (not (above black))) (ruled-cornered white black t)
 
 -- ---- the maps keep them
 
@@ -73,7 +79,8 @@ unfolding swapped
 unplaced-mapped m [] = refl
 unplaced-mapped m (a ∷ l) = ap (λ (k : List Piece). unplaced a ∷ k) (unplaced-mapped m l)
 
-pub numberable-mapped : {ending : List Piece} (m : Symmetry) (b : Board) → Numberable ending b → Numberable ending (changed m false b)
+pub numberable-mapped : {ending : List Piece} (m : Symmetry) (b : Board) → Numberable ending b
+    → Numberable ending (changed m false b)
 unfolding changed swapped endingOf
 numberable-mapped m b s = record {
   men = unplaced-mapped m (b .men) ∙ s .men;

@@ -34,7 +34,8 @@ module _ (white black : ℕ) (hw : white < 64) (hk : black < 64) (t : T (kingRul
   -- the pair leads back to the kings
   pub kings-back : kingsOf (pairOf white black) ≡ white * 64 + black
   unfolding kingsOf
-  kings-back = ap (select kingPair 4096) pair-rank ∙ select-rank kingPair 4096 (white * 64 + black) pair-passes (omega arith)
+  kings-back =
+      ap (select kingPair 4096) pair-rank ∙ select-rank kingPair 4096 (white * 64 + black) pair-passes (omega arith)
 
 -- the kings of a pair
 pub record KingsOf (q : ℕ) : Type 0 where
@@ -52,11 +53,19 @@ kings-of q h =
     let hw : k / 64 < 64 = omega arith in
     let hk : k % 64 < 64 = omega arith in
     let e : k / 64 * 64 + k % 64 ≡ k = omega arith in
-    record { white = hw; black = hk; ruled = s .passes; bears = pair-rank (k / 64) (k % 64) hw hk (s .passes) ∙ ap (rank kingPair) e ∙ s .ranked }
+    record {
+      white = hw;
+      black = hk;
+      ruled = s .passes;
+      bears = pair-rank (k / 64) (k % 64) hw hk (s .passes)
+          ∙ ap (rank kingPair) e ∙ s .ranked;
+    }
 
 -- two pairs with one number are one
 pub pair-one : (white black white′ black′ : ℕ) → white < 64 → black < 64 → white′ < 64 → black′ < 64
-    → T (kingRule white black) → T (kingRule white′ black′) → pairOf white black ≡ pairOf white′ black′ → (white ≡ white′) × (black ≡ black′)
+    → T (kingRule white black) → T (kingRule white′ black′) → pairOf white black ≡ pairOf white′ black′
+    → (white ≡ white′) × (black ≡ black′)
 pair-one white black white′ black′ hw hk hw′ hk′ t t′ e =
-    let k : white * 64 + black ≡ white′ * 64 + black′ = sym (kings-back white black hw hk t) ∙ ap kingsOf e ∙ kings-back white′ black′ hw′ hk′ t′ in
+    let k : white * 64 + black ≡ white′ * 64 + black′ = sym (kings-back white black hw hk t) ∙ ap kingsOf e
+    ∙ kings-back white′ black′ hw′ hk′ t′ in
     (omega arith, omega arith)

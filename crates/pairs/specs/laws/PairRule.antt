@@ -27,7 +27,8 @@ all-back : T (allBelow slot-back 10)
 unfolding allBelow slot-back slotOf
 all-back = tt
 
-pub entry-is : (slot black : ℕ) → slot < 10 → black < 64 → getD pairs (slot * 64 + black) 0 ≡ pairOf (getD whites slot 0) black
+pub entry-is : (slot black : ℕ) → slot < 10 → black < 64
+    → getD pairs (slot * 64 + black) 0 ≡ pairOf (getD whites slot 0) black
 unfolding slot-back
 entry-is slot black h k =
     let w = getD whites slot 0 in
@@ -66,7 +67,9 @@ present-count = refl
 -- an entry is the count of those before it
 entry-rank : (i : ℕ) → i < 640 → T (present i) → getD pairs i 0 ≡ rank present i
 unfolding counts
-entry-rank i h t = eqb→eq (getD pairs i 0) (rank present i) (implied (present i) (eqb (getD pairs i 0) (rank present i)) (passed present counts 640 all-count i h) t)
+entry-rank i h t =
+    eqb→eq (getD pairs i 0) (rank present i)
+    (implied (present i) (eqb (getD pairs i 0) (rank present i)) (passed present counts 640 all-count i h) t)
 
 pub entries-rise : (i j : ℕ) → i < j → j < 640 → T (present i) → T (present j) → getD pairs i 0 < getD pairs j 0
 entries-rise i j h k s t = rw (entry-rank i (omega arith) s, entry-rank j k t) (rank-rises present i j s h)

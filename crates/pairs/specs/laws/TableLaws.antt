@@ -30,16 +30,26 @@ unfolding allBelow slot-right slotOf
 all-slots = tt
 
 in-triangle : (white : ℕ) → T (inTriangle white) → white < 28
-in-triangle white t = omega (arith, ltb→lt (white % 8) 4 (and-left (ltb (white % 8) 4) (not (above white)) t), nltb→le (white % 8) (white / 8) (and-right (ltb (white % 8) 4) (not (above white)) t))
+in-triangle white t =
+    omega (
+      arith,
+      ltb→lt (white % 8) 4 (and-left (ltb (white % 8) 4) (not (above white)) t),
+      nltb→le (white % 8) (white / 8) (and-right (ltb (white % 8) 4) (not (above white)) t),
+    )
 
 -- a square has a place exactly in the triangle
 slot-in : (white : ℕ) → T (inTriangle white) → slotOf white < 10
 unfolding slot-right
-slot-in white t = ltb→lt (slotOf white) 10 (implied (inTriangle white) (ltb (slotOf white) 10) (below slot-right 28 all-slots white (in-triangle white t)) t)
+slot-in white t =
+    ltb→lt (slotOf white) 10
+    (implied (inTriangle white) (ltb (slotOf white) 10) (below slot-right 28 all-slots white (in-triangle white t)) t)
 
 inside : (white : ℕ) → slotOf white < 10 → T (inTriangle white)
 unfolding slotOf
-inside white h = by-test (inTriangle white) (λ t. t) (λ f. let e = cond-false (inTriangle white) (white % 8 + white / 8 * (7 - white / 8) / 2) 10 f in absurd (omega arith))
+inside white h =
+    by-test (inTriangle white) (λ t. t)
+    (λ f. let e = cond-false (inTriangle white) (white % 8 + white / 8 * (7 - white / 8) / 2) 10 f in
+    absurd (omega arith))
 
 -- as the code finds it
 pub slot-past : (white : ℕ) → 3 < white % 8 → 10 ≡ slotOf white
@@ -50,7 +60,8 @@ pub slot-above : (white : ℕ) → white % 8 ≤ 3 → white % 8 < white / 8 →
 unfolding slotOf
 slot-above white h k = sym (rw (lt-ltb (white % 8) 4 (omega arith), lt-ltb (white % 8) (white / 8) k))
 
-pub slot-place : (white : ℕ) → white % 8 ≤ 3 → white / 8 ≤ white % 8 → white % 8 + white / 8 * (7 - white / 8) / 2 ≡ slotOf white
+pub slot-place : (white : ℕ) → white % 8 ≤ 3 → white / 8 ≤ white % 8
+    → white % 8 + white / 8 * (7 - white / 8) / 2 ≡ slotOf white
 unfolding slotOf
 slot-place white h k = sym (rw (lt-ltb (white % 8) 4 (omega arith), le-ltb (white % 8) (white / 8) k))
 
@@ -75,7 +86,8 @@ abbrev kingsAt : ℕ → ℕ
 kingsAt pair = getD whites (rowOf pair) 0 * 64 + getD blacks pair 0
 
 right : ℕ → ℕ → Bool
-right k c = implies (inTriangle (k / 64)) (eqb (entry (k / 64) (k % 64)) (cond (kingPair k) c 65535)) && implies (kingPair k) (eqb (kingsAt c) k)
+right k c = implies (inTriangle (k / 64)) (eqb (entry (k / 64) (k % 64)) (cond (kingPair k) c 65535)) && implies
+    (kingPair k) (eqb (kingsAt c) k)
 
 all-right : T (pass kingPair right 4096 0 0)
 unfolding pass right pairs slotOf blacks rowFrom kingPair kingRule cornered separate reaches any numbers line shift stays
@@ -108,7 +120,9 @@ entry-pair white black k l =
     let t = rw (q, r) at (right-at n (omega arith)) in
     let e = eqb (entry white black) (cond (kingRule white black) (rank kingPair n) 65535) in
     eqb→eq (entry white black) (cond (kingRule white black) (rank kingPair n) 65535)
-    (implied (inTriangle white) e (and-left (implies (inTriangle white) e) (implies (kingRule white black) (eqb (kingsAt (rank kingPair n)) n)) t) (inside white l))
+    (implied (inTriangle white) e
+    (and-left (implies (inTriangle white) e) (implies (kingRule white black) (eqb (kingsAt (rank kingPair n)) n))
+    t) (inside white l))
 
 -- ---- by a lent list
 
@@ -151,7 +165,8 @@ kings-found pair row h e =
     let t = rw (s .ranked) at (right-at k (s .under)) in
     let q : kingsAt pair ≡ k = eqb→eq (kingsAt pair) k
     (implied (kingPair k) (eqb (kingsAt pair) k)
-    (and-right (implies (inTriangle (k / 64)) (eqb (entry (k / 64) (k % 64)) (cond (kingPair k) pair 65535))) (implies (kingPair k) (eqb (kingsAt pair) k)) t) (s .passes)) in
+    (and-right (implies (inTriangle (k / 64)) (eqb (entry (k / 64) (k % 64)) (cond (kingPair k) pair 65535)))
+    (implies (kingPair k) (eqb (kingsAt pair) k)) t) (s .passes)) in
     rw e (record { kings = q; small = omega arith })
 
 pub no-kings : (pair : ℕ) → 462 ≤ pair → 0 ≡ kingsOf pair
@@ -163,7 +178,8 @@ pub row-here : (i pair : ℕ) → i < 9 → pair < getD firsts (i + 1) 0 → row
 unfolding rowFrom
 row-here i pair h l = let e : 9 - i ≡ suc (8 - i) = omega arith in rw (e, lt-leb (getD firsts (i + 1) 0) pair l)
 
-pub row-next : (i pair : ℕ) → i < 9 → getD firsts (i + 1) 0 ≤ pair → rowFrom (9 - i) i pair ≡ rowFrom (9 - (i + 1)) (i + 1) pair
+pub row-next : (i pair : ℕ) → i < 9 → getD firsts (i + 1) 0 ≤ pair
+    → rowFrom (9 - i) i pair ≡ rowFrom (9 - (i + 1)) (i + 1) pair
 unfolding rowFrom
 row-next i pair h l = let e : 9 - i ≡ suc (9 - (i + 1)) = omega arith in rw (e, le-leb (getD firsts (i + 1) 0) pair l)
 

@@ -13,14 +13,14 @@ use Rattle.theory.specs.Value.{TrueByte}
 use Rattle.rules.specs.Rules.{Board, empty}
 use Rattle.rules.specs.Chess.{chess}
 use Rattle.position.specs.declared.Position.{Position}
-use Rattle.position.specs.Keyed.{boardOf, kindOf}
-use Rattle.position.specs.Refusals.{standing}
+use Rattle.position.specs.Keyed.{boardOf, manKind}
+use Rattle.position.specs.Refusals.{standingRefusal}
 use Rattle.position.specs.laws.Legality.{standing-facts, alone-men}
 use Rattle.numbering.specs.Number.{numberOf}
-use Rattle.answers.specs.declared.Advice.{Advice}
+use Rattle.answers.specs.declared.BestMove.{BestMove}
 use Rattle.answers.specs.declared.Answer.{Answer}
 use Rattle.answers.specs.declared.Checked.{Checked}
-use Rattle.endings.specs.Chess.{tableSize, byteOf}
+use Rattle.endings.specs.Ending.{tableSize, byteOf}
 use Rattle.endings.specs.laws.Halves.{number-side}
 use Rattle.endings.specs.Truth.{TrueAnswer}
 use Rattle.endings.specs.Answers.{checkOf, answerOf, lookUpOf}
@@ -31,7 +31,7 @@ use Rattle.pocket.specs.TrueValue.{TrueValue}
 use Rattle.pocket.specs.laws.Unpacking.{packed-length, packed-entry}
 
 -- the value of a byte that is not 0, by its entry and by itself
-value-same : (b : ℕ) (a : Advice) → 1 ≤ b → entryTells (entryOf b) ≡ toldIn (answerOf b a)
+value-same : (b : ℕ) (a : BestMove) → 1 ≤ b → entryTells (entryOf b) ≡ toldIn (answerOf b a)
 unfolding entryOf entryTells answerOf
 value-same b a h = go (leb b 1) refl (eqb (b % 2) 1) refl
   where
@@ -40,47 +40,58 @@ value-same b a h = go (leb b 1) refl (eqb (b % 2) 1) refl
     go false e true f = rw (e, f)
     go false e false f = rw (e, f)
 
-module _ (man : ℕ) (t : List ℕ) (ok : checkOf man t ≡ Checked.Accepted) (pocket : List ℕ) (k : length pocket ≡ pocketSize) where
+module _ (kind : ℕ) (t : List ℕ) (ok : checkOf kind t ≡ Checked.Accepted) (pocket : List ℕ)
+    (k : length pocket ≡ pocketSize) where
   -- the byte of a position that nothing refuses is not 0
-  byte-some : (p : Position) → kindOf p ≡ man → standing p ≡ 0 → 1 ≤ getD t (numberOf (boardOf p)) 0
-  byte-some p e z = let f = standing-facts p z in go (accepts-true-only man t .0 ok .2 .legal-true (boardOf p) (f .1) (keyed-lone man p e z))
+  byte-some : (p : Position) → manKind p ≡ kind → standingRefusal p ≡ 0 → 1 ≤ getD t (numberOf (boardOf p)) 0
+  byte-some p e z = let f = standing-facts p z in
+      go (accepts-true-only kind t .0 ok .2 .legal-true (boardOf p) (f .1) (keyed-lone kind p e z))
     where
       go : TrueByte chess (boardOf p) (getD t (numberOf (boardOf p)) 0) → 1 ≤ getD t (numberOf (boardOf p)) 0
       go (TrueByte.win n w z) = omega arith
       go (TrueByte.loss n w z) = omega arith
       go (TrueByte.draw w z) = omega arith
 
-  manned : (p : Position) → standing p ≡ 0 → empty (boardOf p .men) ≡ false
+  manned : (p : Position) → standingRefusal p ≡ 0 → empty (boardOf p .men) ≡ false
   manned p z = ap empty (alone-men p (standing-facts p z .0))
 
-  keyed-number : (p : Position) → kindOf p ≡ man → standing p ≡ 0 → numberOf (boardOf p) < tableSize
-  keyed-number p e z = number-side man (boardOf p) (keyed-ending man p e z) (of-true (ap not (manned p z))) .0
+  keyed-number : (p : Position) → manKind p ≡ kind → standingRefusal p ≡ 0 → numberOf (boardOf p) < tableSize
+  keyed-number p e z = number-side kind (boardOf p) (keyed-ending kind p e z) (of-true (ap not (manned p z))) .0
 
-  own-byte : (p : Position) → standing p ≡ 0 → byteOf t (boardOf p) ≡ getD t (numberOf (boardOf p)) 0
+  own-byte : (p : Position) → standingRefusal p ≡ 0 → byteOf t (boardOf p) ≡ getD t (numberOf (boardOf p)) 0
   unfolding byteOf
   own-byte p z = rw (manned p z)
 
-  agrees-legal : (p : Position) → kindOf p ≡ man → standing p ≡ 0 → pocketLookUpOf (packOf t pocket .bytes) p ≡ toldIn (lookUpOf t p)
+  agrees-legal : (p : Position) → manKind p ≡ kind → standingRefusal p ≡ 0
+      → pocketLookUpOf (packOf t pocket .bytes) p ≡ toldIn (lookUpOf t p)
   unfolding pocketLookUpOf
   agrees-legal p e z =
-      let long = accepts-true-only man t .0 ok .1 in
-      let here : pocketLookUpOf (packOf t pocket .bytes) p ≡ entryTells (entryAt (packOf t pocket .bytes) (numberOf (boardOf p))) = rw (eq-eqb (standing p) 0 z, eq-eqb (length (packOf t pocket .bytes)) pocketSize (packed-length t pocket long k)) in
+      let long = accepts-true-only kind t .0 ok .1 in
+      let here : pocketLookUpOf (packOf t pocket .bytes) p
+      ≡ entryTells (entryAt (packOf t pocket .bytes) (numberOf (boardOf p))) =
+      rw (
+        eq-eqb (standingRefusal p) 0 z,
+        eq-eqb (length (packOf t pocket .bytes)) pocketSize (packed-length t pocket long k),
+      ) in
       here
       ∙ ap entryTells (packed-entry t pocket long k (numberOf (boardOf p)) (keyed-number p e z))
       ∙ value-same (getD t (numberOf (boardOf p)) 0) (adviceAt (boardOf p) t) (byte-some p e z)
       ∙ ap (λ (b : ℕ). toldIn (answerOf b (adviceAt (boardOf p) t))) (sym (own-byte p z))
-      ∙ ap toldIn (sym (look-up-answers man t ok p e z))
+      ∙ ap toldIn (sym (look-up-answers kind t ok p e z))
 
-  agrees-refused : (p : Position) → eqb (standing p) 0 ≡ false → pocketLookUpOf (packOf t pocket .bytes) p ≡ toldIn (lookUpOf t p)
+  agrees-refused : (p : Position) → eqb (standingRefusal p) 0 ≡ false
+      → pocketLookUpOf (packOf t pocket .bytes) p ≡ toldIn (lookUpOf t p)
   unfolding pocketLookUpOf lookUpOf
   agrees-refused p s = rw (s)
 
   -- "On the packing of an accepted table its answer agrees with the large one": on every position of the ending, refused or not.
-  pub pocket-agrees : (p : Position) → kindOf p ≡ man → pocketLookUpOf (packOf t pocket .bytes) p ≡ toldIn (lookUpOf t p)
-  pocket-agrees p e = go (decided (eqb (standing p) 0))
+  pub pocket-agrees : (p : Position) → manKind p ≡ kind
+      → pocketLookUpOf (packOf t pocket .bytes) p ≡ toldIn (lookUpOf t p)
+  pocket-agrees p e = go (decided (eqb (standingRefusal p) 0))
     where
-      go : T (eqb (standing p) 0) ⊎ T (not (eqb (standing p) 0)) → pocketLookUpOf (packOf t pocket .bytes) p ≡ toldIn (lookUpOf t p)
-      go (inl s) = agrees-legal p e (eqb-true (standing p) 0 (true-of s))
+      go : T (eqb (standingRefusal p) 0) ⊎ T (not (eqb (standingRefusal p) 0))
+          → pocketLookUpOf (packOf t pocket .bytes) p ≡ toldIn (lookUpOf t p)
+      go (inl s) = agrees-legal p e (eqb-true (standingRefusal p) 0 (true-of s))
       go (inr s) = agrees-refused p (false-of s)
 
 -- ---- the true value
@@ -93,5 +104,9 @@ value-true b a (TrueAnswer.drawn m w f e) = TrueValue.drawn w (ap toldIn e)
 value-true b a (TrueAnswer.stalemate w o e) = TrueValue.drawn w (ap toldIn e)
 
 -- On the packing of an accepted table no legal position of the ending is refused, and the answer is its true value.
-pub pocket-true : (man : ℕ) (t : List ℕ) → checkOf man t ≡ Checked.Accepted → (pocket : List ℕ) → length pocket ≡ pocketSize → (p : Position) → kindOf p ≡ man → standing p ≡ 0 → TrueValue (boardOf p) (pocketLookUpOf (packOf t pocket .bytes) p)
-pocket-true man t ok pocket k p e z = subst (TrueValue (boardOf p)) (sym (pocket-agrees man t ok pocket k p e)) (value-true (boardOf p) (lookUpOf t p) (look-up-true man t ok p e z))
+pub pocket-true : (kind : ℕ) (t : List ℕ) → checkOf kind t ≡ Checked.Accepted → (pocket : List ℕ)
+    → length pocket ≡ pocketSize → (p : Position) → manKind p ≡ kind → standingRefusal p ≡ 0
+    → TrueValue (boardOf p) (pocketLookUpOf (packOf t pocket .bytes) p)
+pocket-true kind t ok pocket k p e z =
+    subst (TrueValue (boardOf p)) (sym (pocket-agrees kind t ok pocket k p e))
+    (value-true (boardOf p) (lookUpOf t p) (look-up-true kind t ok p e z))

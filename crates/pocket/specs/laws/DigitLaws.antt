@@ -25,7 +25,8 @@ four-times m b = rw (pow-suc 4 m, mul-comm (4 ^ m) 4) (mul-assoc 4 (4 ^ m) b)
 
 pub digits-cat : (v m n a b : ℕ) → a < 4 ^ m → digits v (m + n) (a + 4 ^ m * b) ≡ digits v m a + digits v n b
 unfolding digits
-digits-cat v zero n a b h = let z : a ≡ 0 = omega arith in rw (z, zero-add n, one-mul b, zero-add b) (sym (zero-add (digits v n b)))
+digits-cat v zero n a b h =
+    let z : a ≡ 0 = omega arith in rw (z, zero-add n, one-mul b, zero-add b) (sym (zero-add (digits v n b)))
 digits-cat v (suc m) n a b h =
     let x = 4 ^ m * b in
     rw (suc-add m n, four-times m b, lower a x, upper a x)
@@ -52,7 +53,9 @@ unfolding allBelow bits-right ones onesIn
 all-right = tt
 
 abbrev Bits : ℕ → ℕ → Type 0
-Bits d h = (ones (bitAnd d 1) ≡ digit (eqb d 1) + digit (eqb d 3)) × (ones (bitAnd h 1) ≡ digit (eqb d 2) + digit (eqb d 3)) × (ones (bitAnd (bitAnd d 1) (bitAnd h 1)) ≡ digit (eqb d 3))
+Bits d h = (ones (bitAnd d 1) ≡ digit (eqb d 1) + digit (eqb d 3))
+    × (ones (bitAnd h 1) ≡ digit (eqb d 2) + digit (eqb d 3))
+    × (ones (bitAnd (bitAnd d 1) (bitAnd h 1)) ≡ digit (eqb d 3))
 
 bits-of : (e : ℕ) → T (bits-right e) → Bits (e % 4) (e / 2 % 4)
 unfolding bits-right
@@ -111,7 +114,8 @@ pub ones-low : (n w : ℕ) → ones (bitAnd w (lowBits n)) ≡ digits 1 n w + di
 unfolding digits
 ones-low zero w = ap ones (cut-none w) ∙ ones-zero
 ones-low (suc n) w =
-    ap ones (low-step n w) ∙ ones-cat 2 (bitAnd (w / 4) (lowBits n)) (bitAnd (w % 4) 1) (cut-small (w % 4) (omega arith))
+    ap ones (low-step n w)
+    ∙ ones-cat 2 (bitAnd (w / 4) (lowBits n)) (bitAnd (w % 4) 1) (cut-small (w % 4) (omega arith))
     ∙ joined-two _ _ _ _ _ _ (ones-low n (w / 4)) (digit-bits w .0)
 
 -- .. the set high bits the digits 2 and 3 ..
@@ -119,13 +123,15 @@ pub ones-high : (n w : ℕ) → ones (bitAnd (w / 2) (lowBits n)) ≡ digits 2 n
 unfolding digits
 ones-high zero w = ap ones (cut-none (w / 2)) ∙ ones-zero
 ones-high (suc n) w =
-    ap ones (high-step n w) ∙ ones-cat 2 (bitAnd (w / 4 / 2) (lowBits n)) (bitAnd (w / 2 % 4) 1) (cut-small (w / 2 % 4) (omega arith))
+    ap ones (high-step n w)
+    ∙ ones-cat 2 (bitAnd (w / 4 / 2) (lowBits n)) (bitAnd (w / 2 % 4) 1) (cut-small (w / 2 % 4) (omega arith))
     ∙ joined-two _ _ _ _ _ _ (ones-high n (w / 4)) (digit-bits w .1)
 
 -- .. and both bits the digits 3.
 pub ones-both : (n w : ℕ) → ones (bitAnd (bitAnd w (lowBits n)) (bitAnd (w / 2) (lowBits n))) ≡ digits 3 n w
 unfolding digits
-ones-both zero w = ap₂ (λ (x y : ℕ). ones (bitAnd x y)) (cut-none w) (cut-none (w / 2)) ∙ ap ones (and-zero-l 0) ∙ ones-zero
+ones-both zero w =
+    ap₂ (λ (x y : ℕ). ones (bitAnd x y)) (cut-none w) (cut-none (w / 2)) ∙ ap ones (and-zero-l 0) ∙ ones-zero
 ones-both (suc n) w =
     let a = bitAnd (w / 4) (lowBits n) in
     let b = bitAnd (w / 4 / 2) (lowBits n) in

@@ -7,7 +7,7 @@ use lib.ListN.{length, List·getD-eq-default}
 use borrow.Author.Tests.{eq-eqb, ne-eqb}
 use Rattle.position.specs.declared.Position.{Position}
 use Rattle.position.specs.Keyed.{boardOf}
-use Rattle.position.specs.Refusals.{standing}
+use Rattle.position.specs.Refusals.{standingRefusal}
 use Rattle.numbering.specs.Number.{numberOf}
 use Rattle.pocket.specs.Pocket.{pocketSize, entryAt, Told, refusing, entryTells, pocketLookUpOf}
 
@@ -23,15 +23,17 @@ entry-beyond pocket k h = sym (rw (List·getD-eq-default pocket 0 h) (zero-entry
 -- ---- looking up
 
 module _ (pocket : List ℕ) (p : Position) where
-  pub refused-standing : (n : ℕ) → n ≡ standing p → (n ≡ 0 → ⊥) → refusing n ≡ pocketLookUpOf pocket p
+  pub refused-standing : (n : ℕ) → n ≡ standingRefusal p → (n ≡ 0 → ⊥) → refusing n ≡ pocketLookUpOf pocket p
   unfolding pocketLookUpOf
   refused-standing n e h = sym (rw (← e, ne-eqb n 0 h))
 
-  module _ (n : ℕ) (e : n ≡ standing p) (z : n ≡ 0) where
+  module _ (n : ℕ) (e : n ≡ standingRefusal p) (z : n ≡ 0) where
     pub refused-length : (length pocket ≡ pocketSize → ⊥) → refusing 7 ≡ pocketLookUpOf pocket p
     unfolding pocketLookUpOf
     refused-length h = sym (rw (← e, eq-eqb n 0 z, ne-eqb (length pocket) pocketSize h))
 
-    pub answered : (r : Told) (k entry : ℕ) → length pocket ≡ pocketSize → k ≡ numberOf (boardOf p) → entry ≡ entryAt pocket k → r ≡ entryTells entry → r ≡ pocketLookUpOf pocket p
+    pub answered : (r : Told) (k entry : ℕ) → length pocket ≡ pocketSize → k ≡ numberOf (boardOf p)
+        → entry ≡ entryAt pocket k → r ≡ entryTells entry → r ≡ pocketLookUpOf pocket p
     unfolding pocketLookUpOf
-    answered r k entry l q f a = a ∙ ap entryTells (f ∙ ap (entryAt pocket) q) ∙ sym (rw (← e, eq-eqb n 0 z, eq-eqb (length pocket) pocketSize l))
+    answered r k entry l q f a = a ∙ ap entryTells (f ∙ ap (entryAt pocket) q)
+        ∙ sym (rw (← e, eq-eqb n 0 z, eq-eqb (length pocket) pocketSize l))

@@ -11,7 +11,7 @@ use Rattle.finite.specs.Truth.{and-left, and-right, and-both, same-test}
 use Rattle.finite.specs.Ranked.{rank-same}
 use Rattle.theory.specs.Required.{Loss, winning}
 use Rattle.theory.specs.laws.Better.{winning-is}
-use Rattle.endings.specs.Chess.{tableSize}
+use Rattle.endings.specs.Ending.{tableSize}
 use Rattle.pocket.specs.declared.Tallied.{Tallied}
 use Rattle.pocket.specs.Pocket.{pocketSize, entryAt, packOf}
 use Rattle.pocket.specs.Classes.{losing, bytesThat}
@@ -22,7 +22,13 @@ eqb-is : (m n : ℕ) → T (eqb m n) ↔ (m ≡ n)
 eqb-is m n = (eqb→eq m n, λ e. subst (λ (k : ℕ). T (eqb m k)) e (eqb-refl m))
 
 losing-is : (b : ℕ) → T (losing b) ↔ Loss b
-losing-is b = (λ t. (leb→le 2 b (and-left (leb 2 b) (eqb (b % 2) 0) t), eqb→eq (b % 2) 0 (and-right (leb 2 b) (eqb (b % 2) 0) t)), λ l. and-both (leb 2 b) (eqb (b % 2) 0) (le→leb 2 b (l .0)) (eqb-is (b % 2) 0 .1 (l .1)))
+losing-is b = (
+  λ t. (
+    leb→le 2 b (and-left (leb 2 b) (eqb (b % 2) 0) t),
+    eqb→eq (b % 2) 0 (and-right (leb 2 b) (eqb (b % 2) 0) t),
+  ),
+  λ l. and-both (leb 2 b) (eqb (b % 2) 0) (le→leb 2 b (l .0)) (eqb-is (b % 2) 0 .1 (l .1)),
+)
 
 module _ (t pocket : List ℕ) (l : length t ≡ tableSize) (k : length pocket ≡ pocketSize) where
   -- an entry is counted where the byte passes the test that tells it
@@ -36,7 +42,15 @@ module _ (t pocket : List ℕ) (l : length t ≡ tableSize) (k : length pocket �
       (λ s. is (getD t n 0) .1 (same n h .0 (eqb→eq (entryAt (packOf t pocket .bytes) n) v s)))
       (λ s. eqb-is (entryAt (packOf t pocket .bytes) n) v .1 (same n h .1 (is (getD t n 0) .0 s))))
 
-  pub packed-tallies : tallyOf (packOf t pocket .bytes) ≡ Tallied.Counted (record { none = bytesThat (λ b. eqb b 0) t; draws = bytesThat (λ b. eqb b 1) t; wins = bytesThat winning t; losses = bytesThat losing t })
+  pub packed-tallies : tallyOf (packOf t
+      pocket .bytes)
+      ≡ Tallied.Counted
+      (record {
+        none = bytesThat (λ b. eqb b 0) t;
+        draws = bytesThat (λ b. eqb b 1) t;
+        wins = bytesThat winning t;
+        losses = bytesThat losing t;
+      })
   unfolding tallyOf
   packed-tallies =
       let back = class-back t pocket l k in

@@ -69,7 +69,19 @@ slot-far white h =
 
 row-far : (white : ℕ) → 28 ≤ white → rowOf white ≡ 0
 unfolding rowOf
-row-far white h = simp (ne-eqb white 0 (λ e. omega arith), ne-eqb white 1 (λ e. omega arith), ne-eqb white 2 (λ e. omega arith), ne-eqb white 3 (λ e. omega arith), ne-eqb white 9 (λ e. omega arith), ne-eqb white 10 (λ e. omega arith), ne-eqb white 11 (λ e. omega arith), ne-eqb white 18 (λ e. omega arith), ne-eqb white 19 (λ e. omega arith), ne-eqb white 27 (λ e. omega arith))
+row-far white h =
+    simp (
+      ne-eqb white 0 (λ e. omega arith),
+      ne-eqb white 1 (λ e. omega arith),
+      ne-eqb white 2 (λ e. omega arith),
+      ne-eqb white 3 (λ e. omega arith),
+      ne-eqb white 9 (λ e. omega arith),
+      ne-eqb white 10 (λ e. omega arith),
+      ne-eqb white 11 (λ e. omega arith),
+      ne-eqb white 18 (λ e. omega arith),
+      ne-eqb white 19 (λ e. omega arith),
+      ne-eqb white 27 (λ e. omega arith),
+    )
 
 zero-bit : (d : ℕ) → 0 / d % 2 ≡ 0
 zero-bit d = rw (zero-div d)
@@ -97,10 +109,12 @@ module _ (white black : ℕ) where
     unfolding pairByRow
     no-bit z = sym (rw (eq-eqb (rowOf white / 2 ^ black % 2) 0 (rw (← e) z))) ∙ rows-pair white black k
 
-    pub bit-pair : (first : ℕ) → row < 18446744073709551616 → first ≡ firstOf white → (row / 2 ^ black % 2 ≡ 0 → ⊥) → first + ones (row % bit black) ≡ pairOf white black
+    pub bit-pair : (first : ℕ) → row < 18446744073709551616 → first ≡ firstOf white → (row / 2 ^ black % 2 ≡ 0 → ⊥)
+        → first + ones (row % bit black) ≡ pairOf white black
     unfolding pairByRow
     bit-pair first h f z =
-        let b : pairByRow white black ≡ firstOf white + onesIn 64 (rowOf white % 2 ^ black) = rw (ne-eqb (rowOf white / 2 ^ black % 2) 0 (rw (← e) z)) in
+        let b : pairByRow white black ≡ firstOf white + onesIn 64 (rowOf white % 2 ^ black) =
+        rw (ne-eqb (rowOf white / 2 ^ black % 2) 0 (rw (← e) z)) in
         ap (λ (m : ℕ). first + ones (row % m)) (bit-power black k)
         ∙ ap (λ (m : ℕ). first + m) (ones-in 64 (row % 2 ^ black) (part-fits row (2 ^ black) h))
         ∙ ap₂ (λ (x y : ℕ). x + onesIn 64 (y % 2 ^ black)) f e

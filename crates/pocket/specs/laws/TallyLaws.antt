@@ -11,7 +11,7 @@ use lib.Count.{ones}
 use borrow.Author.Tests.{eq-eqb, ne-eqb}
 use Rattle.finite.specs.Ranked.{rank}
 use Rattle.board.specs.Sets.{digit}
-use Rattle.endings.specs.Chess.{tableSize}
+use Rattle.endings.specs.Ending.{tableSize}
 use Rattle.pocket.specs.declared.Tallied.{Tallied}
 use Rattle.pocket.specs.Pocket.{pocketSize, entryAt}
 use Rattle.pocket.specs.Digits.{digits, lowBits}
@@ -32,13 +32,16 @@ module _ (pocket : List ℕ) where
   next : (v m : ℕ) → rank (holds pocket v) (suc m) ≡ rank (holds pocket v) m + digit (holds pocket v m)
   next v m = rank-step (holds pocket v) m (suc m) (sym (add-one m))
 
-  pub four-counts : (m : ℕ) → rank (holds pocket 0) m + rank (holds pocket 1) m + rank (holds pocket 2) m + rank (holds pocket 3) m ≡ m
+  pub four-counts : (m : ℕ)
+      → rank (holds pocket 0) m + rank (holds pocket 1) m + rank (holds pocket 2) m + rank (holds pocket 3) m ≡ m
   unfolding rank
   four-counts zero = refl
   four-counts (suc m) =
-      more _ _ _ _ _ _ _ _ _ _ _ _ m (next 0 m) (next 1 m) (next 2 m) (next 3 m) (four-counts m) (one-of-four (entryAt pocket m) (entry-below pocket m))
+      more _ _ _ _ _ _ _ _ _ _ _ _ m (next 0 m) (next 1 m) (next 2 m) (next 3 m) (four-counts m)
+      (one-of-four (entryAt pocket m) (entry-below pocket m))
     where
-      more : (a b c d w x y z p q r s m : ℕ) → p ≡ a + w → q ≡ b + x → r ≡ c + y → s ≡ d + z → a + b + c + d ≡ m → w + x + y + z ≡ 1 → p + q + r + s ≡ suc m
+      more : (a b c d w x y z p q r s m : ℕ) → p ≡ a + w → q ≡ b + x → r ≡ c + y → s ≡ d + z → a + b + c + d ≡ m
+          → w + x + y + z ≡ 1 → p + q + r + s ≡ suc m
       more a b c d w x y z p q r s m k l n o e f = omega arith
 
   -- "together they make 59,136"
@@ -77,7 +80,10 @@ module _ (pocket : List ℕ) where
       both-bits : ones (bitAnd (bitAnd w 6148914691236517205) (bitAnd (w / 2) 6148914691236517205)) ≡ digits 3 32 w
       both-bits = ap (λ (m : ℕ). ones (bitAnd (bitAnd w m) (bitAnd (w / 2) m))) (sym all-low) ∙ ones-both 32 w
 
-      pub sums-more : i < pocketSize → Part pocket i 8 w → Sums pocket (i + 8) (low + ones (bitAnd w 6148914691236517205)) (high + ones (bitAnd (w / 2) 6148914691236517205)) (both + ones (bitAnd (bitAnd w 6148914691236517205) (bitAnd (w / 2) 6148914691236517205)))
+      pub sums-more : i < pocketSize → Part pocket i 8 w
+          → Sums pocket (i + 8) (low + ones (bitAnd w 6148914691236517205))
+          (high + ones (bitAnd (w / 2) 6148914691236517205))
+          (both + ones (bitAnd (bitAnd w 6148914691236517205) (bitAnd (w / 2) 6148914691236517205)))
       sums-more h x =
           record {
             eights = omega (arith, s .eights);
@@ -88,17 +94,28 @@ module _ (pocket : List ℕ) where
           }
 
     pub sums-room : (low ≤ 59136) × (high ≤ 59136) × (both ≤ 59136)
-    sums-room = let z = four-counts pocket (4 * i) in (omega (arith, s .lows, s .inside), omega (arith, s .highs, s .inside), omega (arith, s .pairs, s .inside))
+    sums-room = let z = four-counts pocket (4 * i) in
+        (omega (arith, s .lows, s .inside), omega (arith, s .highs, s .inside), omega (arith, s .pairs, s .inside))
 
     -- the differences taken at the end
     pub sums-order : (both ≤ low) × (both ≤ high) × (low + high ≤ 59136 + both)
-    sums-order = let z = four-counts pocket (4 * i) in (omega (arith, s .lows, s .pairs), omega (arith, s .highs, s .pairs), omega (arith, s .lows, s .highs, s .pairs, s .inside))
+    sums-order = let z = four-counts pocket (4 * i) in (
+      omega (arith, s .lows, s .pairs),
+      omega (arith, s .highs, s .pairs),
+      omega (arith, s .lows, s .highs, s .pairs, s .inside),
+    )
 
-    pub tallied : pocketSize ≤ i → length pocket ≡ pocketSize → Tallied.Counted (record { none = 59136 + both - low - high; draws = low - both; wins = high - both; losses = both }) ≡ tallyOf pocket
+    pub tallied : pocketSize ≤ i → length pocket ≡ pocketSize
+        → Tallied.Counted
+        (record { none = 59136 + both - low - high; draws = low - both; wins = high - both; losses = both })
+        ≡ tallyOf pocket
     unfolding tallyOf countOf
     tallied h l =
         let whole : 4 * i ≡ tableSize = omega (arith, s .inside) in
-        let z = subst (λ (m : ℕ). (low ≡ rank (holds pocket 1) m + rank (holds pocket 3) m) × (high ≡ rank (holds pocket 2) m + rank (holds pocket 3) m) × (both ≡ rank (holds pocket 3) m)) whole (s .lows, s .highs, s .pairs) in
+        let z = subst
+        (λ (m : ℕ). (low ≡ rank (holds pocket 1) m + rank (holds pocket 3) m)
+        × (high ≡ rank (holds pocket 2) m + rank (holds pocket 3) m) × (both ≡ rank (holds pocket 3) m)) whole
+        (s .lows, s .highs, s .pairs) in
         let f = four-counts pocket tableSize in
         let e₀ : 59136 + both - low - high ≡ rank (holds pocket 0) tableSize = omega (arith, z .0, z .1, z .2, f) in
         let e₁ : low - both ≡ rank (holds pocket 1) tableSize = omega (arith, z .0, z .2) in

@@ -1,5 +1,5 @@
 use mathlib.Core.Path.{sym, ap}
-use Rattle.position.specs.Keyed.{manOf}
+use Rattle.position.specs.Keyed.{manIn}
 use borrow.Author.Needs.{needs}
 use Rattle.position.proofs.man_in.Statement.{statement}
 use Rattle.position.proofs.man_in.Tie as tie
@@ -11,7 +11,7 @@ enum-known-slot : tie.Need-enum-known-slot
 enum-known-slot c = search needs
 
 returns : tie.Need-returns
-returns c = sym (ap manOf (c .enum-told .given .1))
+returns c = sym (ap manIn (c .enum-told .given .1))
 
 returns-2 : tie.Need-returns-2
 returns-2 c = search needs

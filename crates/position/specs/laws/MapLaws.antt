@@ -24,12 +24,15 @@ use Rattle.position.specs.Maps.{mappedSlot, mappedPosition, normalPositi
 
 -- a position from its fields
 position-eq : (side : ℕ) {w w′ k k′ : ℕ} {f f′ s s′ : Slot} → w ≡ w′ → k ≡ k′ → f ≡ f′ → s ≡ s′
-    → _≡_ {A = Position} (record { side = side; «white_king» = w; «black_king» = k; first = f; second = s }) (record { side = side; «white_king» = w′; «black_king» = k′; first = f′; second = s′ })
-position-eq side a b c d = λ i. record { side = side; «white_king» = a i; «black_king» = b i; first = c i; second = d i }
+    → _≡_ {A = Position} (record { side = side; «white_king» = w; «black_king» = k; first = f; second = s })
+    (record { side = side; «white_king» = w′; «black_king» = k′; first = f′; second = s′ })
+position-eq side a b c d =
+    λ i. record { side = side; «white_king» = a i; «black_king» = b i; first = c i; second = d i }
 
 -- ---- the same maps as the rules'
 
-men-mapped : (m : Symmetry) (f s : Slot) → slotMen (mappedSlot m f) ++ slotMen (mappedSlot m s) ≡ map (changedPiece m false) (slotMen f ++ slotMen s)
+men-mapped : (m : Symmetry) (f s : Slot)
+    → slotMen (mappedSlot m f) ++ slotMen (mappedSlot m s) ≡ map (changedPiece m false) (slotMen f ++ slotMen s)
 unfolding swapped
 men-mapped m Absent Absent = refl
 men-mapped m Absent (Present b) = refl
@@ -42,11 +45,16 @@ map-board m p = board-eq refl refl refl (men-mapped m (p .first) (p .second))
 
 -- ---- a map moves each square
 
-pub by-square : (m : Symmetry) (slot : Slot) (a : Piece) (square : ℕ) → slot ≡ Present a → square ≡ mapped m (a .square) → Present (pieceOf (a .kind) (a .colour) square) ≡ mappedSlot m slot
+pub by-square : (m : Symmetry) (slot : Slot) (a : Piece) (square : ℕ) → slot ≡ Present a
+    → square ≡ mapped m (a .square) → Present (pieceOf (a .kind) (a .colour) square) ≡ mappedSlot m slot
 by-square m slot a square e h = ap (λ (s : ℕ). Present (pieceOf (a .kind) (a .colour) s)) h ∙ ap (mappedSlot m) (sym e)
 
-pub by-squares : (m : Symmetry) (p : Position) (white black : ℕ) (first second : Slot) → white ≡ mapped m (p .«white_king») → black ≡ mapped m (p .«black_king») → first ≡ mappedSlot m (p .first) → second ≡ mappedSlot m (p .second)
-    → _≡_ {A = Position} (record { side = p .side; «white_king» = white; «black_king» = black; first = first; second = second }) (mappedPosition m p)
+pub by-squares : (m : Symmetry) (p : Position) (white black : ℕ) (first second : Slot)
+    → white ≡ mapped m (p .«white_king») → black ≡ mapped m (p .«black_king») → first ≡ mappedSlot m (p .first)
+    → second ≡ mappedSlot m (p .second)
+    → _≡_ {A = Position}
+    (record { side = p .side; «white_king» = white; «black_king» = black; first = first; second = second })
+    (mappedPosition m p)
 unfolding mappedPosition
 by-squares m p white black first second w k f s = position-eq (p .side) w k f s
 
@@ -54,11 +62,16 @@ slot-twice : (m n : Symmetry) (s : Slot) → mappedSlot n (mappedSlot m s) ≡ m
 slot-twice m n Absent = refl
 slot-twice m n (Present a) = ap (λ (s : ℕ). Present (pieceOf (a .kind) (a .colour) s)) (mapped-composed m n (a .square))
 
-pub maps-twice : (m n : Symmetry) (p : Position) → mappedPosition n (mappedPosition m p) ≡ mappedPosition (composed m n) p
+pub maps-twice : (m n : Symmetry) (p : Position)
+    → mappedPosition n (mappedPosition m p) ≡ mappedPosition (composed m n) p
 unfolding mappedPosition
-maps-twice m n p = position-eq (p .side) (mapped-composed m n (p .«white_king»)) (mapped-composed m n (p .«black_king»)) (slot-twice m n (p .first)) (slot-twice m n (p .second))
+maps-twice m n p =
+    position-eq (p .side) (mapped-composed m n (p .«white_king»)) (mapped-composed m n (p .«black_king»))
+    (slot-twice m n (p .first)) (slot-twice m n (p .second))
 
-pub half-turn : (p : Position) → mappedPosition ranksReversed (mappedPosition filesReversed p) ≡ mappedPosition (record { files = true; ranks = true; swap = false }) p
+pub half-turn : (p : Position)
+    → mappedPosition ranksReversed (mappedPosition filesReversed p)
+    ≡ mappedPosition (record { files = true; ranks = true; swap = false }) p
 unfolding composed xor
 half-turn p = maps-twice filesReversed ranksReversed p
 
@@ -72,22 +85,27 @@ slot-unmoved (Present a) = ap (λ (s : ℕ). Present (pieceOf (a .kind) (a .colo
 
 pub unmoved : (p : Position) → mappedPosition (swapping false) p ≡ p
 unfolding mappedPosition
-unmoved p = position-eq (p .side) (still (p .«white_king»)) (still (p .«black_king»)) (slot-unmoved (p .first)) (slot-unmoved (p .second))
+unmoved p = position-eq (p .side) (still (p .«white_king»)) (still (p .«black_king»)) (slot-unmoved (p .first))
+    (slot-unmoved (p .second))
 
 -- the reversals that the white king calls for
-pub turned-by : (p : Position) (f r : Bool) → ltb 3 (p .«white_king» % 8) ≡ f → ltb 3 (p .«white_king» / 8) ≡ r → mappedPosition (record { files = f; ranks = r; swap = false }) p ≡ mappedPosition (turn (p .«white_king»)) p
+pub turned-by : (p : Position) (f r : Bool) → ltb 3 (p .«white_king» % 8) ≡ f → ltb 3 (p .«white_king» / 8) ≡ r
+    → mappedPosition (record { files = f; ranks = r; swap = false }) p ≡ mappedPosition (turn (p .«white_king»)) p
 unfolding turn
 turned-by p f r a b = rw (a, b)
 
 -- the reversals, and then the exchange where it is called for
-pub normal-by : (p q : Position) (e : Bool) → q ≡ mappedPosition (turn (p .«white_king»)) p → e ≡ swaps (boardOf q) → mappedPosition (swapping e) q ≡ normalPosition p
+pub normal-by : (p q : Position) (e : Bool) → q ≡ mappedPosition (turn (p .«white_king»)) p → e ≡ swaps (boardOf q)
+    → mappedPosition (swapping e) q ≡ normalPosition p
 unfolding normalPosition normalMap boardOf
 normal-by p q e h k =
     ap (mappedPosition (swapping e)) h
     ∙ maps-twice (turn (p .«white_king»)) (swapping e) p
     ∙ ap (λ (m : Symmetry). mappedPosition m p) (turn-then (p .«white_king») e)
-    ∙ ap (λ (x : Bool). mappedPosition (record { files = turn (p .«white_king») .files; ranks = turn (p .«white_king») .ranks; swap = x }) p)
-    (k ∙ ap (λ (x : Position). swaps (boardOf x)) h ∙ ap (λ (b : Board). swaps b) (map-board (turn (p .«white_king»)) p))
+    ∙ ap (λ (x : Bool). mappedPosition
+    (record { files = turn (p .«white_king») .files; ranks = turn (p .«white_king») .ranks; swap = x }) p)
+    (k ∙ ap (λ (x : Position). swaps (boardOf x)) h
+    ∙ ap (λ (b : Board). swaps b) (map-board (turn (p .«white_king»)) p))
 
 -- ---- the first man off the diagonal, slot by slot
 
@@ -106,13 +124,18 @@ module _ (first second : Slot) where
 
   module _ (a : Piece) (e : first ≡ Present a) where
     -- on the diagonal: the next man tells
-    pub next-above : a .square % 8 ≡ a .square / 8 → firstAbove (slotMen second) ≡ firstAbove (slotMen first ++ slotMen second)
+    pub next-above : a .square % 8 ≡ a .square / 8
+        → firstAbove (slotMen second) ≡ firstAbove (slotMen first ++ slotMen second)
     unfolding firstAbove
     next-above h =
         let d : above (a .square) ≡ false = le-ltb (a .square % 8) (a .square / 8) (omega arith) in
-        sym (ap (λ (f : Slot). firstAbove (slotMen f ++ slotMen second)) e ∙ rw (d, eq-eqb (a .square % 8) (a .square / 8) h))
+        sym (ap (λ (f : Slot). firstAbove (slotMen f ++ slotMen second)) e
+        ∙ rw (d, eq-eqb (a .square % 8) (a .square / 8) h))
 
     -- off it: he does
-    pub first-above : (a .square % 8 ≡ a .square / 8 → ⊥) → above (a .square) ≡ firstAbove (slotMen first ++ slotMen second)
+    pub first-above : (a .square % 8 ≡ a .square / 8 → ⊥)
+        → above (a .square) ≡ firstAbove (slotMen first ++ slotMen second)
     unfolding firstAbove
-    first-above h = sym (ap (λ (f : Slot). firstAbove (slotMen f ++ slotMen second)) e ∙ rw (ne-eqb (a .square % 8) (a .square / 8) h) (or-false (above (a .square))))
+    first-above h =
+        sym (ap (λ (f : Slot). firstAbove (slotMen f ++ slotMen second)) e
+        ∙ rw (ne-eqb (a .square % 8) (a .square / 8) h) (or-false (above (a .square))))

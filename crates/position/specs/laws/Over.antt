@@ -1,27 +1,29 @@
 -- Attack and going over any set of occupied squares, and not only those that are.
 use mathlib.Core.Path.{_≡_, ap}
-use mathlib.Core.Bool.{Bool, false, not, _&&_, and-false}
+use mathlib.Core.Bool.{Bool, false, _&&_, and-false}
 use Prim.Native.Nat.{ℕ, _<_}
 use lib.Dec.{eqb}
 use borrow.Author.Tests.{eq-eqb, ne-eqb}
-use Rattle.finite.specs.Members.{any, any-same}
+use Rattle.finite.specs.Members.{any-same}
 use Rattle.board.specs.laws.ReachLaws.{reaches-same}
 use Rattle.rules.specs.declared.Piece.{Piece}
 use Rattle.rules.specs.Rules.{Board, pieces, attacks, goesTo}
-use Rattle.position.specs.Over.{attackedOver, goesFrom, goesOver, lifted, strikes}
+use Rattle.position.specs.Over.{attackedOver, goesFrom, goesOver, strikes}
 
 -- only what stands on the board counts
 module _ (occ occ′ : ℕ → Bool) (same : (u : ℕ) → u < 64 → occ u ≡ occ′ u) (b : Board) where
   pub attacked-same : (colour t : ℕ) → attackedOver occ b colour t ≡ attackedOver occ′ b colour t
   unfolding attackedOver attacks
   attacked-same colour t =
-      any-same (strikes occ colour t) (strikes occ′ colour t) (pieces b) (λ m i. ap (λ (r : Bool). eqb (m .colour) colour && r) (reaches-same occ occ′ same (m .kind) (m .square) t))
+      any-same (strikes occ colour t) (strikes occ′ colour t) (pieces b)
+      (λ m i. ap (λ (r : Bool). eqb (m .colour) colour && r) (reaches-same occ occ′ same (m .kind) (m .square) t))
 
   pub goes-same : (from t : ℕ) → goesOver occ b from t ≡ goesOver occ′ b from t
   unfolding goesOver goesTo
   goes-same from t =
       any-same (goesFrom occ (b .side) from t) (goesFrom occ′ (b .side) from t) (pieces b)
-      (λ m i. ap (λ (r : Bool). eqb (m .colour) (b .side) && eqb (m .square) from && r) (reaches-same occ occ′ same (m .kind) (m .square) t))
+      (λ m i. ap (λ (r : Bool). eqb (m .colour) (b .side) && eqb (m .square) from && r)
+      (reaches-same occ occ′ same (m .kind) (m .square) t))
 
 -- ---- where a piece may go, by what it is found to be
 

@@ -4,7 +4,7 @@ use mathlib.Core.Bool.{Bool, true, false, cond, not, _&&_, _||_}
 use mathlib.Core.List.{List, [], _∷_}
 use Prim.Native.Nat.{ℕ, _<_, _≤_}
 use native.Mathlib.Omega.{arith}
-use lib.Dec.{T, leb, ltb, eqb, not-T}
+use lib.Dec.{T, leb, ltb, eqb}
 use borrow.Author.Tests.{lt-leb, leb-false}
 use Rattle.finite.specs.Truth.{and-left, and-right, true-of, refuted}
 use Rattle.finite.specs.Members.{any, all}
@@ -17,8 +17,8 @@ use Rattle.numbering.specs.laws.Numberable.{Numberable}
 use Rattle.position.specs.declared.Position.{Position}
 use Rattle.position.specs.declared.Slot.{Slot}
 use Rattle.position.specs.declared.Slot.the-variants.{Absent, Present}
-use Rattle.position.specs.Keyed.{boardOf, manOf, kindOf}
-use Rattle.position.specs.Refusals.{badMen, badMan, badSide, badSquare, sharedSquare, kingsTouch, otherInCheck, placing, standing}
+use Rattle.position.specs.Keyed.{boardOf, manIn, manKind}
+use Rattle.position.specs.Refusals.{badMen, badMan, badSide, badSquare, sharedSquare, kingsTouch, otherInCheck, placingRefusal, standingRefusal}
 use Rattle.position.specs.laws.Legality.{alone}
 
 pub record WellPlaced (p : Position) : Type 0 where
@@ -51,8 +51,8 @@ fulfilled : (b : Bool) → T b → not b ≡ false
 fulfilled true t = refl
 fulfilled false t = absurd t
 
-pub placed-facts : (p : Position) → placing p ≡ 0 → WellPlaced p
-unfolding placing badSquare sharedSquare
+pub placed-facts : (p : Position) → placingRefusal p ≡ 0 → WellPlaced p
+unfolding placingRefusal badSquare sharedSquare
 placed-facts p z =
     let f = five (badMan p) (badSide p) (badSquare p) (sharedSquare p) (kingsTouch p) z in
     record {
@@ -63,10 +63,12 @@ placed-facts p z =
       kings = f .4;
     }
 
-pub facts-placed : (p : Position) → WellPlaced p → placing p ≡ 0
-unfolding placing badSquare sharedSquare
+pub facts-placed : (p : Position) → WellPlaced p → placingRefusal p ≡ 0
+unfolding placingRefusal badSquare sharedSquare
 facts-placed p w =
-    five-back (badMan p) (badSide p) (badSquare p) (sharedSquare p) (kingsTouch p) (w .men) (lt-leb 2 (p .side) (w .side)) (fulfilled (all (λ m. ltb (m .square) 64) (pieces (boardOf p))) (w .squares)) (fulfilled (apart (pieces (boardOf p))) (w .distinct)) (w .kings)
+    five-back (badMan p) (badSide p) (badSquare p) (sharedSquare p) (kingsTouch p) (w .men)
+    (lt-leb 2 (p .side) (w .side)) (fulfilled (all (λ m. ltb (m .square) 64) (pieces (boardOf p))) (w .squares))
+    (fulfilled (apart (pieces (boardOf p))) (w .distinct)) (w .kings)
 
 -- ---- its board
 
@@ -81,20 +83,23 @@ first-apart : (e f g : Bool) → T (not (e || f) && g) → e ≡ false
 first-apart true f g t = absurd t
 first-apart false f g t = refl
 
-kings-separate : (b : Board) → T (all (λ m. ltb (m .square) 64) (pieces b)) → T (apart (pieces b)) → touching b ≡ false → T (separate (b .white) (b .black))
+kings-separate : (b : Board) → T (all (λ m. ltb (m .square) 64) (pieces b)) → T (apart (pieces b)) → touching b ≡ false
+    → T (separate (b .white) (b .black))
 unfolding separate all apart any touching
 kings-separate b on distinct kings =
     let men = all (λ m. ltb (m .square) 64) (b .men) in
     let w = ltb (b .white) 64 in
     let k = ltb (b .black) 64 in
-    four w k (eqb (b .white) (b .black)) (reaches (λ s. false) 5 (b .white) (b .black)) (and-left w (k && men) on) (and-left k men (and-right w (k && men) on))
-    (first-apart (eqb (b .white) (b .black)) (any (λ x. eqb (b .white) (x .square)) (b .men)) (apart (pieceOf 5 1 (b .black) ∷ b .men)) distinct) kings
+    four w k (eqb (b .white) (b .black)) (reaches (λ s. false) 5 (b .white) (b .black)) (and-left w (k && men) on)
+    (and-left k men (and-right w (k && men) on))
+    (first-apart (eqb (b .white) (b .black)) (any (λ x. eqb (b .white) (x .square)) (b .men))
+    (apart (pieceOf 5 1 (b .black) ∷ b .men)) distinct) kings
 
-pub placed-ending : (p : Position) → badMan p ≡ false → endingOf (boardOf p) ≡ endingWith (kindOf p)
+pub placed-ending : (p : Position) → badMan p ≡ false → endingOf (boardOf p) ≡ endingWith (manKind p)
 unfolding boardOf endingOf
 placed-ending p e = ap (λ (q : Position). endingOf (boardOf q)) (alone p e)
 
-pub placed-numberable : (p : Position) → WellPlaced p → Numberable (endingWith (kindOf p)) (boardOf p)
+pub placed-numberable : (p : Position) → WellPlaced p → Numberable (endingWith (manKind p)) (boardOf p)
 unfolding all
 placed-numberable p w =
     let b = boardOf p in
@@ -102,7 +107,8 @@ placed-numberable p w =
     record {
       men = placed-ending p (w .men);
       side = unfold boardOf in w .side;
-      squares = and-right (ltb (b .black) 64) men (and-right (ltb (b .white) 64) (ltb (b .black) 64 && men) (w .squares));
+      squares =
+          and-right (ltb (b .black) 64) men (and-right (ltb (b .white) 64) (ltb (b .black) 64 && men) (w .squares));
       kings = kings-separate b (w .squares) (w .distinct) (w .kings);
     }
 
@@ -110,10 +116,10 @@ first-false : (a b : Bool) → (a || b) ≡ false → a ≡ false
 first-false true b e = absurd (refuted e tt)
 first-false false b e = refl
 
-pub placed-kind : (p : Position) → badMan p ≡ false → kindOf p < 4
+pub placed-kind : (p : Position) → badMan p ≡ false → manKind p < 4
 placed-kind p e = kind (p .first) (p .second) e
   where
-    kind : (f s : Slot) → badMen f s ≡ false → manOf f .kind < 4
+    kind : (f s : Slot) → badMen f s ≡ false → manIn f .kind < 4
     kind Absent s e = absurd (refuted e tt)
     kind (Present m) (Present n) e = absurd (refuted e tt)
     kind (Present m) Absent e = leb-false 4 (m .kind) (first-false (leb 4 (m .kind)) (not (eqb (m .colour) 0)) e)
@@ -128,13 +134,13 @@ five-most false false false true e = omega arith
 five-most false false false false true = omega arith
 five-most false false false false false = omega arith
 
-pub placing-most : (p : Position) → placing p ≤ 5
-unfolding placing
+pub placing-most : (p : Position) → placingRefusal p ≤ 5
+unfolding placingRefusal
 placing-most p = five-most (badMan p) (badSide p) (badSquare p) (sharedSquare p) (kingsTouch p)
 
-pub standing-most : (p : Position) → standing p ≤ 6
-unfolding standing
-standing-most p = six (eqb (placing p) 0) (otherInCheck p) (placing p) (placing-most p)
+pub standing-most : (p : Position) → standingRefusal p ≤ 6
+unfolding standingRefusal
+standing-most p = six (eqb (placingRefusal p) 0) (otherInCheck p) (placingRefusal p) (placing-most p)
   where
     six : (a b : Bool) (n : ℕ) → n ≤ 5 → cond a (cond b 6 0) n ≤ 6
     six true true n h = omega arith

@@ -30,7 +30,8 @@ off-four true true true true = refl
 -- the kings; the white king and each man; the black king and each man; the men
 shared-four : (wb wm wn bm bn mn : Bool)
     → (wb || ((wm || wn) || ((bm || bn) || mn)))
-    ≡ not (not (wb || (wm || (wn || false))) && (not (bm || (bn || false)) && (not (mn || false) && (not false && true))))
+    ≡ not (not (wb || (wm || (wn || false)))
+    && (not (bm || (bn || false)) && (not (mn || false) && (not false && true))))
 shared-four true wm wn bm bn mn = refl
 shared-four false true wn bm bn mn = refl
 shared-four false false true bm bn mn = refl
@@ -42,26 +43,45 @@ shared-four false false false false false false = refl
 -- ---- the men in two slots
 
 module _ (white black : ℕ) where
-  off-slots : (f s : Slot) → (leb 64 white || (leb 64 black || (slotOff f || slotOff s))) ≡ not (all (λ m. ltb (m .square) 64) (pieceOf 5 0 white ∷ pieceOf 5 1 black ∷ slotMen f ++ slotMen s))
+  off-slots : (f s : Slot)
+      → (leb 64 white || (leb 64 black || (slotOff f || slotOff s)))
+      ≡ not (all (λ m. ltb (m .square) 64) (pieceOf 5 0 white ∷ pieceOf 5 1 black ∷ slotMen f ++ slotMen s))
   unfolding all
   off-slots Absent Absent = rw (leb-not 64 white, leb-not 64 black) (off-four (ltb white 64) (ltb black 64) true true)
-  off-slots Absent (Present n) = rw (leb-not 64 white, leb-not 64 black, leb-not 64 (n .square)) (off-four (ltb white 64) (ltb black 64) true (ltb (n .square) 64))
-  off-slots (Present m) Absent = rw (leb-not 64 white, leb-not 64 black, leb-not 64 (m .square)) (off-four (ltb white 64) (ltb black 64) (ltb (m .square) 64) true)
+  off-slots Absent (Present n) =
+      rw (leb-not 64 white, leb-not 64 black, leb-not 64 (n .square))
+      (off-four (ltb white 64) (ltb black 64) true (ltb (n .square) 64))
+  off-slots (Present m) Absent =
+      rw (leb-not 64 white, leb-not 64 black, leb-not 64 (m .square))
+      (off-four (ltb white 64) (ltb black 64) (ltb (m .square) 64) true)
   off-slots (Present m) (Present n) =
-      rw (leb-not 64 white, leb-not 64 black, leb-not 64 (m .square), leb-not 64 (n .square)) (off-four (ltb white 64) (ltb black 64) (ltb (m .square) 64) (ltb (n .square) 64))
+      rw (leb-not 64 white, leb-not 64 black, leb-not 64 (m .square), leb-not 64 (n .square))
+      (off-four (ltb white 64) (ltb black 64) (ltb (m .square) 64) (ltb (n .square) 64))
 
-  shared-slots : (f s : Slot) → (eqb white black || ((slotOn white f || slotOn white s) || ((slotOn black f || slotOn black s) || slotsShare f s))) ≡ not (apart (pieceOf 5 0 white ∷ pieceOf 5 1 black ∷ slotMen f ++ slotMen s))
+  shared-slots : (f s : Slot)
+      → (eqb white
+      black || ((slotOn white f || slotOn white s) || ((slotOn black f || slotOn black s) || slotsShare f s)))
+      ≡ not (apart (pieceOf 5 0 white ∷ pieceOf 5 1 black ∷ slotMen f ++ slotMen s))
   unfolding apart any
   shared-slots Absent Absent = shared-four (eqb white black) false false false false false
-  shared-slots Absent (Present n) = shared-four (eqb white black) false (eqb white (n .square)) false (eqb black (n .square)) false
-  shared-slots (Present m) Absent = shared-four (eqb white black) (eqb white (m .square)) false (eqb black (m .square)) false false
-  shared-slots (Present m) (Present n) = shared-four (eqb white black) (eqb white (m .square)) (eqb white (n .square)) (eqb black (m .square)) (eqb black (n .square)) (eqb (m .square) (n .square))
+  shared-slots Absent (Present n) =
+      shared-four (eqb white black) false (eqb white (n .square)) false (eqb black (n .square)) false
+  shared-slots (Present m) Absent =
+      shared-four (eqb white black) (eqb white (m .square)) false (eqb black (m .square)) false false
+  shared-slots (Present m) (Present n) =
+      shared-four (eqb white black) (eqb white (m .square)) (eqb white (n .square)) (eqb black (m .square))
+      (eqb black (n .square)) (eqb (m .square) (n .square))
 
 module _ (p : Position) where
-  pub off-by-slots : (leb 64 (p .«white_king») || (leb 64 (p .«black_king») || (slotOff (p .first) || slotOff (p .second)))) ≡ badSquare p
+  pub off-by-slots : (leb 64
+      (p .«white_king») || (leb 64 (p .«black_king») || (slotOff (p .first) || slotOff (p .second)))) ≡ badSquare p
   unfolding badSquare boardOf
   off-by-slots = off-slots (p .«white_king») (p .«black_king») (p .first) (p .second)
 
-  pub shared-by-slots : (eqb (p .«white_king») (p .«black_king») || ((slotOn (p .«white_king») (p .first) || slotOn (p .«white_king») (p .second)) || ((slotOn (p .«black_king») (p .first) || slotOn (p .«black_king») (p .second)) || slotsShare (p .first) (p .second)))) ≡ sharedSquare p
+  pub shared-by-slots : (eqb (p .«white_king»)
+      (p .«black_king»)
+      || ((slotOn (p .«white_king») (p .first) || slotOn (p .«white_king») (p .second))
+      || ((slotOn (p .«black_king») (p .first) || slotOn (p .«black_king») (p .second)) || slotsShare (p .first)
+      (p .second)))) ≡ sharedSquare p
   unfolding sharedSquare boardOf
   shared-by-slots = shared-slots (p .«white_king») (p .«black_king») (p .first) (p .second)

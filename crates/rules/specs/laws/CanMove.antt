@@ -1,11 +1,11 @@
 -- A legal move, fact by fact.
 use mathlib.Core.Path.{_≡_, subst}
-use mathlib.Core.Bool.{Bool, false, not, _&&_}
+use mathlib.Core.Bool.{false, not, _&&_}
 use Prim.Native.Nat.{ℕ, _<_}
 use lib.Dec.{T, eqb, eqb→eq}
 use borrow.Author.Tests.{eq-eqb}
 use Rattle.finite.specs.Truth.{and-left, and-right, false-of, fails, refuted}
-use Rattle.finite.specs.Members.{_∈_, any, any-in, any-out}
+use Rattle.finite.specs.Members.{_∈_, any-in, any-out}
 use Rattle.board.specs.Reach.{reaches}
 use Rattle.board.specs.laws.ReachLaws.{reaches-squares}
 use Rattle.rules.specs.declared.Piece.{Piece}
@@ -26,7 +26,8 @@ can-facts b from to t =
     let free = not (stands b (b .side) to) in
     let safe = not (inCheck (moved b from to) (b .side)) in
     let t2 = and-left (goes b from to && free) safe t in
-    let w = any-out (λ m. eqb (m .colour) (b .side) && eqb (m .square) from && goesTo (occupied b) m to) (pieces b) (and-left (goes b from to) free t2) in
+    let w = any-out (λ m. eqb (m .colour) (b .side) && eqb (m .square) from && goesTo (occupied b) m to) (pieces b)
+    (and-left (goes b from to) free t2) in
     let a = w .0 in
     let own = eqb (a .colour) (b .side) in
     let at = eqb (a .square) from in
@@ -52,4 +53,5 @@ unfolding stands
 mover-stands b from to e = fails (canMove b from to) (λ t. refuted e (there (can-facts b from to t)))
   where
     there : Can b from to → T (stands b (b .side) from)
-    there c = any-in (λ m. eqb (m .colour) (b .side) && eqb (m .square) from) (c .there) (rw (eq-eqb (c .piece .colour) (b .side) (c .own), eq-eqb (c .piece .square) from (c .at)) tt)
+    there c = any-in (λ m. eqb (m .colour) (b .side) && eqb (m .square) from) (c .there)
+        (rw (eq-eqb (c .piece .colour) (b .side) (c .own), eq-eqb (c .piece .square) from (c .at)) tt)

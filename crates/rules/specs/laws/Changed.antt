@@ -9,7 +9,7 @@ use Rattle.finite.specs.Truth.{same-test}
 use Rattle.symmetry.specs.Symmetry.{Symmetry, mapped, inverse, composed}
 use Rattle.symmetry.specs.laws.SymmetryLaws.{mapped-inverse, inverse-inverse, mapped-composed}
 use Rattle.rules.specs.declared.Piece.{Piece}
-use Rattle.rules.specs.Rules.{Board, pieceOf}
+use Rattle.rules.specs.Rules.{Board}
 use Rattle.rules.specs.Changed.{changed, changedPiece, other, swapped}
 
 other-other : (s : ℕ) → other (other s) ≡ s
@@ -26,7 +26,8 @@ swapped-twice false s = refl
 pub eqb-swapped : (x : Bool) (a b : ℕ) → eqb (swapped x a) (swapped x b) ≡ eqb a b
 eqb-swapped x a b =
     same-test (eqb (swapped x a) (swapped x b)) (eqb a b)
-    (λ t. let e = sym (swapped-twice x a) ∙ ap (swapped x) (eqb→eq (swapped x a) (swapped x b) t) ∙ swapped-twice x b in rw e (eqb-refl b))
+    (λ t. let e = sym (swapped-twice x a) ∙ ap (swapped x) (eqb→eq (swapped x a) (swapped x b) t)
+    ∙ swapped-twice x b in rw e (eqb-refl b))
     (λ t. rw (eqb→eq a b t) (eqb-refl (swapped x b)))
 
 ltb-other : (s : ℕ) → ltb (other s) 2 ≡ ltb s 2
@@ -51,7 +52,9 @@ across false s h = refl
 -- ---- the changed board
 
 -- a board from its fields
-pub board-eq : {s s′ w w′ k k′ : ℕ} {l l′ : List Piece} → s ≡ s′ → w ≡ w′ → k ≡ k′ → l ≡ l′ → _≡_ {A = Board} (record { side = s; white = w; black = k; men = l }) (record { side = s′; white = w′; black = k′; men = l′ })
+pub board-eq : {s s′ w w′ k k′ : ℕ} {l l′ : List Piece} → s ≡ s′ → w ≡ w′ → k ≡ k′ → l ≡ l′
+    → _≡_ {A = Board} (record { side = s; white = w; black = k; men = l })
+    (record { side = s′; white = w′; black = k′; men = l′ })
 board-eq p q r t = cc
 
 man-back : (m : Symmetry) (x : Bool) (a : Piece) → changedPiece (inverse m) x (changedPiece m x a) ≡ a
@@ -66,11 +69,15 @@ pub changed-back : (m : Symmetry) (x : Bool) (b : Board) → changed (inverse m)
 unfolding changed
 changed-back m x b = board-eq (swapped-twice x (b .side)) (white x) (black x) (men-back m x (b .men))
   where
-    white : (x : Bool) → mapped (inverse m) (cond x (mapped m (cond x (b .white) (b .black))) (mapped m (cond x (b .black) (b .white)))) ≡ b .white
+    white : (x : Bool)
+        → mapped (inverse m)
+        (cond x (mapped m (cond x (b .white) (b .black))) (mapped m (cond x (b .black) (b .white)))) ≡ b .white
     white true = mapped-inverse m (b .white)
     white false = mapped-inverse m (b .white)
 
-    black : (x : Bool) → mapped (inverse m) (cond x (mapped m (cond x (b .black) (b .white))) (mapped m (cond x (b .white) (b .black)))) ≡ b .black
+    black : (x : Bool)
+        → mapped (inverse m)
+        (cond x (mapped m (cond x (b .black) (b .white))) (mapped m (cond x (b .white) (b .black)))) ≡ b .black
     black true = mapped-inverse m (b .black)
     black false = mapped-inverse m (b .black)
 
@@ -86,16 +93,21 @@ swapped-composed true false s = refl
 swapped-composed false true s = refl
 swapped-composed false false s = refl
 
-men-composed : (m n : Symmetry) (x y : Bool) (l : List Piece) → map (changedPiece n y) (map (changedPiece m x) l) ≡ map (changedPiece (composed m n) (xor x y)) l
+men-composed : (m n : Symmetry) (x y : Bool) (l : List Piece)
+    → map (changedPiece n y) (map (changedPiece m x) l) ≡ map (changedPiece (composed m n) (xor x y)) l
 men-composed m n x y [] = refl
-men-composed m n x y (a ∷ l) = rw (swapped-composed x y (a .colour), mapped-composed m n (a .square), men-composed m n x y l)
+men-composed m n x y (a ∷ l) =
+    rw (swapped-composed x y (a .colour), mapped-composed m n (a .square), men-composed m n x y l)
 
-pub changed-composed : (m n : Symmetry) (x y : Bool) (b : Board) → changed n y (changed m x b) ≡ changed (composed m n) (xor x y) b
+pub changed-composed : (m n : Symmetry) (x y : Bool) (b : Board)
+    → changed n y (changed m x b) ≡ changed (composed m n) (xor x y) b
 unfolding changed xor
 changed-composed m n x y b =
-    board-eq (swapped-composed x y (b .side)) (king x y (b .white) (b .black)) (king x y (b .black) (b .white)) (men-composed m n x y (b .men))
+    board-eq (swapped-composed x y (b .side)) (king x y (b .white) (b .black)) (king x y (b .black) (b .white))
+    (men-composed m n x y (b .men))
   where
-    king : (x y : Bool) (a c : ℕ) → mapped n (cond y (mapped m (cond x a c)) (mapped m (cond x c a))) ≡ mapped (composed m n) (cond (xor x y) c a)
+    king : (x y : Bool) (a c : ℕ)
+        → mapped n (cond y (mapped m (cond x a c)) (mapped m (cond x c a))) ≡ mapped (composed m n) (cond (xor x y) c a)
     king true true a c = mapped-composed m n a
     king true false a c = mapped-composed m n c
     king false true a c = mapped-composed m n c

@@ -14,14 +14,18 @@ use Rattle.board.specs.Reach.{reaches}
 use Rattle.board.specs.laws.ReachLaws.{king-reaches}
 use Rattle.symmetry.specs.laws.Opposite.{reaches-sym}
 use Rattle.rules.specs.declared.Piece.{Piece}
-use Rattle.rules.specs.Rules.{Board, pieces, occupied, attacks, attacked, king, inCheck, known, apart, touching, legal, stands, goesTo, carried, carriedPiece, left, moved, canMove}
+use Rattle.rules.specs.Rules.{Board, pieces, occupied, attacks, attacked, king, inCheck, known, apart, touching, legal, stands, carried, carriedPiece, left, moved, canMove}
 use Rattle.rules.specs.laws.Legal.{Legal, legal-facts, facts-legal}
 use Rattle.rules.specs.laws.CanMove.{Can, can-facts, can-on}
 
 king-stands : (b : Board) (s : ℕ) → s < 2 → T (stands b s (king b s))
 unfolding stands any
-king-stands b zero h = or-left (eqb (b .white) (b .white)) (any (λ m. eqb (m .colour) 0 && eqb (m .square) (b .white)) (b .men)) (eqb-refl (b .white))
-king-stands b (suc zero) h = or-left (eqb (b .black) (b .black)) (any (λ m. eqb (m .colour) 1 && eqb (m .square) (b .black)) (b .men)) (eqb-refl (b .black))
+king-stands b zero h =
+    or-left (eqb (b .white) (b .white)) (any (λ m. eqb (m .colour) 0 && eqb (m .square) (b .white)) (b .men))
+    (eqb-refl (b .white))
+king-stands b (suc zero) h =
+    or-left (eqb (b .black) (b .black)) (any (λ m. eqb (m .colour) 1 && eqb (m .square) (b .black)) (b .men))
+    (eqb-refl (b .black))
 king-stands b (suc (suc n)) h = absurd (omega arith)
 
 -- the piece that moves attacks its target
@@ -39,11 +43,14 @@ module _ (b : Board) (from to : ℕ) (l : Legal b) (c : Can b from to) where
   unfolding inCheck
   no-other-king e =
       let back : b .side ≡ 1 - (1 - b .side) = let h = l .side in omega arith in
-      refuted (l .safe) (subst (λ (s : ℕ). T (attacked b s (king b (1 - b .side)))) back (subst (λ (s : ℕ). T (attacked b (b .side) s)) (sym e) (goer-attacks b from to c)))
+      refuted (l .safe)
+      (subst (λ (s : ℕ). T (attacked b s (king b (1 - b .side)))) back
+      (subst (λ (s : ℕ). T (attacked b (b .side) s)) (sym e) (goer-attacks b from to c)))
 
   no-king : (s : ℕ) → s < 2 → king b s ≡ to → ⊥
   no-king s h e =
-      ⊎-elim (λ (q : s ≡ b .side). no-own-king (sym (ap (king b) q) ∙ e)) (λ (q : s ≡ 1 - b .side). no-other-king (sym (ap (king b) q) ∙ e)) (which s (b .side) h (l .side))
+      ⊎-elim (λ (q : s ≡ b .side). no-own-king (sym (ap (king b) q) ∙ e))
+      (λ (q : s ≡ 1 - b .side). no-other-king (sym (ap (king b) q) ∙ e)) (which s (b .side) h (l .side))
     where
       which : (s t : ℕ) → s < 2 → t < 2 → (s ≡ t) ⊎ (s ≡ 1 - t)
       which zero zero h k = inl refl
@@ -55,8 +62,10 @@ module _ (b : Board) (from to : ℕ) (l : Legal b) (c : Can b from to) where
       which (suc zero) (suc (suc n)) h k = absurd (omega arith)
 
 -- a legal move on a legal board never takes a king
-pub takes-no-king : (b : Board) (from to : ℕ) → T (legal b) → T (canMove b from to) → (b .white ≡ to → ⊥) × (b .black ≡ to → ⊥)
-takes-no-king b from to t u = let n = no-king b from to (legal-facts b t) (can-facts b from to u) in (n 0 (omega arith), n 1 (omega arith))
+pub takes-no-king : (b : Board) (from to : ℕ) → T (legal b) → T (canMove b from to)
+    → (b .white ≡ to → ⊥) × (b .black ≡ to → ⊥)
+takes-no-king b from to t u =
+    let n = no-king b from to (legal-facts b t) (can-facts b from to u) in (n 0 (omega arith), n 1 (omega arith))
 
 -- ---- the men after a move
 
@@ -81,7 +90,8 @@ module _ (from to : ℕ) where
   after : List Piece → List Piece
   after l = map (carriedPiece from to) (left to l)
 
-  all-after : (f : Piece → Bool) → ((a : Piece) → T (f a) → T (f (carriedPiece from to a))) → (l : List Piece) → T (all f l) → T (all f (after l))
+  all-after : (f : Piece → Bool) → ((a : Piece) → T (f a) → T (f (carriedPiece from to a))) → (l : List Piece)
+      → T (all f l) → T (all f (after l))
   unfolding all filter after
   all-after f h [] t = tt
   all-after f h (a ∷ l) t = go (eqb (a .square) to) (all-after f h l (and-right (f a) (all f l) t))
@@ -91,32 +101,44 @@ module _ (from to : ℕ) where
       go false r = and-both (f (carriedPiece from to a)) (all f (after l)) (h a (and-left (f a) (all f l) t)) r
 
   -- a square that another man comes to stand on was his, or the target
-  same-after : (s : ℕ) → (s ≡ to → ⊥) → (l : List Piece) → T (any (λ y. eqb (carried from to s) (y .square)) (after l)) → T (any (λ y. eqb s (y .square)) l)
+  same-after : (s : ℕ) → (s ≡ to → ⊥) → (l : List Piece) → T (any (λ y. eqb (carried from to s) (y .square)) (after l))
+      → T (any (λ y. eqb s (y .square)) l)
   unfolding any filter after
   same-after s p [] t = t
   same-after s p (a ∷ l) t = go (eqb (a .square) to) refl (same-after s p l) t
     where
-      go : (x : Bool) → eqb (a .square) to ≡ x → (T (any (λ y. eqb (carried from to s) (y .square)) (after l)) → T (any (λ y. eqb s (y .square)) l))
-          → T (any (λ y. eqb (carried from to s) (y .square)) (map (carriedPiece from to) (keep (not x) a (left to l)))) → T (eqb s (a .square) || any (λ y. eqb s (y .square)) l)
+      go : (x : Bool) → eqb (a .square) to ≡ x
+          → (T (any (λ y. eqb (carried from to s) (y .square)) (after l)) → T (any (λ y. eqb s (y .square)) l))
+          → T (any (λ y. eqb (carried from to s) (y .square))
+          (map (carriedPiece from to) (keep (not x) a (left to l))))
+          → T (eqb s (a .square) || any (λ y. eqb s (y .square)) l)
       go true e r t = or-right (eqb s (a .square)) (any (λ y. eqb s (y .square)) l) (r t)
       go false e r t =
           ⊎-elim
           (λ q. or-left (eqb s (a .square)) (any (λ y. eqb s (y .square)) l)
-          (subst (λ (z : ℕ). T (eqb s z)) (carried-inj from to s (a .square) p (eqb-false (a .square) to e) (eqb→eq (carried from to s) (carried from to (a .square)) q)) (eqb-refl s)))
+          (subst (λ (z : ℕ). T (eqb s z))
+          (carried-inj from to s (a .square) p (eqb-false (a .square) to e)
+          (eqb→eq (carried from to s) (carried from to (a .square)) q)) (eqb-refl s)))
           (λ q. or-right (eqb s (a .square)) (any (λ y. eqb s (y .square)) l) (r q))
-          (or-cases (eqb (carried from to s) (carried from to (a .square))) (any (λ y. eqb (carried from to s) (y .square)) (after l)) t)
+          (or-cases (eqb (carried from to s) (carried from to (a .square)))
+          (any (λ y. eqb (carried from to s) (y .square)) (after l)) t)
 
   apart-after : (l : List Piece) → T (apart l) → T (apart (after l))
   unfolding apart filter after
   apart-after [] t = tt
-  apart-after (a ∷ l) t = go (eqb (a .square) to) refl (apart-after l (and-right (not (any (λ y. eqb (a .square) (y .square)) l)) (apart l) t))
+  apart-after (a ∷ l) t =
+      go (eqb (a .square) to) refl
+      (apart-after l (and-right (not (any (λ y. eqb (a .square) (y .square)) l)) (apart l) t))
     where
-      go : (x : Bool) → eqb (a .square) to ≡ x → T (apart (after l)) → T (apart (map (carriedPiece from to) (keep (not x) a (left to l))))
+      go : (x : Bool) → eqb (a .square) to ≡ x → T (apart (after l))
+          → T (apart (map (carriedPiece from to) (keep (not x) a (left to l))))
       go true e r = r
       go false e r =
           and-both (not (any (λ y. eqb (carried from to (a .square)) (y .square)) (after l))) (apart (after l))
           (not-T (any (λ y. eqb (carried from to (a .square)) (y .square)) (after l))
-          (λ q. T-not (any (λ y. eqb (a .square) (y .square)) l) (and-left (not (any (λ y. eqb (a .square) (y .square)) l)) (apart l) t) (same-after (a .square) (eqb-false (a .square) to e) l q)))
+          (λ q. T-not (any (λ y. eqb (a .square) (y .square)) l)
+          (and-left (not (any (λ y. eqb (a .square) (y .square)) l)) (apart l) t)
+          (same-after (a .square) (eqb-false (a .square) to e) l q)))
           r
 
   pieces-after : (b : Board) → (b .white ≡ to → ⊥) → (b .black ≡ to → ⊥) → pieces (moved b from to) ≡ after (pieces b)
@@ -135,10 +157,15 @@ moved-side b from to = refl
 touch-check : (b : Board) (s : ℕ) → s < 2 → T (touching b) → T (inCheck b s)
 unfolding touching inCheck attacked attacks any
 touch-check b zero h t =
-    or-left (reaches (occupied b) 5 (b .black) (b .white)) (any (λ m. eqb (m .colour) 1 && attacks (occupied b) m (b .white)) (b .men))
-    (rw (reaches-sym (occupied b) 5 (b .black) (b .white), king-reaches (occupied b) (λ s. false) (b .white) (b .black)) t)
+    or-left (reaches (occupied b) 5 (b .black) (b .white))
+    (any (λ m. eqb (m .colour) 1 && attacks (occupied b) m (b .white)) (b .men))
+    (rw (
+      reaches-sym (occupied b) 5 (b .black) (b .white),
+      king-reaches (occupied b) (λ s. false) (b .white) (b .black),
+    ) t)
 touch-check b (suc zero) h t =
-    or-left (reaches (occupied b) 5 (b .white) (b .black)) (any (λ m. eqb (m .colour) 0 && attacks (occupied b) m (b .black)) (b .men))
+    or-left (reaches (occupied b) 5 (b .white) (b .black))
+    (any (λ m. eqb (m .colour) 0 && attacks (occupied b) m (b .black)) (b .men))
     (rw (king-reaches (occupied b) (λ s. false) (b .white) (b .black)) t)
 touch-check b (suc (suc n)) h t = absurd (omega arith)
 
@@ -153,12 +180,17 @@ closed b from to t u =
     let e = pieces-after from to b (n .0) (n .1) in
     facts-legal (moved b from to) (facts l c hto e)
   where
-    facts : Legal b → Can b from to → to < 64 → pieces (moved b from to) ≡ after from to (pieces b) → Legal (moved b from to)
+    facts : Legal b → Can b from to → to < 64 → pieces (moved b from to) ≡ after from to (pieces b)
+        → Legal (moved b from to)
     facts l c hto e = record {
       side = omega (arith, moved-side b from to);
       men = rw (men-after from to b) (all-after from to known (λ a h. h) (b .men) (l .men));
-      squares = rw e (all-after from to (λ a. ltb (a .square) 64) (λ a h. lt→ltb (carried from to (a .square)) 64 (carried-lt from to (a .square) hto (ltb→lt (a .square) 64 h))) (pieces b) (l .squares));
+      squares = rw e
+          (all-after from to (λ a. ltb (a .square) 64)
+          (λ a h. lt→ltb (carried from to (a .square)) 64
+          (carried-lt from to (a .square) hto (ltb→lt (a .square) 64 h))) (pieces b) (l .squares));
       apart = rw e (apart-after from to (pieces b) (l .apart));
-      kings = fails (touching (moved b from to)) (λ q. refuted (c .safe) (touch-check (moved b from to) (b .side) (l .side) q));
+      kings = fails (touching (moved b from to))
+          (λ q. refuted (c .safe) (touch-check (moved b from to) (b .side) (l .side) q));
       safe = ap (inCheck (moved b from to)) (let h = l .side in omega (arith, moved-side b from to)) ∙ c .safe;
     }

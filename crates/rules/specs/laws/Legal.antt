@@ -1,7 +1,7 @@
 -- A legal board, fact by fact.
 use mathlib.Core.Path.{_≡_, refl}
 use mathlib.Core.Bool.{Bool, true, false, not, _&&_}
-use Prim.Native.Nat.{ℕ, _-_, _<_}
+use Prim.Native.Nat.{_-_, _<_}
 use lib.Dec.{T, ltb, ltb→lt}
 use borrow.Author.Tests.{lt-ltb}
 use Rattle.finite.specs.Truth.{true-of}
@@ -37,9 +37,25 @@ six false b c d e f t = absurd t
 pub legal-facts : (b : Board) → T (legal b) → Legal b
 unfolding legal
 legal-facts b t =
-    let s = six (ltb (b .side) 2) (all known (b .men)) (all (λ m. ltb (m .square) 64) (pieces b)) (apart (pieces b)) (touching b) (inCheck b (1 - b .side)) t in
-    record { side = ltb→lt (b .side) 2 (s .s0); men = s .s1; squares = s .s2; apart = s .s3; kings = s .s4; safe = s .s5 }
+    let s = six (ltb (b .side) 2) (all known (b .men)) (all (λ m. ltb (m .square) 64) (pieces b)) (apart (pieces b))
+    (touching b) (inCheck b (1 - b .side)) t in
+    record {
+      side = ltb→lt (b .side) 2 (s .s0);
+      men = s .s1;
+      squares = s .s2;
+      apart = s .s3;
+      kings = s .s4;
+      safe = s .s5;
+    }
 
 pub facts-legal : (b : Board) → Legal b → T (legal b)
 unfolding legal
-facts-legal b l = rw (lt-ltb (b .side) 2 (l .side), true-of {b = all known (b .men)} (l .men), true-of {b = all (λ m. ltb (m .square) 64) (pieces b)} (l .squares), true-of {b = apart (pieces b)} (l .apart), l .kings, l .safe) tt
+facts-legal b l =
+    rw (
+      lt-ltb (b .side) 2 (l .side),
+      true-of {b = all known (b .men)} (l .men),
+      true-of {b = all (λ m. ltb (m .square) 64) (pieces b)} (l .squares),
+      true-of {b = apart (pieces b)} (l .apart),
+      l .kings,
+      l .safe,
+    ) tt

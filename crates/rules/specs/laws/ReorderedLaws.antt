@@ -8,11 +8,11 @@ use lib.Dec.{T, eqb, ltb}
 use Rattle.finite.specs.Members.{_∈_, any, all, map-in, map-out}
 use Rattle.finite.specs.Filter.{filter, keep}
 use Rattle.finite.specs.Truth.{eqb-sym}
-use Rattle.theory.specs.Game.{Game, next}
+use Rattle.theory.specs.Game.{next}
 use Rattle.theory.specs.Alike.{Automorphism}
 use Rattle.rules.specs.declared.Piece.{Piece}
 use Rattle.rules.specs.declared.Move.{Move}
-use Rattle.rules.specs.Rules.{Board, pieceOf, pieces, empty, occupied, attacks, attacked, king, inCheck, known, apart, touching, legal, stands, goes, goesTo, carried, carriedPiece, left, moved, canMove, allMoves, moves, mated}
+use Rattle.rules.specs.Rules.{Board, pieceOf, pieces, empty, occupied, attacks, attacked, king, inCheck, known, apart, touching, legal, stands, goes, goesTo, carriedPiece, left, moved, canMove, allMoves, moves, mated}
 use Rattle.rules.specs.laws.Changed.{board-eq}
 use Rattle.rules.specs.Chess.{chess, played, next-legal}
 use Rattle.rules.specs.Reordered.{crossed, reordered, Few}
@@ -68,13 +68,19 @@ any-crossed f true (a ∷ c ∷ d ∷ l) = refl
 pub apart-crossed : (e : Bool) (b : Board) → apart (pieces (reordered e b)) ≡ apart (pieces b)
 apart-crossed e b = go e (b .men)
   where
-    go : (e : Bool) (l : List Piece) → apart (pieceOf 5 0 (b .white) ∷ pieceOf 5 1 (b .black) ∷ crossed e l) ≡ apart (pieceOf 5 0 (b .white) ∷ pieceOf 5 1 (b .black) ∷ l)
+    go : (e : Bool) (l : List Piece)
+        → apart (pieceOf 5 0 (b .white) ∷ pieceOf 5 1 (b .black) ∷ crossed e l)
+        ≡ apart (pieceOf 5 0 (b .white) ∷ pieceOf 5 1 (b .black) ∷ l)
     go false l = unfold crossed in refl
     go true [] = unfold crossed in refl
     go true (a ∷ []) = unfold crossed in refl
     go true (a ∷ c ∷ []) =
         unfold crossed apart any in
-        rw (either (eqb (b .white) (c .square)) (eqb (b .white) (a .square)), either (eqb (b .black) (c .square)) (eqb (b .black) (a .square)), eqb-sym (c .square) (a .square))
+        rw (
+          either (eqb (b .white) (c .square)) (eqb (b .white) (a .square)),
+          either (eqb (b .black) (c .square)) (eqb (b .black) (a .square)),
+          eqb-sym (c .square) (a .square),
+        )
     go true (a ∷ c ∷ d ∷ l) = unfold crossed in refl
 
 module _ (e : Bool) (b : Board) where
@@ -110,7 +116,12 @@ module _ (e : Bool) (b : Board) where
   pub legal-reordered : legal (reordered e b) ≡ legal b
   unfolding legal all touching
   legal-reordered =
-      rw (all-crossed known e (b .men), all-crossed (λ m. ltb (m .square) 64) e (b .men), apart-crossed e b, check-reordered (1 - b .side))
+      rw (
+        all-crossed known e (b .men),
+        all-crossed (λ m. ltb (m .square) 64) e (b .men),
+        apart-crossed e b,
+        check-reordered (1 - b .side),
+      )
 
 left-crossed : (to : ℕ) (e : Bool) (l : List Piece) → Few l → left to (crossed e l) ≡ crossed e (left to l)
 unfolding crossed filter
@@ -133,7 +144,10 @@ left-crossed to true (a ∷ c ∷ d ∷ l) f = absurd f
 module _ (e : Bool) (b : Board) (f : Few (b .men)) where
   pub moved-reordered : (from to : ℕ) → moved (reordered e b) from to ≡ reordered e (moved b from to)
   unfolding moved
-  moved-reordered from to = board-eq refl refl refl (ap (map (carriedPiece from to)) (left-crossed to e (b .men) f) ∙ sym (crossed-map (carriedPiece from to) e (left to (b .men))))
+  moved-reordered from to =
+      board-eq refl refl refl
+      (ap (map (carriedPiece from to)) (left-crossed to e (b .men) f)
+      ∙ sym (crossed-map (carriedPiece from to) e (left to (b .men))))
 
   can-reordered : canMove (reordered e b) ≡ canMove b
   unfolding canMove goes stands
@@ -143,14 +157,19 @@ module _ (e : Bool) (b : Board) (f : Few (b .men)) where
       same from to =
           ap₂ _&&_
           (ap₂ _&&_
-          (any-reordered e b (λ m. eqb (m .colour) (b .side) && eqb (m .square) from && goesTo (occupied (reordered e b)) m to)
-          ∙ ap (λ (o : ℕ → Bool). any (λ m. eqb (m .colour) (b .side) && eqb (m .square) from && goesTo o m to) (pieces b)) (occupied-reordered e b))
+          (any-reordered e b
+          (λ m. eqb (m .colour) (b .side) && eqb (m .square) from && goesTo (occupied (reordered e b)) m to)
+          ∙ ap (λ (o : ℕ → Bool). any (λ m. eqb (m .colour) (b .side) && eqb (m .square) from && goesTo o m to)
+          (pieces b)) (occupied-reordered e b))
           (ap not (any-reordered e b (λ m. eqb (m .colour) (b .side) && eqb (m .square) to))))
-          (ap not (ap (λ (c : Board). inCheck c (b .side)) (moved-reordered from to) ∙ check-reordered e (moved b from to) (b .side)))
+          (ap not (ap (λ (c : Board). inCheck c (b .side)) (moved-reordered from to)
+          ∙ check-reordered e (moved b from to) (b .side)))
 
   pub moves-reordered : moves (reordered e b) ≡ moves b
   unfolding moves
-  moves-reordered = ap₂ (λ (x : Bool) (can : ℕ → ℕ → Bool). cond {A = List Move} x [] (allMoves can)) (empty-crossed e b) can-reordered
+  moves-reordered =
+      ap₂ (λ (x : Bool) (can : ℕ → ℕ → Bool). cond {A = List Move} x [] (allMoves can)) (empty-crossed e b)
+      can-reordered
 
   pub mated-reordered : mated (reordered e b) ≡ mated b
   unfolding mated
@@ -160,7 +179,8 @@ module _ (e : Bool) (b : Board) (f : Few (b .men)) where
   next-reordered q h =
       let w = map-out (played b) q (moves b) h in
       let n : w .0 ∈ moves (reordered e b) = subst (λ (l : List Move). w .0 ∈ l) (sym moves-reordered) (w .1) in
-      subst (λ (c : Board). c ∈ next chess (reordered e b)) (moved-reordered (w .0 .from) (w .0 .to) ∙ ap (reordered e) (sym (w .2))) (map-in (played (reordered e b)) n)
+      subst (λ (c : Board). c ∈ next chess (reordered e b))
+      (moved-reordered (w .0 .from) (w .0 .to) ∙ ap (reordered e) (sym (w .2))) (map-in (played (reordered e b)) n)
 
 -- ---- legal boards with at most two men
 
@@ -197,7 +217,10 @@ pub few-next : (b q : Board) → LegalFew b → q ∈ next chess b → LegalFew 
 unfolding moved
 few-next b q l h =
     let w = map-out (played b) q (moves b) h in
-    record { legality = next-legal b q (l .legality) h; few = subst⁻¹ (λ (c : Board). Few (c .men)) (w .2) (few-left (w .0 .from) (w .0 .to) (b .men) (l .few)) }
+    record {
+      legality = next-legal b q (l .legality) h;
+      few = subst⁻¹ (λ (c : Board). Few (c .men)) (w .2) (few-left (w .0 .from) (w .0 .to) (b .men) (l .few));
+    }
 
 pub reordering : (e : Bool) → Automorphism chess LegalFew (reordered e) (reordered e)
 reordering e = record {

@@ -15,7 +15,7 @@ use Rattle.board.specs.Reach.{reaches}
 use Rattle.board.specs.laws.ReachLaws.{king-reaches}
 use Rattle.symmetry.specs.laws.Opposite.{reaches-sym}
 use Rattle.rules.specs.declared.Piece.{Piece}
-use Rattle.rules.specs.Rules.{Board, pieces, pieceOf, occupied, attacks, attacked, inCheck, apart, touching, legal, stands, carriedPiece, left, moved, canMove}
+use Rattle.rules.specs.Rules.{Board, pieceOf, occupied, attacks, attacked, inCheck, apart, touching, legal, stands, carriedPiece, left, moved, canMove}
 use Rattle.rules.specs.laws.Legal.{legal-facts}
 use Rattle.rules.specs.laws.CanMove.{can-facts}
 
@@ -32,32 +32,46 @@ unfolding any filter
 left-all s [] e = refl
 left-all s (a ∷ l) e = go (eqb s (a .square)) refl e (left-all s l)
   where
-    go : (x : Bool) → eqb s (a .square) ≡ x → (x || any (λ y. eqb s (y .square)) l) ≡ false → (any (λ y. eqb s (y .square)) l ≡ false → left s l ≡ l) → keep (not (eqb (a .square) s)) a (left s l) ≡ a ∷ l
+    go : (x : Bool) → eqb s (a .square) ≡ x → (x || any (λ y. eqb s (y .square)) l) ≡ false
+        → (any (λ y. eqb s (y .square)) l ≡ false → left s l ≡ l) → keep (not (eqb (a .square) s)) a (left s l) ≡ a ∷ l
     go true h e r = absurd (refuted e tt)
     go false h e r = rw (ne-eqb (a .square) s (λ q. eqb-false s (a .square) h (sym q)), r e)
 
 pub one-taken : (to : ℕ) (l : List Piece) → T (apart l) → length l ≤ suc (length (left to l))
 unfolding apart filter
 one-taken to [] t = omega arith
-one-taken to (a ∷ l) t = go (eqb (a .square) to) refl (one-taken to l (and-right (not (any (λ y. eqb (a .square) (y .square)) l)) (apart l) t))
+one-taken to (a ∷ l) t =
+    go (eqb (a .square) to) refl
+    (one-taken to l (and-right (not (any (λ y. eqb (a .square) (y .square)) l)) (apart l) t))
   where
-    go : (x : Bool) → eqb (a .square) to ≡ x → length l ≤ suc (length (left to l)) → suc (length l) ≤ suc (length (keep (not x) a (left to l)))
-    go true e r = rw (← eqb-true (a .square) to e, left-all (a .square) l (false-of (and-left (not (any (λ y. eqb (a .square) (y .square)) l)) (apart l) t))) (omega arith)
+    go : (x : Bool) → eqb (a .square) to ≡ x → length l ≤ suc (length (left to l))
+        → suc (length l) ≤ suc (length (keep (not x) a (left to l)))
+    go true e r =
+        rw (
+          ← eqb-true (a .square) to e,
+          left-all (a .square) l (false-of (and-left (not (any (λ y. eqb (a .square) (y .square)) l)) (apart l) t)),
+        )
+        (omega arith)
     go false e r = omega arith
 
 -- a piece of the side to move is never taken
-pub own-kept : (b : Board) (from to : ℕ) → T (canMove b from to) → (m : Piece) → m ∈ b .men → m .colour ≡ b .side → m .square ≡ to → ⊥
+pub own-kept : (b : Board) (from to : ℕ) → T (canMove b from to) → (m : Piece) → m ∈ b .men → m .colour ≡ b .side
+    → m .square ≡ to → ⊥
 unfolding stands
 own-kept b from to t m h e q =
     refuted (can-facts b from to t .free)
-    (any-in (λ x. eqb (x .colour) (b .side) && eqb (x .square) to) (List·Memᴰ·tail (List·Memᴰ·tail h)) (rw (eq-eqb (m .colour) (b .side) e, eq-eqb (m .square) to q) tt))
+    (any-in (λ x. eqb (x .colour) (b .side) && eqb (x .square) to) (List·Memᴰ·tail (List·Memᴰ·tail h))
+    (rw (eq-eqb (m .colour) (b .side) e, eq-eqb (m .square) to q) tt))
 
 -- a lone man stays, or is taken and leaves bare kings
-pub lone-man : (b : Board) (a : Piece) (from to : ℕ) → b .men ≡ a ∷ [] → (moved b from to .men ≡ []) ⊎ (moved b from to .men ≡ carriedPiece from to a ∷ [])
+pub lone-man : (b : Board) (a : Piece) (from to : ℕ) → b .men ≡ a ∷ []
+    → (moved b from to .men ≡ []) ⊎ (moved b from to .men ≡ carriedPiece from to a ∷ [])
 unfolding moved filter
 lone-man b a from to e = rw e (go (eqb (a .square) to))
   where
-    go : (x : Bool) → (map (carriedPiece from to) (keep (not x) a []) ≡ []) ⊎ (map (carriedPiece from to) (keep (not x) a []) ≡ carriedPiece from to a ∷ [])
+    go : (x : Bool)
+        → (map (carriedPiece from to) (keep (not x) a []) ≡ [])
+        ⊎ (map (carriedPiece from to) (keep (not x) a []) ≡ carriedPiece from to a ∷ [])
     go true = inl refl
     go false = inr refl
 
@@ -72,11 +86,15 @@ unfolding touching inCheck attacked attacks any
 bare-touch b zero h e t =
     rw (king-reaches (λ s. false) (occupied b) (b .white) (b .black), reaches-sym (occupied b) 5 (b .white) (b .black))
     (or-no (reaches (occupied b) 5 (b .black) (b .white))
-    (subst (λ (l : List Piece). T (reaches (occupied b) 5 (b .black) (b .white) || any (λ m. eqb (m .colour) 1 && attacks (occupied b) m (b .white)) l)) e t))
+    (subst (λ (l : List Piece). T
+    (reaches (occupied b) 5 (b .black) (b .white) || any
+    (λ m. eqb (m .colour) 1 && attacks (occupied b) m (b .white)) l)) e t))
 bare-touch b (suc zero) h e t =
     rw (king-reaches (λ s. false) (occupied b) (b .white) (b .black))
     (or-no (reaches (occupied b) 5 (b .white) (b .black))
-    (subst (λ (l : List Piece). T (reaches (occupied b) 5 (b .white) (b .black) || any (λ m. eqb (m .colour) 0 && attacks (occupied b) m (b .black)) l)) e t))
+    (subst (λ (l : List Piece). T
+    (reaches (occupied b) 5 (b .white) (b .black) || any
+    (λ m. eqb (m .colour) 0 && attacks (occupied b) m (b .black)) l)) e t))
 bare-touch b (suc (suc n)) h e t = absurd (omega arith)
 
 pub bare-safe : (b : Board) (s : ℕ) → s < 2 → T (legal b) → b .men ≡ [] → inCheck b s ≡ false

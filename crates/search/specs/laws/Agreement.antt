@@ -5,18 +5,18 @@ use mathlib.Core.Bool.{Bool, true, false, cond}
 use mathlib.Core.List.{List}
 use Prim.Native.Nat.{ℕ, _<_, _≤_}
 use native.Mathlib.Omega.{arith}
-use lib.Dec.{T, eqb, leb}
+use lib.Dec.{eqb, leb}
 use borrow.Author.Tests.{le-leb, lt-leb, eqb-true}
-use Rattle.finite.specs.Truth.{of-true, le-or-lt}
+use Rattle.finite.specs.Truth.{le-or-lt}
 use Rattle.theory.specs.Value.{WonIn, LostIn, DepthIs}
 use Rattle.theory.specs.laws.Depth.{one-depth}
-use Rattle.rules.specs.Rules.{Board, legal}
+use Rattle.rules.specs.Rules.{Board}
 use Rattle.rules.specs.Chess.{chess}
 use Rattle.answers.specs.declared.Answer.{Answer}
 use Rattle.answers.specs.declared.Checked.{Checked}
 use Rattle.position.specs.declared.Position.{Position}
-use Rattle.position.specs.Keyed.{boardOf, kindOf}
-use Rattle.position.specs.Refusals.{standing}
+use Rattle.position.specs.Keyed.{boardOf, manKind}
+use Rattle.position.specs.Refusals.{standingRefusal}
 use Rattle.endings.specs.Answers.{checkOf, lookUpOf}
 use Rattle.endings.specs.Truth.{TrueAnswer}
 use Rattle.endings.specs.laws.LookingUp.{look-up-true}
@@ -53,17 +53,19 @@ module _ (b : Board) (k : ℕ) (o : Opinion) (true? : TrueOpinion b k o) where
 
 -- THE THEOREM: for any table that the checker accepts, on any position of its ending, legal or refused, the second opinion is what look-up says
 -- of depths up to k.
-module _ (man : ℕ) (t : List ℕ) (ok : checkOf man t ≡ Checked.Accepted) (p : Position) (its : kindOf p ≡ man) (k : ℕ) (few : k ≤ most) where
-  agrees-legal : standing p ≡ 0 → opinionOf p k ≡ shortOf k (lookUpOf t p)
-  agrees-legal z = short (boardOf p) k (opinionOf p k) (opinion-true p k few z) (lookUpOf t p) (look-up-true man t ok p its z)
+module _ (kind : ℕ) (t : List ℕ) (ok : checkOf kind t ≡ Checked.Accepted) (p : Position) (its : manKind p ≡ kind)
+    (k : ℕ) (few : k ≤ most) where
+  agrees-legal : standingRefusal p ≡ 0 → opinionOf p k ≡ shortOf k (lookUpOf t p)
+  agrees-legal z =
+      short (boardOf p) k (opinionOf p k) (opinion-true p k few z) (lookUpOf t p) (look-up-true kind t ok p its z)
 
-  agrees-refused : eqb (standing p) 0 ≡ false → opinionOf p k ≡ shortOf k (lookUpOf t p)
+  agrees-refused : eqb (standingRefusal p) 0 ≡ false → opinionOf p k ≡ shortOf k (lookUpOf t p)
   unfolding opinionOf lookUpOf
   agrees-refused f = rw f
 
   pub search-agrees : opinionOf p k ≡ shortOf k (lookUpOf t p)
-  search-agrees = go (eqb (standing p) 0) refl
+  search-agrees = go (eqb (standingRefusal p) 0) refl
     where
-      go : (x : Bool) → eqb (standing p) 0 ≡ x → opinionOf p k ≡ shortOf k (lookUpOf t p)
-      go true e = agrees-legal (eqb-true (standing p) 0 e)
+      go : (x : Bool) → eqb (standingRefusal p) 0 ≡ x → opinionOf p k ≡ shortOf k (lookUpOf t p)
+      go true e = agrees-legal (eqb-true (standingRefusal p) 0 e)
       go false e = agrees-refused e

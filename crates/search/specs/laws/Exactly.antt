@@ -1,21 +1,21 @@
 -- The second opinion is the value definition's (02, P7: "Show that it equals the value definition"), and stalemate is no loss.
-use mathlib.Core.Path.{_≡_, sym, ap, subst, _∙_}
+use mathlib.Core.Path.{_≡_, ap, subst, _∙_}
 use mathlib.Core.Logic.{_⊎_, inl, inr, _↔_}
 use mathlib.Core.Bool.{true, cond}
 use Prim.Native.Nat.{ℕ, suc, _<_, _≤_}
 use native.Mathlib.Omega.{arith}
-use lib.Dec.{T, eqb, leb}
+use lib.Dec.{T, leb}
 use borrow.Author.Tests.{le-leb, lt-leb, eq-eqb}
 use Rattle.finite.specs.Truth.{true-of, fails, le-or-lt}
 use Rattle.finite.specs.Lowest.{lowest, lowest-le, lowest-passes}
 use Rattle.theory.specs.Value.{won, lost, WonIn, LostIn, Drawn, DepthIs}
 use Rattle.theory.specs.laws.Within.{won-not-lost}
 use Rattle.theory.specs.laws.Depth.{one-depth, draw-is}
-use Rattle.rules.specs.Rules.{Board, legal}
+use Rattle.rules.specs.Rules.{Board}
 use Rattle.rules.specs.Chess.{chess}
 use Rattle.position.specs.declared.Position.{Position}
 use Rattle.position.specs.Keyed.{boardOf}
-use Rattle.position.specs.Refusals.{standing}
+use Rattle.position.specs.Refusals.{standingRefusal}
 use Rattle.search.specs.declared.Opinion.{Opinion}
 use Rattle.search.specs.Opinions.{most, decidedIn, leastDepth, searched, opinionOf}
 use Rattle.search.specs.TrueOpinion.{TrueOpinion, Exact}
@@ -47,11 +47,21 @@ module _ (b : Board) (k : ℕ) where
   unfolding searched
   searched-true = go (le-or-lt (leastDepth b k) k)
     where
-      found : leastDepth b k ≤ k → T (won chess (leastDepth b k) b) ⊎ T (lost chess (leastDepth b k) b) → TrueOpinion b k (cond (won chess (leastDepth b k) b) (Opinion.Win (leastDepth b k)) (Opinion.Loss (leastDepth b k)))
-      found h (inl t) = TrueOpinion.win (leastDepth b k) (record { within = t; least = λ m s. least m h (in-won b m s) }) h (rw (true-of {b = won chess (leastDepth b k) b} t))
-      found h (inr t) = TrueOpinion.loss (leastDepth b k) (record { within = t; least = λ m s. least m h (in-lost b m s) }) h (rw (fails (won chess (leastDepth b k) b) (λ x. won-not-lost chess (leastDepth b k) (leastDepth b k) b x t)))
+      found : leastDepth b k ≤ k → T (won chess (leastDepth b k) b) ⊎ T (lost chess (leastDepth b k) b)
+          → TrueOpinion b k
+          (cond (won chess (leastDepth b k) b) (Opinion.Win (leastDepth b k)) (Opinion.Loss (leastDepth b k)))
+      found h (inl t) =
+          TrueOpinion.win (leastDepth b k) (record { within = t; least = λ m s. least m h (in-won b m s) }) h
+          (rw (true-of {b = won chess (leastDepth b k) b} t))
+      found h (inr t) =
+          TrueOpinion.loss (leastDepth b k) (record { within = t; least = λ m s. least m h (in-lost b m s) }) h
+          (rw (fails (won chess (leastDepth b k) b) (λ x. won-not-lost chess (leastDepth b k) (leastDepth b k) b x t)))
 
-      go : (leastDepth b k ≤ k) ⊎ (k < leastDepth b k) → TrueOpinion b k (cond (leb (leastDepth b k) k) (cond (won chess (leastDepth b k) b) (Opinion.Win (leastDepth b k)) (Opinion.Loss (leastDepth b k))) Opinion.NotWithin)
+      go : (leastDepth b k ≤ k) ⊎ (k < leastDepth b k)
+          → TrueOpinion b k
+          (cond (leb (leastDepth b k) k)
+          (cond (won chess (leastDepth b k) b) (Opinion.Win (leastDepth b k)) (Opinion.Loss (leastDepth b k)))
+          Opinion.NotWithin)
       go (inl h) = rw (le-leb (leastDepth b k) k h) (found h (decided-cases b (leastDepth b k) (passes h)))
       go (inr h) = TrueOpinion.neither (none-within h) (rw (lt-leb (leastDepth b k) k h))
 
@@ -83,7 +93,8 @@ module _ (b : Board) (k : ℕ) (o : Opinion) (true? : TrueOpinion b k o) where
       forth q (TrueOpinion.neither f e) = let z : _≡_ {A = ℕ} 0 1 = cc in absurd (clash z)
 
       back : LostIn chess n b → n ≤ k → TrueOpinion b k o → o ≡ Opinion.Loss n
-      back v g (TrueOpinion.loss m l h e) = e ∙ ap Opinion.Loss (one-depth chess m n b (DepthIs.loss l) (DepthIs.loss v))
+      back v g (TrueOpinion.loss m l h e) =
+          e ∙ ap Opinion.Loss (one-depth chess m n b (DepthIs.loss l) (DepthIs.loss v))
       back v g (TrueOpinion.win m w h e) = absurd (won-not-lost chess m n b (w .within) (v .within))
       back v g (TrueOpinion.neither f e) = absurd (f n g (DepthIs.loss v))
 
@@ -107,11 +118,11 @@ module _ (b : Board) (k : ℕ) (o : Opinion) (true? : TrueOpinion b k o) where
 -- ---- the second opinion on a position that nothing refuses
 
 module _ (p : Position) (k : ℕ) (few : k ≤ most) where
-  pub opinion-true : standing p ≡ 0 → TrueOpinion (boardOf p) k (opinionOf p k)
+  pub opinion-true : standingRefusal p ≡ 0 → TrueOpinion (boardOf p) k (opinionOf p k)
   unfolding opinionOf
-  opinion-true z = rw (eq-eqb (standing p) 0 z, le-leb k most few) (searched-true (boardOf p) k)
+  opinion-true z = rw (eq-eqb (standingRefusal p) 0 z, le-leb k most few) (searched-true (boardOf p) k)
 
-  pub opinion-exact : standing p ≡ 0 → Exact p k
+  pub opinion-exact : standingRefusal p ≡ 0 → Exact p k
   opinion-exact l =
       let o = opinion-true l in
       record {

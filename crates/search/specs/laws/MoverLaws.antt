@@ -12,7 +12,7 @@ use Rattle.position.specs.declared.Slot.the-variants.{Absent, Present}
 use Rattle.position.specs.declared.Position.{Position}
 use Rattle.position.specs.Keyed.{boardOf}
 use Rattle.rules.specs.laws.MoveLists.{onto-none, onto-more}
-use Rattle.listing.specs.laws.ListLaws.{by-movers, turn-split}
+use Rattle.move_list.specs.laws.ListLaws.{by-movers, turn-split}
 use Rattle.search.specs.Tried.{moversOf, movesOn, movesLeft}
 
 module _ (b : Board) where
@@ -21,7 +21,8 @@ module _ (b : Board) where
   unfolding movesOn moversOf moves flatMap
   on-movers own e = go (empty (b .men)) e
     where
-      go : (bare : Bool) → own ≡ cond bare 0 (setOf (stands b (b .side))) → flatMap (movesFrom (canMove b)) (members own) ≡ cond bare [] (allMoves (canMove b))
+      go : (bare : Bool) → own ≡ cond bare 0 (setOf (stands b (b .side)))
+          → flatMap (movesFrom (canMove b)) (members own) ≡ cond bare [] (allMoves (canMove b))
       go true q = rw (q, members-none)
       go false q = sym (by-movers b own q)
 
@@ -30,12 +31,14 @@ module _ (b : Board) where
   on-none rest z = rw (z, members-none)
 
   -- one turn of the loop over the movers
-  pub on-turn : (rest from others targets : ℕ) → Lowest rest from others → targets ≡ setOf (canMove b from) → movesOn b rest ≡ movesLeft b from targets others
+  pub on-turn : (rest from others targets : ℕ) → Lowest rest from others → targets ≡ setOf (canMove b from)
+      → movesOn b rest ≡ movesLeft b from targets others
   unfolding movesOn movesLeft
   on-turn rest from others targets low e = turn-split (canMove b) rest from others targets low e
 
   -- one turn of the loop over the targets
-  pub left-turn : (from targets to others rest : ℕ) → Lowest targets to others → movesLeft b from targets rest ≡ moveOf from to ∷ movesLeft b from others rest
+  pub left-turn : (from targets to others rest : ℕ) → Lowest targets to others
+      → movesLeft b from targets rest ≡ moveOf from to ∷ movesLeft b from others rest
   unfolding movesLeft
   left-turn from targets to others rest low = rw (low .first, onto-more)
 
@@ -44,11 +47,13 @@ module _ (b : Board) where
   left-none from targets rest z = rw (z, members-none, onto-none)
 
   -- no target, no move from there
-  pub on-skip : (rest from others targets : ℕ) → Lowest rest from others → targets ≡ setOf (canMove b from) → targets ≡ 0 → movesOn b rest ≡ movesOn b others
+  pub on-skip : (rest from others targets : ℕ) → Lowest rest from others → targets ≡ setOf (canMove b from)
+      → targets ≡ 0 → movesOn b rest ≡ movesOn b others
   on-skip rest from others targets low e z = on-turn rest from others targets low e ∙ left-none from targets others z
 
   -- a target, a move
-  pub on-some : (rest from others targets : ℕ) → targets < 2 ^ 64 → Lowest rest from others → targets ≡ setOf (canMove b from) → (targets ≡ 0 → ⊥) → empty (movesOn b rest) ≡ false
+  pub on-some : (rest from others targets : ℕ) → targets < 2 ^ 64 → Lowest rest from others
+      → targets ≡ setOf (canMove b from) → (targets ≡ 0 → ⊥) → empty (movesOn b rest) ≡ false
   on-some rest from others targets h low e n =
       let t = lowest-of targets _ _ h n refl refl in
       rw (on-turn rest from others targets low e, left-turn from targets _ _ others t)
@@ -72,6 +77,7 @@ module _ (s : Position) where
   unfolding moversOf
   movers-bare bare e t = sym (rw (sym e ∙ t))
 
-  pub movers-own : (bare : Bool) (own : ℕ) → bare ≡ empty (boardOf s .men) → bare ≡ false → own ≡ setOf (stands (boardOf s) (s .side)) → own ≡ moversOf (boardOf s)
+  pub movers-own : (bare : Bool) (own : ℕ) → bare ≡ empty (boardOf s .men) → bare ≡ false
+      → own ≡ setOf (stands (boardOf s) (s .side)) → own ≡ moversOf (boardOf s)
   unfolding moversOf boardOf
   movers-own bare own e t o = o ∙ sym (rw (sym e ∙ t))

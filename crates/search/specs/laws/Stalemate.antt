@@ -1,21 +1,20 @@
 -- Stalemate is not lost, though "every move leaves the other won" holds of no moves; mate is.
-use mathlib.Core.Path.{_≡_, refl, ap, _∙_}
+use mathlib.Core.Path.{_≡_, refl}
 use mathlib.Core.List.{List·Memᴰ·head, List·Memᴰ·tail}
 use Prim.Native.Nat.{ℕ, _≤_}
 use native.Mathlib.Omega.{arith}
-use lib.Dec.{T, eqb}
 use Rattle.finite.specs.Members.{_∈_}
 use Rattle.theory.specs.Value.{LostIn, Drawn}
 use Rattle.rules.specs.Chess.{chess}
 use Rattle.position.specs.declared.Position.{Position}
 use Rattle.position.specs.Keyed.{boardOf, lone}
-use Rattle.position.specs.Refusals.{standing}
-use Rattle.endings.specs.laws.Bench.{Case, Holds, starred, bench}
+use Rattle.position.specs.Refusals.{standingRefusal}
+use Rattle.endings.specs.laws.Bench.{Case, CaseHolds, starred, bench}
 use Rattle.search.specs.declared.Opinion.{Opinion}
 use Rattle.search.specs.Opinions.{most, opinionOf}
 use Rattle.search.specs.laws.Exactly.{not-of-draw, opinion-true, opinion-exact}
 
-module _ (p : Position) (k : ℕ) (few : k ≤ most) (placed : standing p ≡ 0) where
+module _ (p : Position) (k : ℕ) (few : k ≤ most) (placed : standingRefusal p ≡ 0) where
   drawn-not-within : Drawn chess (boardOf p) → opinionOf p k ≡ Opinion.NotWithin
   drawn-not-within d = not-of-draw (boardOf p) k (opinionOf p k) (opinion-true p k few placed) d
 
@@ -30,14 +29,25 @@ abbrev pub mate : Position
 mate = lone 0 1 17 9 0
 
 mate-kept : Case.lost-in-0 mate ∈ starred
-mate-kept = List·Memᴰ·tail (List·Memᴰ·tail (List·Memᴰ·tail (List·Memᴰ·tail (List·Memᴰ·tail (List·Memᴰ·tail (List·Memᴰ·tail (List·Memᴰ·tail (List·Memᴰ·tail (List·Memᴰ·head refl)))))))))
+mate-kept = List·Memᴰ·tail
+    (List·Memᴰ·tail
+    (List·Memᴰ·tail
+    (List·Memᴰ·tail
+    (List·Memᴰ·tail (List·Memᴰ·tail (List·Memᴰ·tail (List·Memᴰ·tail (List·Memᴰ·tail (List·Memᴰ·head refl)))))))))
 
 stalemate-kept : Case.drawn-no-move stalemate ∈ starred
-stalemate-kept = List·Memᴰ·tail (List·Memᴰ·tail (List·Memᴰ·tail (List·Memᴰ·tail (List·Memᴰ·tail (List·Memᴰ·tail (List·Memᴰ·tail (List·Memᴰ·tail (List·Memᴰ·tail (List·Memᴰ·tail (List·Memᴰ·head refl))))))))))
+stalemate-kept =
+    List·Memᴰ·tail
+    (List·Memᴰ·tail
+    (List·Memᴰ·tail
+    (List·Memᴰ·tail
+    (List·Memᴰ·tail
+    (List·Memᴰ·tail (List·Memᴰ·tail (List·Memᴰ·tail (List·Memᴰ·tail (List·Memᴰ·tail (List·Memᴰ·head refl))))))))))
 
 -- within 0 to 6 plies
 pub stalemate-not-lost : (k : ℕ) → k ≤ most → opinionOf stalemate k ≡ Opinion.NotWithin
-stalemate-not-lost k few = let h : Holds (Case.drawn-no-move stalemate) = bench _ stalemate-kept in drawn-not-within stalemate k few (h .0) (h .1)
+stalemate-not-lost k few = let h : CaseHolds (Case.drawn-no-move stalemate) = bench _ stalemate-kept in
+    drawn-not-within stalemate k few (h .0) (h .1)
 
 pub mate-lost : (k : ℕ) → k ≤ most → opinionOf mate k ≡ Opinion.Loss 0
-mate-lost k few = let h : Holds (Case.lost-in-0 mate) = bench _ mate-kept in mated-loss mate k few (h .0) (h .1)
+mate-lost k few = let h : CaseHolds (Case.lost-in-0 mate) = bench _ mate-kept in mated-loss mate k few (h .0) (h .1)

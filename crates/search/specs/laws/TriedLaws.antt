@@ -39,28 +39,43 @@ module _ (occ : ℕ → Bool) (from at t : ℕ) where
   unfolding any
   aims-absent slot e = rw e
 
-  pub aims-present : (slot : Slot) (m : Piece) → slot ≡ Present m → any (aims occ from at t) (slotMen slot) ≡ aims occ from at t m
+  pub aims-present : (slot : Slot) (m : Piece) → slot ≡ Present m
+      → any (aims occ from at t) (slotMen slot) ≡ aims occ from at t m
   unfolding any
   aims-present slot m e = rw e (or-false (aims occ from at t m))
 
-  pub aims-all : (s : Position) (w b f g : ℕ) → has w t ≡ aims occ from at t (pieceOf 5 0 (s .«white_king»)) → has b t ≡ aims occ from at t (pieceOf 5 1 (s .«black_king»))
-      → has f t ≡ any (aims occ from at t) (slotMen (s .first)) → has g t ≡ any (aims occ from at t) (slotMen (s .second))
+  pub aims-all : (s : Position) (w b f g : ℕ) → has w t ≡ aims occ from at t (pieceOf 5 0 (s .«white_king»))
+      → has b t ≡ aims occ from at t (pieceOf 5 1 (s .«black_king»))
+      → has f t ≡ any (aims occ from at t) (slotMen (s .first))
+      → has g t ≡ any (aims occ from at t) (slotMen (s .second))
       → has (bitOr w (bitOr b (bitOr f g))) t ≡ any (aims occ from at t) (pieces (boardOf s))
   unfolding any boardOf
-  aims-all s w b f g ew eb ef eg = rw (has-or w (bitOr b (bitOr f g)) t, has-or b (bitOr f g) t, has-or f g t, ew, eb, ef, eg, any-append (aims occ from at t) (slotMen (s .first)) (slotMen (s .second)))
+  aims-all s w b f g ew eb ef eg =
+      rw (
+        has-or w (bitOr b (bitOr f g)) t,
+        has-or b (bitOr f g) t,
+        has-or f g t,
+        ew,
+        eb,
+        ef,
+        eg,
+        any-append (aims occ from at t) (slotMen (s .first)) (slotMen (s .second)),
+      )
 
 -- ---- the targets to try
 
 any-onto : (f : Move → Bool) (from : ℕ) (ts : List ℕ) → any f (movesOnto from ts) ≡ any (λ t. f (moveOf from t)) ts
 unfolding any
 any-onto f from [] = ap (any f) (onto-none from)
-any-onto f from (t ∷ ts) = ap (any f) (onto-more from t ts) ∙ ap (λ (x : Bool). f (moveOf from t) || x) (any-onto f from ts)
+any-onto f from (t ∷ ts) =
+    ap (any f) (onto-more from t ts) ∙ ap (λ (x : Bool). f (moveOf from t) || x) (any-onto f from ts)
 
 module _ (s : Position) (from k targets : ℕ) (e : targets ≡ setOf (canMove (boardOf s) from)) where
   abbrev b : Board
   b = boardOf s
 
-  pub tried-every : any (losing k b) (movesOnto from (members targets)) ≡ any (losing k b) (movesOnto from (members (setOf (canMove b from))))
+  pub tried-every : any (losing k b) (movesOnto from (members targets)) ≡ any (losing k b) (movesOnto from
+      (members (setOf (canMove b from))))
   tried-every = ap (λ (z : ℕ). any (losing k b) (movesOnto from (members z))) e
 
   -- with one ply left a move must mate, and mate is check
@@ -72,11 +87,14 @@ module _ (s : Position) (from k targets : ℕ) (e : targets ≡ setOf (canMove (
       subst (λ (x : ℕ). T (inCheck q x)) (moved-side b from t) (and-left (inCheck q (q .side)) (empty (moves q)) m)
 
   pub tried-checks : k ≡ 1 → (r : ℕ) → HoldsChecks s from r
-      → any (losing k b) (movesOnto from (members (bitAnd targets r))) ≡ any (losing k b) (movesOnto from (members (setOf (canMove b from))))
+      → any (losing k b) (movesOnto from (members (bitAnd targets r)))
+      ≡ any (losing k b) (movesOnto from (members (setOf (canMove b from))))
   unfolding members
   tried-checks z r h =
       any-onto (losing k b) from (members (bitAnd targets r))
-      ∙ ap (any wins) (filter-same (has (bitAnd targets r)) (λ t. canMove b from t && has r t) squares (λ t m. has-and targets r t ∙ ap (λ (x : Bool). x && has r t) (set-has _ e t (squares-out t m))))
+      ∙ ap (any wins)
+      (filter-same (has (bitAnd targets r)) (λ t. canMove b from t && has r t) squares
+      (λ t m. has-and targets r t ∙ ap (λ (x : Bool). x && has r t) (set-has _ e t (squares-out t m))))
       ∙ any-kept wins (canMove b from) (has r) squares (λ t m c l. h t c (mates-check z t l))
       ∙ ap (any wins) (sym (members-setOf (canMove b from)))
       ∙ sym (any-onto (losing k b) from (members (setOf (canMove b from))))

@@ -1,7 +1,7 @@
 -- Won and lost within k plies by the moves that are left to try: how each loop starts, one turn, and its ends.
 use mathlib.Core.Path.{_≡_, refl, sym, ap, _∙_}
 use mathlib.Core.Bool.{Bool, true, false, not, _&&_, _||_, and-true, and-false, or-false}
-use mathlib.Core.List.{List, [], _∷_, map}
+use mathlib.Core.List.{List, [], _∷_}
 use Prim.Native.Nat.{ℕ, zero, suc, _-_}
 use native.Mathlib.Omega.{arith}
 use borrow.Author.Tests.{not-true, not-false}
@@ -15,8 +15,8 @@ use Rattle.rules.specs.Rules.{Board, empty, inCheck, moveOf, movesOnto, canMove
 use Rattle.rules.specs.Chess.{chess, played}
 use Rattle.position.specs.declared.Position.{Position}
 use Rattle.position.specs.Keyed.{boardOf}
-use Rattle.moves.specs.After.{after}
-use Rattle.moves.specs.laws.Making.{after-moved}
+use Rattle.movegen.specs.After.{after}
+use Rattle.movegen.specs.laws.Making.{after-moved}
 use Rattle.search.specs.Tried.{moversOf, movesOn, movesLeft, losing, winning}
 use Rattle.search.specs.laws.MoverLaws.{on-movers, on-none, on-turn, left-turn, left-none}
 
@@ -51,9 +51,11 @@ won-none k b e = sym (rw e)
 won-moves : (k : ℕ) (b : Board) → (k ≡ 0 → ⊥) → any (losing k b) (moves b) ≡ won chess k b
 unfolding won
 won-moves zero b n = absurd (n refl)
-won-moves (suc k) b n = ap (λ (j : ℕ). any (λ m. lost chess j (played b m)) (moves b)) (one-less k) ∙ sym (any-map (λ q. lost chess k q) (played b) (moves b))
+won-moves (suc k) b n = ap (λ (j : ℕ). any (λ m. lost chess j (played b m)) (moves b)) (one-less k)
+    ∙ sym (any-map (λ q. lost chess k q) (played b) (moves b))
 
-pub won-start : (k : ℕ) (b : Board) (own : ℕ) → (k ≡ 0 → ⊥) → own ≡ moversOf b → any (losing k b) (movesOn b own) ≡ won chess k b
+pub won-start : (k : ℕ) (b : Board) (own : ℕ) → (k ≡ 0 → ⊥) → own ≡ moversOf b
+    → any (losing k b) (movesOn b own) ≡ won chess k b
 won-start k b own n o = rw (on-movers b own o) (won-moves k b n)
 
 some?-empty : (l : List Move) → some? l ≡ not (empty l)
@@ -61,9 +63,11 @@ unfolding some?
 some?-empty [] = refl
 some?-empty (m ∷ l) = refl
 
-lost-suc : (k : ℕ) (b : Board) → lost chess (suc k) b ≡ (mated b || (not (empty (moves b)) && all (λ m. won chess k (played b m)) (moves b)))
+lost-suc : (k : ℕ) (b : Board)
+    → lost chess (suc k) b ≡ (mated b || (not (empty (moves b)) && all (λ m. won chess k (played b m)) (moves b)))
 unfolding lost
-lost-suc k b = rw (some?-map (played b) (moves b), some?-empty (moves b), all-map (λ q. won chess k q) (played b) (moves b))
+lost-suc k b =
+    rw (some?-map (played b) (moves b), some?-empty (moves b), all-map (λ q. won chess k q) (played b) (moves b))
 
 -- with no move it is lost exactly where it is check: mate, and not stalemate
 lost-stuck : (k : ℕ) (b : Board) → empty (moves b) ≡ true → lost chess k b ≡ inCheck b (b .side)
@@ -71,7 +75,8 @@ unfolding lost mated
 lost-stuck zero b e = rw e (and-true (inCheck b (b .side)))
 lost-stuck (suc k) b e = lost-suc k b ∙ rw e (or-false (inCheck b (b .side) && true) ∙ and-true (inCheck b (b .side)))
 
-module _ (k : ℕ) (s : Position) (can check : Bool) (c : can ≡ not (empty (moves (boardOf s)))) (h : not can ≡ true) (e : check ≡ inCheck (boardOf s) (s .side)) where
+module _ (k : ℕ) (s : Position) (can check : Bool) (c : can ≡ not (empty (moves (boardOf s)))) (h : not can ≡ true)
+    (e : check ≡ inCheck (boardOf s) (s .side)) where
   stuck : lost chess k (boardOf s) ≡ check
   unfolding boardOf
   stuck = lost-stuck k (boardOf s) (not-false _ (sym c ∙ not-true _ h)) ∙ sym e
@@ -100,7 +105,8 @@ module _ (k : ℕ) (b : Board) (can : Bool) (c : can ≡ not (empty (moves b))) 
     where
       go : (i : ℕ) → (i ≡ 0 → ⊥) → all (winning i b) (moves b) ≡ lost chess i b
       go zero n = absurd (n refl)
-      go (suc j) n = ap (λ (i : ℕ). all (λ m. won chess i (played b m)) (moves b)) (one-less j) ∙ sym (lost-suc j b ∙ rw (no-mate, some-move))
+      go (suc j) n = ap (λ (i : ℕ). all (λ m. won chess i (played b m)) (moves b)) (one-less j)
+          ∙ sym (lost-suc j b ∙ rw (no-mate, some-move))
 
   pub lost-start : (own : ℕ) → (k ≡ 0 → ⊥) → own ≡ moversOf b → all (winning k b) (movesOn b own) ≡ lost chess k b
   lost-start own n o = rw (on-movers b own o) (lost-moves n)
@@ -110,7 +116,8 @@ module _ (k : ℕ) (b : Board) (can : Bool) (c : can ≡ not (empty (moves b))) 
 module _ (f : Move → Bool) (total : Bool) (b : Board) where
   module _ (rest from others targets : ℕ) (low : Lowest rest from others) where
     -- whichever targets are tried, where the test passes of one of them if of any
-    pub any-piece : any f (movesOnto from (members targets)) ≡ any f (movesOnto from (members (setOf (canMove b from)))) → any f (movesOn b rest) ≡ total
+    pub any-piece : any f (movesOnto from (members targets)) ≡ any f (movesOnto from
+        (members (setOf (canMove b from)))) → any f (movesOn b rest) ≡ total
         → any f (movesLeft b from targets others) ≡ total
     unfolding movesLeft
     any-piece e w =
@@ -120,7 +127,8 @@ module _ (f : Move → Bool) (total : Bool) (b : Board) where
         ∙ sym (ap (any f) (on-turn b rest from others (setOf (canMove b from)) low refl))
         ∙ w)
 
-    pub all-piece : targets ≡ setOf (canMove b from) → all f (movesOn b rest) ≡ total → all f (movesLeft b from targets others) ≡ total
+    pub all-piece : targets ≡ setOf (canMove b from) → all f (movesOn b rest) ≡ total
+        → all f (movesLeft b from targets others) ≡ total
     all-piece e w = sym (ap (all f) (on-turn b rest from others targets low e)) ∙ w
 
   module _ (from targets rest : ℕ) (z : targets ≡ 0) where
@@ -140,7 +148,8 @@ module _ (f : Move → Bool) (total : Bool) (b : Board) where
     all-end w = sym (ap (all f) (on-none b rest z)) ∙ w
 
 -- one target: the position after the move, and what was found of it
-module _ (k : ℕ) (s q : Position) (total found : Bool) (from targets to others rest : ℕ) (low : Lowest targets to others) (made : q ≡ after s from to) where
+module _ (k : ℕ) (s q : Position) (total found : Bool) (from targets to others rest : ℕ)
+    (low : Lowest targets to others) (made : q ≡ after s from to) where
   abbrev b : Board
   b = boardOf s
 
@@ -150,22 +159,24 @@ module _ (k : ℕ) (s q : Position) (total found : Bool) (from targets to others
   board : boardOf q ≡ played b (moveOf from to)
   board = ap boardOf made ∙ after-moved from to s
 
-  module _ (h : found ≡ lost chess (k - 1) (boardOf q)) (w : any (losing k b) (movesLeft b from targets rest) ≡ total) where
-    same : losing k b (moveOf from to) ≡ found
-    same = sym (h ∙ ap (lost chess (k - 1)) board)
+  module _ (h : found ≡ lost chess (k - 1) (boardOf q)) (w : any (losing k b) (movesLeft b from targets rest) ≡ total)
+    where
+      same : losing k b (moveOf from to) ≡ found
+      same = sym (h ∙ ap (lost chess (k - 1)) board)
 
-    pub won-hit : found ≡ true → true ≡ total
-    won-hit t = any-hit (losing k b) total _ _ _ turn w (same ∙ t)
+      pub won-hit : found ≡ true → true ≡ total
+      won-hit t = any-hit (losing k b) total _ _ _ turn w (same ∙ t)
 
-    pub won-miss : found ≡ false → any (losing k b) (movesLeft b from others rest) ≡ total
-    won-miss t = any-miss (losing k b) total _ _ _ turn w (same ∙ t)
+      pub won-miss : found ≡ false → any (losing k b) (movesLeft b from others rest) ≡ total
+      won-miss t = any-miss (losing k b) total _ _ _ turn w (same ∙ t)
 
-  module _ (h : found ≡ won chess (k - 1) (boardOf q)) (w : all (winning k b) (movesLeft b from targets rest) ≡ total) where
-    same-won : winning k b (moveOf from to) ≡ found
-    same-won = sym (h ∙ ap (won chess (k - 1)) board)
+  module _ (h : found ≡ won chess (k - 1) (boardOf q)) (w : all (winning k b) (movesLeft b from targets rest) ≡ total)
+    where
+      same-won : winning k b (moveOf from to) ≡ found
+      same-won = sym (h ∙ ap (won chess (k - 1)) board)
 
-    pub lost-miss : found ≡ false → false ≡ total
-    lost-miss t = all-miss (winning k b) total _ _ _ turn w (same-won ∙ t)
+      pub lost-miss : found ≡ false → false ≡ total
+      lost-miss t = all-miss (winning k b) total _ _ _ turn w (same-won ∙ t)
 
-    pub lost-hit : found ≡ true → all (winning k b) (movesLeft b from others rest) ≡ total
-    lost-hit t = all-hit (winning k b) total _ _ _ turn w (same-won ∙ t)
+      pub lost-hit : found ≡ true → all (winning k b) (movesLeft b from others rest) ≡ total
+      lost-hit t = all-hit (winning k b) total _ _ _ turn w (same-won ∙ t)

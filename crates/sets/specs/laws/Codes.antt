@@ -10,7 +10,7 @@ use lib.Dec.{eqb}
 use lib.ListN.{length}
 use borrow.Author.Tests.{eq-eqb, ne-eqb}
 use Rattle.finite.specs.Pieces.{Lies}
-use Rattle.endings.specs.Chess.{tableSize}
+use Rattle.endings.specs.Ending.{tableSize}
 use Rattle.sets.specs.declared.Choice.{Choice}
 use Rattle.sets.specs.Layout.{chosen, codesFrom, codesOf, wordAt, headerSize, entriesOf, rising, RightSet}
 use Rattle.sets.specs.laws.Rising.{rising-first, rising-more, rising-bytes}
@@ -24,20 +24,28 @@ unfoldable codesRead : ℕ → List ℕ → ℕ → List ℕ
 codesRead zero s at = []
 codesRead (suc left) s at = wordAt s at ∷ codesRead left s (at + 12)
 
-codes-read : (s cs : List ℕ) (at offset : ℕ) → Bytes cs → Lies s at (entriesOf cs offset) → codesRead (length cs) s at ≡ cs
+codes-read : (s cs : List ℕ) (at offset : ℕ) → Bytes cs → Lies s at (entriesOf cs offset)
+    → codesRead (length cs) s at ≡ cs
 unfolding codesRead
 codes-read s [] at offset small l = refl
-codes-read s (c ∷ cs) at offset small l = rw (code-read s at offset c cs l (small 0), codes-read s cs (at + 12) (offset + tableSize) (λ k. small (suc k)) (from-rest s at offset c cs l))
+codes-read s (c ∷ cs) at offset small l =
+    rw (
+      code-read s at offset c cs l (small 0),
+      codes-read s cs (at + 12) (offset + tableSize) (λ k. small (suc k)) (from-rest s at offset c cs l),
+    )
 
 -- entries that lie at one place are of the same codes
-pub same-codes : (s cs ds : List ℕ) (at m n : ℕ) → length cs ≡ length ds → Bytes cs → Bytes ds → Lies s at (entriesOf cs m) → Lies s at (entriesOf ds n) → cs ≡ ds
-same-codes s cs ds at m n e small little l k = sym (codes-read s cs at m small l) ∙ ap (λ (x : ℕ). codesRead x s at) e ∙ codes-read s ds at n little k
+pub same-codes : (s cs ds : List ℕ) (at m n : ℕ) → length cs ≡ length ds → Bytes cs → Bytes ds
+    → Lies s at (entriesOf cs m) → Lies s at (entriesOf ds n) → cs ≡ ds
+same-codes s cs ds at m n e small little l k =
+    sym (codes-read s cs at m small l) ∙ ap (λ (x : ℕ). codesRead x s at) e ∙ codes-read s ds at n little k
 
 -- A SET IS RIGHT FOR ONE LIST OF CODES
 pub one-codes : (s cs ds : List ℕ) → RightSet s cs → RightSet s ds → cs ≡ ds
 one-codes s cs ds r q =
     let e : length cs ≡ length ds = omega (arith, r .long, q .long) in
-    same-codes s cs ds 4 (headerSize (length cs)) (headerSize (length ds)) e (rising-bytes 0 cs (r .rises)) (rising-bytes 0 ds (q .rises)) (entries-lie s cs r) (entries-lie s ds q)
+    same-codes s cs ds 4 (headerSize (length cs)) (headerSize (length ds)) e (rising-bytes 0 cs (r .rises))
+    (rising-bytes 0 ds (q .rises)) (entries-lie s cs r) (entries-lie s ds q)
 
 -- ---- from codes back to the choice
 
@@ -95,28 +103,38 @@ chosen-holds cs (suc (suc zero)) h = refl
 chosen-holds cs (suc (suc (suc zero))) h = refl
 chosen-holds cs (suc (suc (suc (suc n)))) h = absurd (omega arith)
 
-codes-back : (ch : Choice) (left from : ℕ) (cs : List ℕ) → from + left ≡ 4 → rising from cs ≡ true → ((code : ℕ) → from ≤ code → code < 4 → chosen ch code ≡ holds code cs) → codesFrom ch left from ≡ cs
+codes-back : (ch : Choice) (left from : ℕ) (cs : List ℕ) → from + left ≡ 4 → rising from cs ≡ true
+    → ((code : ℕ) → from ≤ code → code < 4 → chosen ch code ≡ holds code cs) → codesFrom ch left from ≡ cs
 unfolding codesFrom holds rising
 codes-back ch zero from [] h r k = refl
 codes-back ch zero from (c ∷ cs) h r k = let f = rising-first from c cs r in absurd (omega (arith, f .0, f .1))
-codes-back ch (suc left) from [] h r k = rw (k from (omega arith) (omega arith)) (codes-back ch left (suc from) [] (omega arith) refl (λ code l m. k code (omega arith) m))
+codes-back ch (suc left) from [] h r k =
+    rw (k from (omega arith) (omega arith))
+    (codes-back ch left (suc from) [] (omega arith) refl (λ code l m. k code (omega arith) m))
 codes-back ch (suc left) from (c ∷ cs) h r k =
     let f = rising-first from c cs r in
-    go (eq-or-lt-of-le (f .0)) (λ e. codes-back ch left (suc from) cs (omega arith) (let z : c + 1 ≡ suc from = omega arith in rw z at (f .2)) (λ code l m. later code e l m)) (λ l. codes-back ch left (suc from) (c ∷ cs) (omega arith) (rising-more (suc from) c cs l (f .1) (f .2)) (λ code l m. k code (omega arith) m))
+    go (eq-or-lt-of-le (f .0))
+    (λ e. codes-back ch left (suc from) cs (omega arith) (let z : c + 1 ≡ suc from = omega arith in rw z at (f .2))
+    (λ code l m. later code e l m))
+    (λ l. codes-back ch left (suc from) (c ∷ cs) (omega arith) (rising-more (suc from) c cs l (f .1) (f .2))
+    (λ code l m. k code (omega arith) m))
   where
     later : (code : ℕ) → from ≡ c → suc from ≤ code → code < 4 → chosen ch code ≡ holds code cs
     later code e l m = let no? : c ≡ code → ⊥ = λ q. omega arith in k code (omega arith) m ∙ rw (ne-eqb c code no?)
 
-    go : (from ≡ c) ⊎ (from < c) → (from ≡ c → codesFrom ch left (suc from) ≡ cs) → (from < c → codesFrom ch left (suc from) ≡ c ∷ cs) → codesFrom ch (suc left) from ≡ c ∷ cs
+    go : (from ≡ c) ⊎ (from < c) → (from ≡ c → codesFrom ch left (suc from) ≡ cs)
+        → (from < c → codesFrom ch left (suc from) ≡ c ∷ cs) → codesFrom ch (suc left) from ≡ c ∷ cs
     go (inl e) same less =
         let t : chosen ch from ≡ true = k from (omega arith) (omega arith) ∙ rw (eq-eqb c from (sym e)) in
         rw (t, same e, e)
     go (inr l) same less =
         let no? : c ≡ from → ⊥ = λ q. omega arith in
-        let t : chosen ch from ≡ false = k from (omega arith) (omega arith) ∙ rw (ne-eqb c from no?, holds-not (c + 1) from cs (rising-first from c cs r .2) (omega arith)) in
+        let t : chosen ch from ≡ false = k from (omega arith) (omega arith)
+        ∙ rw (ne-eqb c from no?, holds-not (c + 1) from cs (rising-first from c cs r .2) (omega arith)) in
         rw t (less l)
 
 -- every right set is one for a choice
 pub right-choice : (s cs : List ℕ) → RightSet s cs → (ch : Choice) × (codesOf ch ≡ cs)
 unfolding codesOf
-right-choice s cs r = (choiceOf cs, codes-back (choiceOf cs) 4 0 cs refl (r .rises) (λ code l m. chosen-holds cs code m))
+right-choice s cs r =
+    (choiceOf cs, codes-back (choiceOf cs) 4 0 cs refl (r .rises) (λ code l m. chosen-holds cs code m))

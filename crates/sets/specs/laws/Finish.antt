@@ -11,7 +11,7 @@ use borrow.Author.Tests.{eq-eqb}
 use Rattle.finite.specs.Mapped.{mapFrom, cleared-same}
 use Rattle.finite.specs.Pieces.{over}
 use Rattle.finite.specs.PieceLaws.{length-over, take-over, drop-over}
-use Rattle.endings.specs.Chess.{tableSize}
+use Rattle.endings.specs.Ending.{tableSize}
 use Rattle.endings.specs.Answers.{Fill, fillOf}
 use Rattle.endings.specs.laws.FilledTrue.{fill-keeps-length}
 use Rattle.sets.specs.declared.Choice.{Choice}
@@ -44,26 +44,40 @@ module _ (c at : ℕ) (s cs : List ℕ) (known : c < 4) (fits : at + tableSize �
   length-one = length-over s at (f .bytes) room
 
   -- the table is filled, and the others are still to come
-  pub finish-on : isRefusal (filledAt c at s .answer) ≡ false → finish cs (at + tableSize) (filledAt c at s .bytes) ≡ finish (c ∷ cs) at s
+  pub finish-on : isRefusal (filledAt c at s .answer) ≡ false
+      → finish cs (at + tableSize) (filledAt c at s .bytes) ≡ finish (c ∷ cs) at s
   unfolding finish refusedOne tablesOf filledAt
   finish-on e =
-      let t : take (at + tableSize) (over s at (f .bytes)) ≡ take at s ++ f .bytes = rw length-filled at (take-over s at (f .bytes) room) in
-      let d : drop (at + tableSize) (over s at (f .bytes)) ≡ drop tableSize (drop at s) = rw length-filled at (drop-over s at (f .bytes) room) in
-      rw (e, t, d, cleared-same (over s at (f .bytes)) s length-one, append-assoc (take at s) (f .bytes) (tablesOf cs (drop tableSize (drop at s))))
+      let t : take (at + tableSize) (over s at (f .bytes)) ≡ take at s ++ f .bytes =
+      rw length-filled at (take-over s at (f .bytes) room) in
+      let d : drop (at + tableSize) (over s at (f .bytes)) ≡ drop tableSize (drop at s) =
+      rw length-filled at (drop-over s at (f .bytes) room) in
+      rw (
+        e,
+        t,
+        d,
+        cleared-same (over s at (f .bytes)) s length-one,
+        append-assoc (take at s) (f .bytes) (tablesOf cs (drop tableSize (drop at s))),
+      )
 
   -- filling refuses the table
-  pub finish-refused : isRefusal (filledAt c at s .answer) ≡ true → finish (c ∷ cs) at s ≡ record { answer = Written.Refused 10; bytes = filledAt c at s .bytes }
+  pub finish-refused : isRefusal (filledAt c at s .answer) ≡ true
+      → finish (c ∷ cs) at s ≡ record { answer = Written.Refused 10; bytes = filledAt c at s .bytes }
   unfolding finish refusedOne filledAt
   finish-refused e = rw e
 
 -- with its header written, the tables still to come give the answer
-pub write-start : (ch : Choice) (s : List ℕ) (n : ℕ) → n ≡ length (codesOf ch) → length s ≡ setSize n → finish (codesOf ch) (headerSize n) (over s 0 (headerOf (codesOf ch))) ≡ writeOf ch s
+pub write-start : (ch : Choice) (s : List ℕ) (n : ℕ) → n ≡ length (codesOf ch) → length s ≡ setSize n
+    → finish (codesOf ch) (headerSize n) (over s 0 (headerOf (codesOf ch))) ≡ writeOf ch s
 unfolding writeOf finish
 write-start ch s n en l =
     let k = length-header (codesOf ch) in
     let room : 0 + length (headerOf (codesOf ch)) ≤ length s = omega arith in
     let z : 0 + length (headerOf (codesOf ch)) ≡ headerSize n = omega arith in
-    let t : take (headerSize n) (over s 0 (headerOf (codesOf ch))) ≡ headerOf (codesOf ch) = rw z at (take-over s 0 (headerOf (codesOf ch)) room) in
-    let d : drop (headerSize n) (over s 0 (headerOf (codesOf ch))) ≡ drop (headerSize (length (codesOf ch))) s = rw (z, k) at (drop-over s 0 (headerOf (codesOf ch)) room) in
-    let e : eqb (length s) (setSize (length (codesOf ch))) ≡ true = eq-eqb (length s) (setSize (length (codesOf ch))) (omega arith) in
+    let t : take (headerSize n) (over s 0 (headerOf (codesOf ch))) ≡ headerOf (codesOf ch) =
+    rw z at (take-over s 0 (headerOf (codesOf ch)) room) in
+    let d : drop (headerSize n) (over s 0 (headerOf (codesOf ch))) ≡ drop (headerSize (length (codesOf ch))) s =
+    rw (z, k) at (drop-over s 0 (headerOf (codesOf ch)) room) in
+    let e : eqb (length s) (setSize (length (codesOf ch))) ≡ true =
+    eq-eqb (length s) (setSize (length (codesOf ch))) (omega arith) in
     rw (t, d, e, cleared-same (over s 0 (headerOf (codesOf ch))) s (length-over s 0 (headerOf (codesOf ch)) room))

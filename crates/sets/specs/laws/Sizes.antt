@@ -4,7 +4,7 @@ use mathlib.Core.List.{List, [], _∷_}
 use Prim.Native.Nat.{ℕ, _+_, _*_}
 use native.Mathlib.Omega.{arith}
 use lib.ListN.{length}
-use Rattle.endings.specs.Chess.{tableSize}
+use Rattle.endings.specs.Ending.{tableSize}
 use Rattle.sets.specs.Layout.{word4, headerSize, setSize, entriesOf, headerOf}
 
 pub length-entries : (cs : List ℕ) (offset : ℕ) → length (entriesOf cs offset) ≡ 12 * length cs

@@ -64,15 +64,25 @@ refused-slip-requires c κs = search needs
 
 returns : tie.Need-returns
 unfolding answerText slipOf
-returns c = rw (c .before .before .before .before .before .a .given .1) (finished _ _ _ (then _ _ _ _ _ (c .before .before .number-slip .ensures) (c .before .with-advice .ensures)) (c .with-byte .ensures) (answer-line (Answer.Win _ _) .most))
+returns c = rw (c .before .before .before .before .before .a .given .1)
+    (finished _ _ _ (then _ _ _ _ _ (c .before .before .number-slip .ensures) (c .before .with-advice .ensures))
+    (c .with-byte .ensures) (answer-line (Answer.Win _ _) .most))
 
 returns-2 : tie.Need-returns-2
 unfolding answerText slipOf
-returns-2 c = rw (c .before .before .before .before .before .a2 .given .1) (finished _ _ _ (then _ _ _ _ _ (c .before .before .number-slip2 .ensures) (c .before .with-advice2 .ensures)) (c .with-byte2 .ensures) (answer-line (Answer.Loss _ _) .most))
+returns-2 c =
+    rw (c .before .before .before .before .before .a2 .given .1)
+    (finished _ _ _ (then _ _ _ _ _ (c .before .before .number-slip2 .ensures) (c .before .with-advice2 .ensures))
+    (c .with-byte2 .ensures) (answer-line (Answer.Loss _ _) .most))
 
 returns-3 : tie.Need-returns-3
 unfolding answerText slipOf
-returns-3 c = rw (c .before .before .before .before .before .before .a3 .given .1) (finished _ _ _ (then _ _ _ _ _ (from _ _ _ _ (c .before .before .before .before .blank .ensures) (c .before .before .with-text .ensures)) (c .before .with-advice3 .ensures)) (c .with-byte3 .ensures) (answer-line (Answer.Draw _) .most))
+returns-3 c =
+    rw (c .before .before .before .before .before .before .a3 .given .1)
+    (finished _ _ _
+    (then _ _ _ _ _
+    (from _ _ _ _ (c .before .before .before .before .blank .ensures) (c .before .before .with-text .ensures))
+    (c .before .with-advice3 .ensures)) (c .with-byte3 .ensures) (answer-line (Answer.Draw _) .most))
 
 returns-4 : tie.Need-returns-4
 unfolding answerText slipOf refusedSlip

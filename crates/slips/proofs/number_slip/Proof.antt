@@ -1,5 +1,5 @@
 -- `slips::number_slip` meets its contract, part by part.
-use Rattle.slips.specs.Slip.{counted}
+use Rattle.slips.specs.Slip.{wordAndNumber}
 use Rattle.slips.specs.laws.Appending.{then, from}
 use borrow.Author.Needs.{needs}
 use Rattle.slips.proofs.number_slip.Statement.{statement}
@@ -15,8 +15,9 @@ with-number-requires : tie.Need-with-number-requires
 with-number-requires c κs = search needs
 
 returns : tie.Need-returns
-unfolding counted
-returns c = then _ _ _ _ _ (from _ _ _ _ (c .before .before .blank .ensures) (c .before .with-text .ensures)) (c .with-number .ensures)
+unfolding wordAndNumber
+returns c = then _ _ _ _ _ (from _ _ _ _ (c .before .before .blank .ensures) (c .before .with-text .ensures))
+    (c .with-number .ensures)
 
 pub number-slip-spec : {M : Type 1} → statement M
 number-slip-spec =

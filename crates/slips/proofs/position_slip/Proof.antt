@@ -35,11 +35,18 @@ with-byte-requires-2 c κs = search needs
 returns : tie.Need-returns
 unfolding squareName gapped placedText placedSlip
 returns c =
-    let side = first-byte _ _ _ _ _ (c .before .before .before .before .before .before .before .blank .ensures) (c .before .before .before .before .before .before .side-letter .ensures) (c .before .before .before .before .before .with-byte .ensures) in
-    let white = then _ _ _ _ _ side (c .before .before .before .before .with-gap .ensures) in
-    let man = then _ _ _ _ _ white (gap-same (c .before .before .before .before .with-gap .result) (c .before .before .with-gap2 .result) (c .before .before .before .man-in .result) _ (c .before .before .before .man-in .ensures) (c .before .before .with-gap2 .ensures)) in
+    let at = c .before .before .before .before in
+    let side = first-byte _ _ _ _ _ (at .before .before .before .blank .ensures)
+    (at .before .before .side-letter .ensures)
+    (at .before .with-byte .ensures) in
+    let white = then _ _ _ _ _ side (at .with-gap .ensures) in
+    let man = then _ _ _ _ _ white
+    (gap-same (at .with-gap .result) (c .before .before .with-gap2 .result)
+    (c .before .before .before .man-in .result) _ (c .before .before .before .man-in .ensures)
+    (c .before .before .with-gap2 .ensures)) in
     let black = then _ _ _ _ _ man (c .before .with-gap3 .ensures) in
-    finished _ _ _ black (c .with-byte2 .ensures) (placed-line (Placed.At (c .before .before .before .before .before .before .before .before .args .p)) .most)
+    finished _ _ _ black (c .with-byte2 .ensures)
+    (placed-line (Placed.At (at .before .before .before .before .args .p)) .most)
 
 pub position-slip-spec : {M : Type 1} → statement M
 position-slip-spec =

@@ -17,7 +17,8 @@ with-byte-requires c κs = search needs
 
 returns : tie.Need-returns
 unfolding refusedSlip
-returns c = finished _ _ _ (c .before .number-slip .ensures) (c .with-byte .ensures) (refused-line (c .before .before .before .args .n) .most)
+returns c = finished _ _ _ (c .before .number-slip .ensures) (c .with-byte .ensures)
+    (refused-line (c .before .before .before .args .n) .most)
 
 pub refused-slip-spec : {M : Type 1} → statement M
 refused-slip-spec =

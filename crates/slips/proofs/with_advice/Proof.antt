@@ -20,7 +20,8 @@ enum-told c = search needs
 
 returns : tie.Need-returns
 unfolding adviceText
-returns c = rw (c .before .before .before .a .given .1) (then _ _ _ _ _ (c .before .with-gap .ensures) (c .with-square .ensures))
+returns c = rw (c .before .before .before .a .given .1)
+    (then _ _ _ _ _ (c .before .with-gap .ensures) (c .with-square .ensures))
 
 returns-2 : tie.Need-returns-2
 unfolding adviceText appended

@@ -1,11 +1,9 @@
 -- Bytes written at the end of a slip, one after the other. A full slip stays as it is.
 use mathlib.Core.Path.{_≡_, refl, ap, sym, _∙_}
-use mathlib.Core.Bool.{cond}
 use mathlib.Core.List.{List, [], _∷_, _++_}
 use Prim.Native.Nat.{ℕ, _+_, _<_}
 use native.Mathlib.Numerals.{add-one}
-use lib.Dec.{ltb}
-use lib.ListN.{length, set, getD, drop}
+use lib.ListN.{length, getD, drop}
 use lib.Seq.{drop-cons, drop-length}
 use Rattle.rules.specs.declared.Piece.{Piece}
 use Rattle.slips.specs.declared.Slip.{Slip}
@@ -30,7 +28,8 @@ unfolding appended
 first-byte s p q b l e f g = g ∙ rw (e, f)
 
 -- one byte more of a text, as the loop writes it
-pub appended-first : (s : Slip) (text : List ℕ) (i : ℕ) → i < length text → appended s (drop i text) ≡ appended (pushed s (getD text i 0)) (drop (i + 1) text)
+pub appended-first : (s : Slip) (text : List ℕ) (i : ℕ) → i < length text
+    → appended s (drop i text) ≡ appended (pushed s (getD text i 0)) (drop (i + 1) text)
 unfolding appended
 appended-first s text i h = rw (drop-cons text i 0 h, add-one i)
 
@@ -39,5 +38,6 @@ unfolding appended
 appended-end s text i e = rw (sym e, drop-length text)
 
 -- a space and the square of a man that another one is
-pub gap-same : (s r : Slip) (m n : Piece) → m ≡ n → r ≡ appended s (gapped (m .square)) → r ≡ appended s (gapped (n .square))
+pub gap-same : (s r : Slip) (m n : Piece) → m ≡ n → r ≡ appended s (gapped (m .square))
+    → r ≡ appended s (gapped (n .square))
 gap-same s r m n e f = f ∙ ap (λ (x : Piece). appended s (gapped (x .square))) e

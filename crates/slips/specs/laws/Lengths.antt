@@ -1,22 +1,22 @@
 -- Every slip is one line of 2 to 16 bytes that ends in a newline.
 use mathlib.Core.Path.{_≡_, refl}
 use mathlib.Core.Bool.{Bool, true, false, cond}
-use mathlib.Core.List.{List, [], _∷_, _++_}
+use mathlib.Core.List.{List, [], _∷_}
 use Prim.Native.Nat.{ℕ, _+_, _≤_}
 use native.Mathlib.Omega.{arith}
 use lib.Dec.{ltb}
 use lib.ListN.{length, length-append}
 use Rattle.index.specs.declared.Placed.{Placed}
-use Rattle.answers.specs.declared.Advice.{Advice}
-use Rattle.answers.specs.declared.Advice.the-variants.{Play, NoMove}
+use Rattle.answers.specs.declared.BestMove.{BestMove}
+use Rattle.answers.specs.declared.BestMove.the-variants.{Play, NoMove}
 use Rattle.answers.specs.declared.Answer.{Answer}
 use Rattle.ascii.specs.Bytes.{bytes}
-use Rattle.slips.specs.Slip.{decimal, squareName, counted, gapped, adviceText, answerText, placedText, ended, slipOf, placedSlip, refusedSlip}
+use Rattle.slips.specs.Slip.{decimal, squareName, wordAndNumber, gapped, adviceText, answerText, placedText, withNewline, slipOf, placedSlip, refusedSlip}
 
 -- a line of output: a text and its newline
 pub record Line (bs : List ℕ) : Type 0 where
   pub text : List ℕ
-  pub whole : bs ≡ ended text
+  pub whole : bs ≡ withNewline text
   pub least : 2 ≤ length bs
   pub most : length bs ≤ 16
 
@@ -32,19 +32,21 @@ decimal-length n = go (ltb n 10) (ltb n 100) _ _ _ _ _ _
     go false true u v w x y z = omega arith
     go false false u v w x y z = omega arith
 
-counted-length : (word : List ℕ) (n : ℕ) → Between (length word + 1) (length word + 3) (counted word n)
-unfolding counted
+counted-length : (word : List ℕ) (n : ℕ) → Between (length word + 1) (length word + 3) (wordAndNumber word n)
+unfolding wordAndNumber
 counted-length word n = let d = decimal-length n in simp length-append (omega arith)
 
-advice-length : (a : Advice) → length (adviceText a) ≤ 5
+advice-length : (a : BestMove) → length (adviceText a) ≤ 5
 unfolding adviceText gapped squareName
 advice-length (Play m) = omega arith
 advice-length NoMove = omega arith
 
 answer-length : (a : Answer) → Between 4 13 (answerText a)
 unfolding answerText
-answer-length (Answer.Win n a) = let w = counted-length (bytes "win ") n in let d = advice-length a in simp length-append (omega arith)
-answer-length (Answer.Loss n a) = let w = counted-length (bytes "loss ") n in let d = advice-length a in simp length-append (omega arith)
+answer-length (Answer.Win n a) =
+    let w = counted-length (bytes "win ") n in let d = advice-length a in simp length-append (omega arith)
+answer-length (Answer.Loss n a) =
+    let w = counted-length (bytes "loss ") n in let d = advice-length a in simp length-append (omega arith)
 answer-length (Answer.Draw a) = let d = advice-length a in simp length-append (omega arith)
 answer-length (Answer.Refused n) = let w = counted-length (bytes "refused ") n in omega arith
 
@@ -53,9 +55,9 @@ unfolding placedText gapped squareName
 placed-length (Placed.At p) = omega arith
 placed-length (Placed.Refused n) = let w = counted-length (bytes "refused ") n in omega arith
 
-line : (least most : ℕ) (bs : List ℕ) → Between least most bs → 1 ≤ least → most ≤ 15 → Line (ended bs)
+line : (least most : ℕ) (bs : List ℕ) → Between least most bs → 1 ≤ least → most ≤ 15 → Line (withNewline bs)
 line least most bs h l m =
-    let one : length (ended bs) ≡ length bs + 1 = simp length-append in
+    let one : length (withNewline bs) ≡ length bs + 1 = simp length-append in
     record { text = bs; whole = refl; least = omega arith; most = omega arith }
 
 pub answer-line : (a : Answer) → Line (slipOf a)
@@ -68,4 +70,5 @@ placed-line p = line 9 11 (placedText p) (placed-length p) (omega arith) (omega 
 
 pub refused-line : (n : ℕ) → Line (refusedSlip n)
 unfolding refusedSlip
-refused-line n = line 9 11 (counted (bytes "refused ") n) (counted-length (bytes "refused ") n) (omega arith) (omega arith)
+refused-line n =
+    line 9 11 (wordAndNumber (bytes "refused ") n) (counted-length (bytes "refused ") n) (omega arith) (omega arith)

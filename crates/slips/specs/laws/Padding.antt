@@ -5,11 +5,11 @@ use Prim.Native.Nat.{ℕ, suc, _+_, _-_, _≤_, _<_}
 use Prim.Native.Char.{code}
 use native.Mathlib.Omega.{arith}
 use borrow.Author.Tests.{lt-ltb}
-use lib.ListN.{length, replicate, set, take, length-append}
+use lib.ListN.{length, replicate, take, length-append}
 use lib.Seq.{set-append-seam, take-append-seam}
 use Rattle.ascii.specs.Bytes.{bytes}
 use Rattle.slips.specs.declared.Slip.{Slip}
-use Rattle.slips.specs.Slip.{ended, padded}
+use Rattle.slips.specs.Slip.{withNewline, padded}
 use Rattle.slips.specs.Appending.{pushed, appended}
 use Rattle.slips.specs.laws.Appending.{appended-more}
 
@@ -20,7 +20,13 @@ padded-byte : (bs : List ℕ) (b : ℕ) → length bs < 16 → pushed (padded bs
 unfolding pushed padded
 padded-byte bs b h =
     let left : 16 - length bs ≡ suc (16 - (length bs + 1)) = omega arith in
-    rw (lt-ltb (length bs) 16 h, one-more bs b, left, set-append-seam bs 0 (replicate (16 - (length bs + 1)) 0) b, append-assoc bs (b ∷ []) (replicate (16 - (length bs + 1)) 0))
+    rw (
+      lt-ltb (length bs) 16 h,
+      one-more bs b,
+      left,
+      set-append-seam bs 0 (replicate (16 - (length bs + 1)) 0) b,
+      append-assoc bs (b ∷ []) (replicate (16 - (length bs + 1)) 0),
+    )
 
 padded-more : (bs cs : List ℕ) → length bs + length cs ≤ 16 → appended (padded bs) cs ≡ padded (bs ++ cs)
 unfolding appended
@@ -44,6 +50,8 @@ unfolding padded
 line-of bs = take-append-seam bs (replicate (16 - length bs) 0)
 
 -- a text written from blank, and its newline
-pub finished : (q r : Slip) (text : List ℕ) → q ≡ appended (padded []) text → r ≡ pushed q (code "\n") → length (ended text) ≤ 16 → r ≡ padded (ended text)
+pub finished : (q r : Slip) (text : List ℕ) → q ≡ appended (padded []) text → r ≡ pushed q (code "\n")
+    → length (withNewline text) ≤ 16 → r ≡ padded (withNewline text)
 unfolding appended
-finished q r text e f h = f ∙ ap (λ (s : Slip). pushed s (code "\n")) e ∙ appended-more (padded []) text (bytes "\n") ∙ written (ended text) h
+finished q r text e f h = f ∙ ap (λ (s : Slip). pushed s (code "\n")) e ∙ appended-more (padded []) text (bytes "\n")
+    ∙ written (withNewline text) h

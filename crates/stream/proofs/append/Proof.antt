@@ -21,13 +21,22 @@ same-length : tie.Need-same-length
 same-length c = search needs
 
 returns : tie.Need-returns
-returns c = let a = c .before .before .before .before .before .before .before .before .before in put-whole _ _ (a .args .slip .bytes) (a .args .slip .len) (omega (arith, simp length-map at (a .good .0 .1 .1 .0 .1 .0 .1), c .before .before .before .before .before .if1 .taken)) (c .before .before .write-text .ensures)
+returns c = let a = c .before .before .before .before .before .before .before .before .before in
+    put-whole _ _ (a .args .slip .bytes) (a .args .slip .len)
+    (omega (
+      arith,
+      simp length-map at (a .good .0 .1 .1 .0 .1 .0 .1),
+      c .before .before .before .before .before .if1 .taken,
+    )) (c .before .before .write-text .ensures)
 
 array-share-prefix-bytes : tie.Need-array-share-prefix-bytes
-array-share-prefix-bytes c = omega (arith, simp length-map at (c .before .before .before .before .good .0 .1 .1 .0 .1 .0 .1), c .if1 .left)
+array-share-prefix-bytes c =
+    omega (arith, simp length-map at (c .before .before .before .before .good .0 .1 .1 .0 .1 .0 .1), c .if1 .left)
 
 slice-aggregate-write-text-2 : tie.Need-slice-aggregate-write-text-2
-slice-aggregate-write-text-2 c = let a = c .before .before .before .before .before in sym (length-take-le (a .args .slip .len) (a .args .slip .bytes) (omega (arith, simp length-map at (a .good .0 .1 .1 .0 .1 .0 .1), c .before .if1 .left)))
+slice-aggregate-write-text-2 c = let a = c .before .before .before .before .before in
+    sym (length-take-le (a .args .slip .len) (a .args .slip .bytes)
+    (omega (arith, simp length-map at (a .good .0 .1 .1 .0 .1 .0 .1), c .before .if1 .left)))
 
 write-text-requires-2 : tie.Need-write-text-requires-2
 write-text-requires-2 c κs = search needs

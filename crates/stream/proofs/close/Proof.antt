@@ -17,7 +17,9 @@ same-length-2 : tie.Need-same-length-2
 same-length-2 c = search needs
 
 returns-2 : tie.Need-returns-2
-returns-2 c = closes-line _ _ (c .before .before .before .before .before .before .before .if1 .left) (c .before .before .before .before .end-line .ensures)
+returns-2 c =
+    closes-line _ _ (c .before .before .before .before .before .before .before .if1 .left)
+    (c .before .before .before .before .end-line .ensures)
 
 pub close-spec : {M : Type 1} → statement M
 close-spec = tie.close (tie.spec returns end-line-requires same-length same-length-2 returns-2)

@@ -20,7 +20,10 @@ same-length-2 : tie.Need-same-length-2
 same-length-2 c = search needs
 
 returns : tie.Need-returns
-returns c = let a = c .before .before .before .before .before .before .before .before .before .before .before .before .args in line-answered (a .state) (a .table .now) (a .output .now) _ _ _ _ (c .before .before .before .before .before .before .reply-to .ensures) (c .before .before .append .ensures)
+returns c = let a =
+    c .before .before .before .before .before .before .before .before .before .before .before .before .args in
+    line-answered (a .state) (a .table .now) (a .output .now) _ _ _ _
+    (c .before .before .before .before .before .before .reply-to .ensures) (c .before .before .append .ensures)
 
 pub end-line-spec : {M : Type 1} → statement M
 end-line-spec =

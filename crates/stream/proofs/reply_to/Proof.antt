@@ -13,7 +13,9 @@ same-length : tie.Need-same-length
 same-length c = search needs
 
 returns : tie.Need-returns
-returns c = let a = c .before .before .before .before .before .before .before .args in reply-whole (a .line .now) (a .len) _ _ _ _ (omega (arith, c .before .before .before .before .if1 .taken)) (c .before .before .answer-line .ensures)
+returns c = let a = c .before .before .before .before .before .before .before .args in
+    reply-whole (a .line .now) (a .len) _ _ _ _ (omega (arith, c .before .before .before .before .if1 .taken))
+    (c .before .before .answer-line .ensures)
 
 slice-aggregate-answer-line : tie.Need-slice-aggregate-answer-line
 slice-aggregate-answer-line c = search (needs, length-take-le)

@@ -14,7 +14,8 @@ same-length-2 : tie.Need-same-length-2
 same-length-2 c = search needs
 
 returns : tie.Need-returns
-returns c = takes-newline _ _ _ (c .before .before .before .before .before .before .before .if1 .taken) (c .before .before .before .before .end-line .ensures)
+returns c = takes-newline _ _ _ (c .before .before .before .before .before .before .before .if1 .taken)
+    (c .before .before .before .before .end-line .ensures)
 
 with-byte-requires : tie.Need-with-byte-requires
 with-byte-requires c κs = search needs

@@ -9,8 +9,8 @@ use lib.Seq.{drop-cons, drop-length, take-all}
 use borrow.Author.Tests.{lt-ltb, le-ltb, eq-eqb, ne-eqb}
 use Rattle.slips.specs.laws.Padding.{line-of}
 use Rattle.adjudication.specs.declared.Reply.{Reply}
-use Rattle.adjudication.specs.Reply.{Outcome, Gives, replyOf}
-use Rattle.adjudication.specs.TrueSlip.{Answered}
+use Rattle.adjudication.specs.Reply.{LineOutcome, Gives, replyOf}
+use Rattle.adjudication.specs.TrueSlip.{LinePromise}
 use Rattle.stream.specs.declared.State.{State}
 use Rattle.stream.specs.Keeping.{Sheet, sheet, put, putAll, withByte, Kept, kept, lineAnswered, byteTaken, lastAnswered}
 
@@ -18,7 +18,8 @@ use Rattle.stream.specs.Keeping.{Sheet, sheet, put, putAll, withByte, Ke
 
 module _ {A : Type 0} (f : A → ℕ → A) where
   -- one byte more of a text, as a loop takes it, and no byte left
-  pub next-byte : (s q : A) (text : List ℕ) (i : ℕ) → i < length text → q ≡ f s (getD text i 0) → foldl f s (drop i text) ≡ foldl f q (drop (i + 1) text)
+  pub next-byte : (s q : A) (text : List ℕ) (i : ℕ) → i < length text → q ≡ f s (getD text i 0)
+      → foldl f s (drop i text) ≡ foldl f q (drop (i + 1) text)
   next-byte s q text i h e = rw (drop-cons text i 0 h, add-one i, e)
 
   pub no-byte : (s : A) (text : List ℕ) (i : ℕ) → length text ≡ i → foldl f s (drop i text) ≡ s
@@ -45,25 +46,33 @@ module _ (s : State) (b : ℕ) where
   unfolding withByte
   byte-dropped h = rw (le-ltb (s .len) 13 h)
 
-  pub byte-kept : s .len < 13 → record { line = set (s .line) (s .len) b; len = s .len + 1; held = s .held; waiting = s .waiting } ≡ withByte s b
+  pub byte-kept : s .len < 13
+      → record { line = set (s .line) (s .len) b; len = s .len + 1; held = s .held; waiting = s .waiting }
+      ≡ withByte s b
   unfolding withByte
   byte-kept h = rw (lt-ltb (s .len) 13 h)
 
 -- ---- one line answered
 
 -- a line of which more is asked than there is
-pub reply-whole : (line : List ℕ) (n held : ℕ) (t : List ℕ) (r : Reply) (u : List ℕ) → length line ≤ n → Answered line held t r u → Answered (take n line) held t r u
-reply-whole line n held t r u h a = subst (λ (x : List ℕ). Answered x held t r u) (sym (take-all n line h)) a
+pub reply-whole : (line : List ℕ) (n held : ℕ) (t : List ℕ) (r : Reply) (u : List ℕ) → length line ≤ n
+    → LinePromise line held t r u → LinePromise (take n line) held t r u
+reply-whole line n held t r u h a = subst (λ (x : List ℕ). LinePromise x held t r u) (sym (take-all n line h)) a
 
-pub line-answered : (s : State) (t o u v : List ℕ) (r : Reply) (n : ℕ) → Answered (take (s .len) (s .line)) (s .held) t r u → sheet v n ≡ putAll (sheet o (s .waiting)) (take (r .slip .len) (r .slip .bytes)) → kept (record { line = s .line; len = 0; held = r .held; waiting = n }) u v ≡ lineAnswered (kept s t o)
+pub line-answered : (s : State) (t o u v : List ℕ) (r : Reply) (n : ℕ)
+    → LinePromise (take (s .len) (s .line)) (s .held) t r u
+    → sheet v n ≡ putAll (sheet o (s .waiting)) (take (r .slip .len) (r .slip .bytes))
+    → kept (record { line = s .line; len = 0; held = r .held; waiting = n }) u v ≡ lineAnswered (kept s t o)
 unfolding lineAnswered Gives
-line-answered s t o u v r n a e = ap (λ (x : ℕ). after x u (sheet v n)) (ap (λ (x : Reply). x .held) (a .reply)) ∙ ap₂ (after (q .held)) (a .table) (e ∙ ap (putAll (sheet o (s .waiting))) slip)
+line-answered s t o u v r n a e = ap (λ (x : ℕ). after x u (sheet v n)) (ap (λ (x : Reply). x .held) (a .reply))
+    ∙ ap₂ (after (q .held)) (a .table) (e ∙ ap (putAll (sheet o (s .waiting))) slip)
   where
-    q : Outcome
+    q : LineOutcome
     q = replyOf (take (s .len) (s .line)) (s .held) t
 
     after : ℕ → List ℕ → Sheet → Kept
-    after held table written = kept (record { line = s .line; len = 0; held = held; waiting = written .used }) table (written .bytes)
+    after held table written =
+        kept (record { line = s .line; len = 0; held = held; waiting = written .used }) table (written .bytes)
 
     slip : take (r .slip .len) (r .slip .bytes) ≡ q .slip
     slip = ap (λ (x : Reply). take (x .slip .len) (x .slip .bytes)) (a .reply) ∙ line-of (q .slip)
@@ -79,7 +88,8 @@ module _ (k r : Kept) where
   unfolding lastAnswered
   closes-line e f = rw (ne-eqb (k .state .len) 0 e) f
 
-pub takes-other : (s r : State) (t o : List ℕ) (b : ℕ) → (b ≡ code "\n" → ⊥) → r ≡ withByte s b → kept r t o ≡ byteTaken (kept s t o) b
+pub takes-other : (s r : State) (t o : List ℕ) (b : ℕ) → (b ≡ code "\n" → ⊥) → r ≡ withByte s b
+    → kept r t o ≡ byteTaken (kept s t o) b
 unfolding byteTaken
 takes-other s r t o b e f = rw (ne-eqb b (code "\n") e) (ap (λ (x : State). kept x t o) f)
 

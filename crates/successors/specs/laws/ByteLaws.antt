@@ -15,7 +15,7 @@ use Rattle.pairs.specs.Tables.{pairs}
 use Rattle.index.specs.declared.Frame.{Frame}
 use Rattle.index.specs.Frames.{numberBy, frameOf, numberIn}
 use Rattle.index.specs.laws.FrameLaws.{lent-number, frame-number}
-use Rattle.endings.specs.Chess.{byteOf}
+use Rattle.endings.specs.Ending.{byteOf}
 use Rattle.successors.specs.Successors.{byteBy, kingMoves}
 
 neither : (a b : Bool) → (a || b) ≡ false → (a ≡ false) × (b ≡ false)
@@ -28,13 +28,17 @@ unfolding byteBy byteOf
 lent-byte list t e = fun-ext (λ b. ap (λ (n : ℕ). cond (empty (b .men)) 1 (getD t n 0)) (lent-number list e b))
 
 module _ (list t : List ℕ) (kind side white square black : ℕ) where
-  by-number : byteBy list t (boardOf (lone kind side white square black)) ≡ getD t (numberBy list (boardOf (lone kind side white square black))) 0
+  by-number : byteBy list t (boardOf (lone kind side white square black)) ≡ getD t (numberBy list
+      (boardOf (lone kind side white square black))) 0
   unfolding byteBy boardOf
   by-number = refl
 
   -- the byte at the number that the frame gives
-  pub framed : (f : Frame) (c : ℕ) → f ≡ frameOf list side white black → c ≡ getD t (numberIn f square) 0 → c ≡ byteBy list t (boardOf (lone kind side white square black))
-  framed f c e h = h ∙ ap (λ (n : ℕ). getD t n 0) (ap (λ (g : Frame). numberIn g square) e ∙ frame-number list kind side white square black) ∙ sym by-number
+  pub framed : (f : Frame) (c : ℕ) → f ≡ frameOf list side white black → c ≡ getD t (numberIn f square) 0
+      → c ≡ byteBy list t (boardOf (lone kind side white square black))
+  framed f c e h = h
+      ∙ ap (λ (n : ℕ). getD t n 0)
+      (ap (λ (g : Frame). numberIn g square) e ∙ frame-number list kind side white square black) ∙ sym by-number
 
 module _ (list t : List ℕ) (kind side white square black from to : ℕ) where
   -- the man is taken
@@ -51,16 +55,21 @@ module _ (list t : List ℕ) (kind side white square black from to : ℕ) where
   move-keyed h = rw (ne-eqb square to h)
 
   -- its byte, in the frame of what it leaves
-  pub after-moved : (f : Frame) (s c : ℕ) → (square ≡ to → ⊥) → f ≡ frameOf list (1 - side) (carried from to white) (carried from to black) → s ≡ carried from to square → c ≡ getD t (numberIn f s) 0
+  pub after-moved : (f : Frame) (s c : ℕ) → (square ≡ to → ⊥)
+      → f ≡ frameOf list (1 - side) (carried from to white) (carried from to black) → s ≡ carried from to square
+      → c ≡ getD t (numberIn f s) 0
       → c ≡ byteBy list t (moved (boardOf (lone kind side white square black)) from to)
   unfolding left
   after-moved f s c h e q k =
-      framed list t kind (1 - side) (carried from to white) (carried from to square) (carried from to black) f c e (k ∙ ap (λ (u : ℕ). getD t (numberIn f u) 0) q) ∙ ap (byteBy list t) (sym (move-keyed h))
+      framed list t kind (1 - side) (carried from to white) (carried from to square) (carried from to black) f c e
+      (k ∙ ap (λ (u : ℕ). getD t (numberIn f u) 0) q) ∙ ap (byteBy list t) (sym (move-keyed h))
 
 -- where no king moves, that frame is the kings' own
-pub kings-kept : (list : List ℕ) (side white black from to : ℕ) (f : Frame) → kingMoves white black from ≡ false → f ≡ frameOf list (1 - side) white black
+pub kings-kept : (list : List ℕ) (side white black from to : ℕ) (f : Frame) → kingMoves white black from ≡ false
+    → f ≡ frameOf list (1 - side) white black
     → f ≡ frameOf list (1 - side) (carried from to white) (carried from to black)
-kings-kept list side white black from to f n e = let k = neither (eqb white from) (eqb black from) n in e ∙ sym (rw (k .0, k .1))
+kings-kept list side white black from to f n e =
+    let k = neither (eqb white from) (eqb black from) n in e ∙ sym (rw (k .0, k .1))
 
 -- the byte read at a number, and beyond the table's end
 module _ (t : List ℕ) (n m : ℕ) (e : n ≡ m) where

@@ -12,15 +12,16 @@ use Rattle.finite.specs.Truth.{of-true, fails, refuted, true-not-false}
 use Rattle.theory.specs.Required.{Rule, best, required, requiredAt}
 use Rattle.theory.specs.laws.RuleLaws.{required-rule}
 use Rattle.theory.specs.laws.Step.{required-moves}
-use Rattle.theory.specs.Judge.{judge, judge-accepts, judge-refuses, judge-nothing, judge-nothing-over}
+use Rattle.theory.specs.Judge.{judge}
+use Rattle.theory.specs.laws.Judge.{judge-accepts, judge-refuses, judge-nothing, judge-nothing-over}
 use Rattle.rules.specs.declared.Move.{Move}
 use Rattle.rules.specs.Rules.{Board, empty, inCheck, canMove, allMoves, moves, mated}
 use Rattle.rules.specs.Chess.{chess, played}
 use Rattle.position.specs.declared.Position.{Position}
 use Rattle.position.specs.Keyed.{boardOf, lone}
-use Rattle.answers.specs.declared.Advice.{Advice}
+use Rattle.answers.specs.declared.BestMove.{BestMove}
 use Rattle.pairs.specs.Tables.{pairs}
-use Rattle.endings.specs.Chess.{byteOf}
+use Rattle.endings.specs.Ending.{byteOf}
 use Rattle.endings.specs.Answers.{adviceOf}
 use Rattle.successors.specs.declared.Verdict.{Verdict}
 use Rattle.successors.specs.Successors.{byteBy, judgedFrom, suitedFrom, verdictOf, overWith}
@@ -35,7 +36,8 @@ required-pos false bs e = unfold required in omega arith
 
 two-mate : (mate : Bool) (bs : List ℕ) → eqb (required mate bs) 2 ≡ mate
 two-mate true bs = unfold required in refl
-two-mate false bs = fails (eqb (required false bs) 2) (λ e. go (eqb→eq (required false bs) 2 e) (required-rule false bs))
+two-mate false bs =
+    fails (eqb (required false bs) 2) (λ e. go (eqb→eq (required false bs) 2 e) (required-rule false bs))
   where
     go : required false bs ≡ 2 → Rule bs (required false bs) false → ⊥
     go e (Rule.wins c m l f q) = omega arith
@@ -61,7 +63,8 @@ module _ (byte : Board → ℕ) (b : Board) where
 
   -- with a move there is no mate
   required-more : (moves b ≡ [] → ⊥) → requiredAt chess byte b ≡ required false (map after (moves b))
-  required-more n = required-moves chess byte b ∙ ap (λ (m : Bool). required m (map after (moves b))) (fails (mated b) (λ t. n (chess .mate-ends b t)))
+  required-more n = required-moves chess byte b
+      ∙ ap (λ (m : Bool). required m (map after (moves b))) (fails (mated b) (λ t. n (chess .mate-ends b t)))
 
   no-moves : (c : ℕ) → moves b ≡ [] → judged c ≡ some none
   unfolding judge
@@ -70,7 +73,8 @@ module _ (byte : Board → ℕ) (b : Board) where
   -- ---- what the judgement says of a byte from 1 on
 
   met-required : (c : ℕ) (m : Move) → 1 ≤ c → judged c ≡ some (some m) → requiredAt chess byte b ≡ c
-  met-required c m h e = required-more (λ z. some-none (sym (no-moves c z) ∙ e)) ∙ judge-accepts c after m (moves b) h e .0
+  met-required c m h e =
+      required-more (λ z. some-none (sym (no-moves c z) ∙ e)) ∙ judge-accepts c after m (moves b) h e .0
     where
       some-none : _≡_ {A = Option (Option Move)} (some none) (some (some m)) → ⊥
       some-none q = let z : _≡_ {A = ℕ} 0 1 = cc in omega arith
@@ -98,7 +102,8 @@ module _ (byte : Board → ℕ) (b : Board) where
     unfolding verdictOf
     wrong n = sym (rw (ne-eqb c (requiredAt chess byte b) (λ e. n (sym e))))
 
-    right : requiredAt chess byte b ≡ c → (a : Advice) → a ≡ adviceOf (suitedFrom byte c b) → Verdict.Right a ≡ verdictOf byte c b
+    right : requiredAt chess byte b ≡ c → (a : BestMove) → a ≡ adviceOf (suitedFrom byte c b)
+        → Verdict.Right a ≡ verdictOf byte c b
     unfolding verdictOf
     right e a q = sym (rw (eq-eqb c (requiredAt chess byte b) (sym e), ← q))
 
@@ -108,15 +113,20 @@ module _ (byte : Board → ℕ) (b : Board) where
     pub verdict-refuted : (c ≡ 0 → ⊥) → judged c ≡ none → Verdict.Wrong ≡ verdictOf byte c b
     verdict-refuted n e = wrong (refuted-other c (omega arith) e)
 
-    pub verdict-met : (c ≡ 0 → ⊥) → (m : Move) → judged c ≡ some (some m) → Verdict.Right (Advice.Play m) ≡ verdictOf byte c b
+    pub verdict-met : (c ≡ 0 → ⊥) → (m : Move) → judged c ≡ some (some m)
+        → Verdict.Right (BestMove.Play m) ≡ verdictOf byte c b
     unfolding suitedFrom
-    verdict-met n m e = right (met-required c m (omega arith) e) (Advice.Play m) (sym (ap adviceOf (judge-accepts c after m (moves b) (omega arith) e .1)))
+    verdict-met n m e =
+        right (met-required c m (omega arith) e) (BestMove.Play m)
+        (sym (ap adviceOf (judge-accepts c after m (moves b) (omega arith) e .1)))
 
-    pub verdict-over : judged c ≡ some none → overWith c b ≡ true → Verdict.Right Advice.NoMove ≡ verdictOf byte c b
+    pub verdict-over : judged c ≡ some none → overWith c b ≡ true → Verdict.Right BestMove.NoMove ≡ verdictOf byte c b
     unfolding suitedFrom overWith
-    verdict-over e o = right (over (moves b) refl o) Advice.NoMove (sym (ap adviceOf (judge-nothing c after (moves b) e)))
+    verdict-over e o =
+        right (over (moves b) refl o) BestMove.NoMove (sym (ap adviceOf (judge-nothing c after (moves b) e)))
       where
-        over : (l : List Move) → moves b ≡ l → (empty l && eqb c (cond (inCheck b (b .side)) 2 1)) ≡ true → requiredAt chess byte b ≡ c
+        over : (l : List Move) → moves b ≡ l → (empty l && eqb c (cond (inCheck b (b .side)) 2 1)) ≡ true
+            → requiredAt chess byte b ≡ c
         over [] z q = required-over z ∙ sym (eqb→eq c (cond (inCheck b (b .side)) 2 1) (of-true q))
         over (m ∷ l) z q = absurd (refuted (sym q) tt)
 
@@ -124,19 +134,23 @@ module _ (byte : Board → ℕ) (b : Board) where
     unfolding overWith
     verdict-open e o = wrong (λ q. let z = unmet-over c e q in true-not-false (over z (sym q ∙ required-over z)) o)
       where
-        over : moves b ≡ [] → c ≡ cond (inCheck b (b .side)) 2 1 → (empty (moves b) && eqb c (cond (inCheck b (b .side)) 2 1)) ≡ true
+        over : moves b ≡ [] → c ≡ cond (inCheck b (b .side)) 2 1
+            → (empty (moves b) && eqb c (cond (inCheck b (b .side)) 2 1)) ≡ true
         over z q = rw z (eq-eqb c (cond (inCheck b (b .side)) 2 1) q)
 
     -- what a verdict tells
-    told : (same : Bool) (v : Verdict) (a : Advice) → v ≡ cond same (Verdict.Right a) Verdict.Wrong → (v ≡ Verdict.Wrong → same ≡ false) × ((x : Advice) → v ≡ Verdict.Right x → (same ≡ true) × (x ≡ a))
+    told : (same : Bool) (v : Verdict) (a : BestMove) → v ≡ cond same (Verdict.Right a) Verdict.Wrong
+        → (v ≡ Verdict.Wrong → same ≡ false) × ((x : BestMove) → v ≡ Verdict.Right x → (same ≡ true) × (x ≡ a))
     told true v a e = (λ w. let z : _≡_ {A = ℕ} 0 1 = cc in absurd (omega arith), λ x w. (refl, (cc)))
     told false v a e = (λ w. refl, λ x w. let z : _≡_ {A = ℕ} 0 1 = cc in absurd (omega arith))
 
-    pub told-wrong : (v : Verdict) → v ≡ verdictOf byte c b → v ≡ Verdict.Wrong → eqb c (requiredAt chess byte b) ≡ false
+    pub told-wrong : (v : Verdict) → v ≡ verdictOf byte c b → v ≡ Verdict.Wrong
+        → eqb c (requiredAt chess byte b) ≡ false
     unfolding verdictOf
     told-wrong v e w = told (eqb c (requiredAt chess byte b)) v (adviceOf (suitedFrom byte c b)) e .0 w
 
-    pub told-right : (v : Verdict) (a : Advice) → v ≡ verdictOf byte c b → v ≡ Verdict.Right a → (eqb c (requiredAt chess byte b) ≡ true) × (a ≡ adviceOf (suitedFrom byte c b))
+    pub told-right : (v : Verdict) (a : BestMove) → v ≡ verdictOf byte c b → v ≡ Verdict.Right a
+        → (eqb c (requiredAt chess byte b) ≡ true) × (a ≡ adviceOf (suitedFrom byte c b))
     unfolding verdictOf
     told-right v a e w = told (eqb c (requiredAt chess byte b)) v (adviceOf (suitedFrom byte c b)) e .1 a w
 
@@ -153,7 +167,9 @@ module _ (byte : Board → ℕ) (b : Board) where
     depth-refuted e = sym (ne-eqb (requiredAt chess byte b) (2 + k) (refuted-other (2 + k) (omega arith) e))
 
     pub depth-unmet : judged (2 + k) ≡ some none → false ≡ eqb (requiredAt chess byte b) (2 + k)
-    depth-unmet e = sym (ne-eqb (requiredAt chess byte b) (2 + k) (λ q. small (inCheck b (b .side)) (sym (required-over (unmet-over (2 + k) e q)) ∙ q)))
+    depth-unmet e =
+        sym (ne-eqb (requiredAt chess byte b) (2 + k)
+        (λ q. small (inCheck b (b .side)) (sym (required-over (unmet-over (2 + k) e q)) ∙ q)))
       where
         small : (check : Bool) → cond check 2 1 ≡ 2 + k → ⊥
         small true z = n (omega arith)
@@ -189,10 +205,12 @@ unfolding mated
 unchecked b e = rw e
 
 -- by the constant list, lent, the verdict is the table's
-pub lent-verdict : (list t : List ℕ) (c : ℕ) (b : Board) (v : Verdict) → list ≡ pairs → v ≡ verdictOf (byteBy list t) c b → v ≡ verdictOf (byteOf t) c b
+pub lent-verdict : (list t : List ℕ) (c : ℕ) (b : Board) (v : Verdict) → list ≡ pairs
+    → v ≡ verdictOf (byteBy list t) c b → v ≡ verdictOf (byteOf t) c b
 lent-verdict list t c b v e h = h ∙ ap (λ (f : Board → ℕ). verdictOf f c b) (lent-byte list t e)
 
-pub lent-depth : (list t : List ℕ) (b : Board) (k : ℕ) (d : Bool) → list ≡ pairs → d ≡ eqb (requiredAt chess (byteBy list t) b) k → d ≡ eqb (requiredAt chess (byteOf t) b) k
+pub lent-depth : (list t : List ℕ) (b : Board) (k : ℕ) (d : Bool) → list ≡ pairs
+    → d ≡ eqb (requiredAt chess (byteBy list t) b) k → d ≡ eqb (requiredAt chess (byteOf t) b) k
 lent-depth list t b k d e h = h ∙ ap (λ (f : Board → ℕ). eqb (requiredAt chess f b) k) (lent-byte list t e)
 
 -- ---- a lone man's position, made by code
@@ -203,6 +221,7 @@ made-verdict p q r c e h = h ∙ ap (λ (x : Position). overWith c (boardOf x)) 
 pub made-mate : (p q : Position) (r : Bool) → p ≡ q → r ≡ mated (boardOf p) → r ≡ mated (boardOf q)
 made-mate p q r e h = h ∙ ap (λ (x : Position). mated (boardOf x)) e
 
-pub made-men : (p : Position) (kind side white square black : ℕ) → p ≡ lone kind side white square black → empty (boardOf p .men) ≡ false
+pub made-men : (p : Position) (kind side white square black : ℕ) → p ≡ lone kind side white square black
+    → empty (boardOf p .men) ≡ false
 unfolding boardOf
 made-men p kind side white square black e = ap (λ (x : Position). empty (boardOf x .men)) e

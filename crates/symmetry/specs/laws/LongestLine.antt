@@ -14,7 +14,8 @@ after : ℕ → ℕ → ℕ → ℕ → ℕ
 after zero s dx dy = s
 after (suc n) s dx dy = after n (shift s dx dy) dx dy
 
-line-spent : (occ : ℕ → Bool) (n s dx dy t : ℕ) → 64 ≤ after (suc n) s dx dy → line occ (suc n) s dx dy t ≡ line occ n s dx dy t
+line-spent : (occ : ℕ → Bool) (n s dx dy t : ℕ) → 64 ≤ after (suc n) s dx dy
+    → line occ (suc n) s dx dy t ≡ line occ n s dx dy t
 unfolding line after
 line-spent occ zero s dx dy t h = rw (le-ltb (shift s dx dy) 64 h)
 line-spent occ (suc n) s dx dy t h = rw (line-spent occ n (shift s dx dy) dx dy t h)
@@ -26,7 +27,8 @@ all-spent : T (allBelow2 spent-right 64 16)
 unfolding allBelow allBelow2 spent-right after shift stays
 all-spent = tt
 
-pub seven-enough : (occ : ℕ → Bool) (s k t : ℕ) → s < 64 → k < 16 → line occ 8 s (getD stepXs k 0) (getD stepYs k 0) t ≡ line occ 7 s (getD stepXs k 0) (getD stepYs k 0) t
+pub seven-enough : (occ : ℕ → Bool) (s k t : ℕ) → s < 64 → k < 16
+    → line occ 8 s (getD stepXs k 0) (getD stepYs k 0) t ≡ line occ 7 s (getD stepXs k 0) (getD stepYs k 0) t
 unfolding spent-right
 seven-enough occ s k t hs hk =
     let e = eqb→eq (after 8 s (getD stepXs k 0) (getD stepYs k 0)) 64 (below2 spent-right 64 16 all-spent s k hs hk) in

@@ -25,9 +25,15 @@ every-symmetry m = go (m .files) (m .ranks) (m .swap)
     go false true false = List·Memᴰ·tail (List·Memᴰ·tail (List·Memᴰ·head refl))
     go false true true = List·Memᴰ·tail (List·Memᴰ·tail (List·Memᴰ·tail (List·Memᴰ·head refl)))
     go true false false = List·Memᴰ·tail (List·Memᴰ·tail (List·Memᴰ·tail (List·Memᴰ·tail (List·Memᴰ·head refl))))
-    go true false true = List·Memᴰ·tail (List·Memᴰ·tail (List·Memᴰ·tail (List·Memᴰ·tail (List·Memᴰ·tail (List·Memᴰ·head refl)))))
-    go true true false = List·Memᴰ·tail (List·Memᴰ·tail (List·Memᴰ·tail (List·Memᴰ·tail (List·Memᴰ·tail (List·Memᴰ·tail (List·Memᴰ·head refl))))))
-    go true true true = List·Memᴰ·tail (List·Memᴰ·tail (List·Memᴰ·tail (List·Memᴰ·tail (List·Memᴰ·tail (List·Memᴰ·tail (List·Memᴰ·tail (List·Memᴰ·head refl)))))))
+    go true false true =
+        List·Memᴰ·tail (List·Memᴰ·tail (List·Memᴰ·tail (List·Memᴰ·tail (List·Memᴰ·tail (List·Memᴰ·head refl)))))
+    go true true false =
+        List·Memᴰ·tail
+        (List·Memᴰ·tail (List·Memᴰ·tail (List·Memᴰ·tail (List·Memᴰ·tail (List·Memᴰ·tail (List·Memᴰ·head refl))))))
+    go true true true =
+        List·Memᴰ·tail
+        (List·Memᴰ·tail
+        (List·Memᴰ·tail (List·Memᴰ·tail (List·Memᴰ·tail (List·Memᴰ·tail (List·Memᴰ·tail (List·Memᴰ·head refl)))))))
 
 -- a test of all eight, which the checker computes, and what it shows of each
 unfoldable pub allSymmetries : (Symmetry → Bool) → Bool
@@ -56,21 +62,25 @@ mapped-off m s h = rw (le-ltb s 64 h)
 
 pub mapped-on : (m : Symmetry) (s : ℕ) → s < 64 → mapped m s < 64
 unfolding inverse-right
-mapped-on m s h = ltb→lt (mapped m s) 64 (and-right (eqb (mapped (inverse m) (mapped m s)) s) (ltb (mapped m s) 64) (inverse-on m s h))
+mapped-on m s h =
+    ltb→lt (mapped m s) 64
+    (and-right (eqb (mapped (inverse m) (mapped m s)) s) (ltb (mapped m s) 64) (inverse-on m s h))
 
 -- each map is taken back by one of them: so it loses nothing and leaves no square out
 pub mapped-inverse : (m : Symmetry) (s : ℕ) → mapped (inverse m) (mapped m s) ≡ s
 unfolding inverse-right
 mapped-inverse m s =
     ⊎-elim (λ h. rw (mapped-off m s h) (mapped-off (inverse m) s h))
-    (λ h. eqb→eq (mapped (inverse m) (mapped m s)) s (and-left (eqb (mapped (inverse m) (mapped m s)) s) (ltb (mapped m s) 64) (inverse-on m s h)))
+    (λ h. eqb→eq (mapped (inverse m) (mapped m s)) s
+    (and-left (eqb (mapped (inverse m) (mapped m s)) s) (ltb (mapped m s) 64) (inverse-on m s h)))
     (le-or-lt 64 s)
 
 pub inverse-inverse : (m : Symmetry) → inverse (inverse m) ≡ m
 unfolding inverse
 inverse-inverse m = go (m .files) (m .ranks) (m .swap)
   where
-    go : (a b c : Bool) → inverse (inverse (record { files = a; ranks = b; swap = c })) ≡ record { files = a; ranks = b; swap = c }
+    go : (a b c : Bool)
+        → inverse (inverse (record { files = a; ranks = b; swap = c })) ≡ record { files = a; ranks = b; swap = c }
     go a b true = refl
     go a b false = refl
 
@@ -106,7 +116,8 @@ mapped-composed m n s =
     ⊎-elim (λ h. rw (mapped-off m s h, mapped-off n s h, mapped-off (composed m n) s h))
     (λ h. eqb→eq (mapped n (mapped m s)) (mapped (composed m n) s)
     (below (composed-right m n) 64
-    (symmetry-at (λ n. allBelow (composed-right m n) 64) (symmetry-at (λ m. allSymmetries (λ n. allBelow (composed-right m n) 64)) all-composed m) n) s h))
+    (symmetry-at (λ n. allBelow (composed-right m n) 64)
+    (symmetry-at (λ m. allSymmetries (λ n. allBelow (composed-right m n) 64)) all-composed m) n) s h))
     (le-or-lt 64 s)
 
 -- ---- steps
@@ -118,11 +129,18 @@ shifts-right : T (allSymmetries (λ m. allBelow3 (shift-right m) 64 5 5))
 unfolding allSymmetries all allBelow allBelow2 allBelow3 shift-right shift stays mapped mappedX mappedY
 shifts-right = tt
 
-pub shift-mapped : (m : Symmetry) (s dx dy : ℕ) → dx < 5 → dy < 5 → shift (mapped m s) (mappedX m dx dy) (mappedY m dx dy) ≡ mapped m (shift s dx dy)
+pub shift-mapped : (m : Symmetry) (s dx dy : ℕ) → dx < 5 → dy < 5
+    → shift (mapped m s) (mappedX m dx dy) (mappedY m dx dy) ≡ mapped m (shift s dx dy)
 unfolding shift-right
 shift-mapped m s dx dy hx hy =
     ⊎-elim
-    (λ h. rw (mapped-off m s h, shift-off s dx dy h, mapped-off m 64 (omega arith), shift-off s (mappedX m dx dy) (mappedY m dx dy) h))
+    (λ h. rw (
+      mapped-off m s h,
+      shift-off s dx dy h,
+      mapped-off m 64 (omega arith),
+      shift-off s (mappedX m dx dy) (mappedY m dx dy) h,
+    ))
     (λ h. eqb→eq (shift (mapped m s) (mappedX m dx dy) (mappedY m dx dy)) (mapped m (shift s dx dy))
-    (below3 (shift-right m) 64 5 5 (symmetry-at (λ m. allBelow3 (shift-right m) 64 5 5) shifts-right m) s dx dy h hx hy))
+    (below3 (shift-right m) 64 5 5 (symmetry-at (λ m. allBelow3 (shift-right m) 64 5 5) shifts-right m) s dx dy h hx
+    hy))
     (le-or-lt 64 s)

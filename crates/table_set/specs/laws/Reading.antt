@@ -7,7 +7,7 @@ use native.Mathlib.Omega.{arith}
 use lib.Dec.{ltb, eqb}
 use lib.ListN.{length, take, drop}
 use borrow.Author.Tests.{lt-leb, le-leb, lt-ltb, le-ltb, eq-eqb, ne-eqb}
-use Rattle.endings.specs.Chess.{tableSize}
+use Rattle.endings.specs.Ending.{tableSize}
 use Rattle.sets.specs.declared.Found.{Found}
 use Rattle.sets.specs.Layout.{wordAt, headerSize, setSize}
 use Rattle.sets.specs.Answers.{rightEntry, rightEntries, rightSet, findEntry, findOf, partOf}
@@ -28,7 +28,8 @@ module _ (s : List ℕ) (at least offset a b c : ℕ) (ea : a ≡ wordAt s at) w
   unfolding rightEntry
   entry-offset l h eb n = sym (rw (← ea, ← eb, le-leb least a l, lt-ltb a 4 h, ne-eqb b offset n))
 
-  pub entry-length : least ≤ a → a < 4 → b ≡ wordAt s (at + 4) → b ≡ offset → c ≡ wordAt s (at + 8) → eqb c tableSize ≡ rightEntry s at least offset
+  pub entry-length : least ≤ a → a < 4 → b ≡ wordAt s (at + 4) → b ≡ offset → c ≡ wordAt s (at + 8)
+      → eqb c tableSize ≡ rightEntry s at least offset
   unfolding rightEntry
   entry-length l h eb e ec = sym (rw (← ea, ← eb, ← ec, le-leb least a l, lt-ltb a 4 h, eq-eqb b offset e))
 
@@ -40,7 +41,8 @@ module _ (s : List ℕ) (at least offset : ℕ) (b : Bool) (eb : b ≡ rightEntr
   entries-stop zero h e = absurd (omega arith)
   entries-stop (suc left) h e = rw (sym eb ∙ e)
 
-  pub entries-more : (left w : ℕ) → 0 < left → b ≡ true → w ≡ wordAt s at → rightEntries (left - 1) s (at + 12) (w + 1) (offset + tableSize) ≡ rightEntries left s at least offset
+  pub entries-more : (left w : ℕ) → 0 < left → b ≡ true → w ≡ wordAt s at
+      → rightEntries (left - 1) s (at + 12) (w + 1) (offset + tableSize) ≡ rightEntries left s at least offset
   unfolding rightEntries
   entries-more zero w h e ew = absurd (omega arith)
   entries-more (suc left) w h e ew = let z : suc left - 1 ≡ left = omega arith in rw (z, sym eb ∙ e, ew)
@@ -67,7 +69,8 @@ module _ (s : List ℕ) where
     set-entries e = sym (rw (le-leb 4 (length s) h, ← en, eq-eqb (length s) (setSize n) e))
 
   -- a set that passes is as long as its count says, and its count is at most 4
-  pub set-passed : (b : Bool) → b ≡ rightSet s → b ≡ true → (4 ≤ length s) × (length s ≡ setSize (wordAt s 0)) × (length s ≤ 236596)
+  pub set-passed : (b : Bool) → b ≡ rightSet s → b ≡ true
+      → (4 ≤ length s) × (length s ≡ setSize (wordAt s 0)) × (length s ≤ 236596)
   set-passed b eb e =
       let r = sym eb ∙ e in
       let l = set-long s r in
@@ -89,12 +92,14 @@ module _ (s : List ℕ) (code : ℕ) where
     unfolding findOf
     find-entries e n en = sym (rw (le-ltb 3 code known, sym eb ∙ e, ← en))
 
-  pub found-here : (left at offset w : ℕ) → 0 < left → w ≡ wordAt s at → w ≡ code → findEntry left s at offset code ≡ Found.At offset
+  pub found-here : (left at offset w : ℕ) → 0 < left → w ≡ wordAt s at → w ≡ code
+      → findEntry left s at offset code ≡ Found.At offset
   unfolding findEntry
   found-here zero at offset w h ew e = absurd (omega arith)
   found-here (suc left) at offset w h ew e = rw (← ew, eq-eqb w code e)
 
-  pub found-later : (left at offset w : ℕ) → 0 < left → w ≡ wordAt s at → (w ≡ code → ⊥) → findEntry (left - 1) s (at + 12) (offset + tableSize) code ≡ findEntry left s at offset code
+  pub found-later : (left at offset w : ℕ) → 0 < left → w ≡ wordAt s at → (w ≡ code → ⊥)
+      → findEntry (left - 1) s (at + 12) (offset + tableSize) code ≡ findEntry left s at offset code
   unfolding findEntry
   found-later zero at offset w h ew e = absurd (omega arith)
   found-later (suc left) at offset w h ew e = let z : suc left - 1 ≡ left = omega arith in rw (z, ← ew, ne-eqb w code e)
@@ -105,12 +110,16 @@ module _ (s : List ℕ) (code : ℕ) where
   found-not (suc left) at offset h = absurd (omega arith)
 
   -- a table that is found lies inside the set
-  entry-inside : (left at offset o : ℕ) → findEntry left s at offset code ≡ Found.At o → offset + tableSize * left ≤ length s → o + tableSize ≤ length s
+  entry-inside : (left at offset o : ℕ) → findEntry left s at offset code ≡ Found.At o
+      → offset + tableSize * left ≤ length s → o + tableSize ≤ length s
   unfolding findEntry
   entry-inside zero at offset o e h = let z : _≡_ {A = ℕ} 0 1 = cc in absurd (omega arith)
-  entry-inside (suc left) at offset o e h = go (eqb (wordAt s at) code) (λ e. entry-inside left (at + 12) (offset + tableSize) o e (omega arith)) e
+  entry-inside (suc left) at offset o e h =
+      go (eqb (wordAt s at) code) (λ e. entry-inside left (at + 12) (offset + tableSize) o e (omega arith)) e
     where
-      go : (b : Bool) → (findEntry left s (at + 12) (offset + tableSize) code ≡ Found.At o → o + tableSize ≤ length s) → cond b (Found.At offset) (findEntry left s (at + 12) (offset + tableSize) code) ≡ Found.At o → o + tableSize ≤ length s
+      go : (b : Bool) → (findEntry left s (at + 12) (offset + tableSize) code ≡ Found.At o → o + tableSize ≤ length s)
+          → cond b (Found.At offset) (findEntry left s (at + 12) (offset + tableSize) code) ≡ Found.At o
+          → o + tableSize ≤ length s
       go true later e = let z : offset ≡ o = cc in omega arith
       go false later e = later e
 
@@ -118,10 +127,14 @@ module _ (s : List ℕ) (code : ℕ) where
   unfolding findOf
   found-inside o e = go (ltb 3 code) (rightSet s) refl e
     where
-      go : (a b : Bool) → b ≡ rightSet s → cond a (Found.Refused 1) (cond (not b) (Found.Refused 14) (findEntry (wordAt s 0) s 4 (headerSize (wordAt s 0)) code)) ≡ Found.At o → o + tableSize ≤ length s
+      go : (a b : Bool) → b ≡ rightSet s
+          → cond a (Found.Refused 1)
+          (cond (not b) (Found.Refused 14) (findEntry (wordAt s 0) s 4 (headerSize (wordAt s 0)) code)) ≡ Found.At o
+          → o + tableSize ≤ length s
       go true b eb e = let z : _≡_ {A = ℕ} 0 1 = cc in absurd (omega arith)
       go false false eb e = let z : _≡_ {A = ℕ} 0 1 = cc in absurd (omega arith)
-      go false true eb e = let l = set-passed s true eb refl in entry-inside (wordAt s 0) 4 (headerSize (wordAt s 0)) o e (omega arith)
+      go false true eb e =
+          let l = set-passed s true eb refl in entry-inside (wordAt s 0) 4 (headerSize (wordAt s 0)) o e (omega arith)
 
   -- the part that is handed back
   module _ (f : Found) (ef : f ≡ findOf s code) where

@@ -8,7 +8,7 @@ use lib.ListN.{length}
 use Rattle.finite.specs.Pieces.{over}
 use Rattle.finite.specs.PieceLaws.{over-nothing, length-over, over-over}
 use Rattle.answers.specs.declared.Filled.{Filled}
-use Rattle.endings.specs.Chess.{tableSize}
+use Rattle.endings.specs.Ending.{tableSize}
 use Rattle.sets.specs.declared.Choice.{Choice}
 use Rattle.sets.specs.declared.Written.{Written}
 use Rattle.sets.specs.Layout.{chosen, codesFrom, codesOf, word4, headerSize, setSize, entriesOf, headerOf}
@@ -23,9 +23,13 @@ pub record Headed (ch : Choice) (n : ℕ) (s₀ s : List ℕ) (at offset code : 
   pub same-length : length s ≡ length s₀
   pub room : at + 12 * length (codesFrom ch (4 - code) code) ≤ length s
   pub small : offset + tableSize * (4 - code) ≤ 300000
-  pub whole : over s at (entriesOf (codesFrom ch (4 - code) code) offset) ≡ over s₀ 4 (entriesOf (codesOf ch) (headerSize n))
+  pub whole : over s at (entriesOf (codesFrom ch (4 - code) code) offset) ≡ over s₀ 4 (entriesOf (codesOf ch)
+      (headerSize n))
 
-entry-over : (c at offset : ℕ) (cs s s₁ s₂ s₃ : List ℕ) → at + 12 ≤ length s → s₁ ≡ over s at (word4 c) → s₂ ≡ over s₁ (at + 4) (word4 offset) → s₃ ≡ over s₂ (at + 8) (word4 tableSize) → (over s₃ (at + 12) (entriesOf cs (offset + tableSize)) ≡ over s at (entriesOf (c ∷ cs) offset)) × (length s₃ ≡ length s)
+entry-over : (c at offset : ℕ) (cs s s₁ s₂ s₃ : List ℕ) → at + 12 ≤ length s → s₁ ≡ over s at (word4 c)
+    → s₂ ≡ over s₁ (at + 4) (word4 offset) → s₃ ≡ over s₂ (at + 8) (word4 tableSize)
+    → (over s₃ (at + 12) (entriesOf cs (offset + tableSize)) ≡ over s at (entriesOf (c ∷ cs) offset))
+    × (length s₃ ≡ length s)
 unfolding entriesOf word4
 entry-over c at offset cs s s₁ s₂ s₃ room e₁ e₂ e₃ =
     let l₁ : length s₁ ≡ length s = ap length e₁ ∙ length-over s at (word4 c) (omega arith) in
@@ -34,12 +38,18 @@ entry-over c at offset cs s s₁ s₂ s₃ room e₁ e₂ e₃ =
     let rest = entriesOf cs (offset + tableSize) in
     let z₂ : at + 4 + 4 ≡ at + 8 = omega arith in
     let z₃ : at + 8 + 4 ≡ at + 12 = omega arith in
-    let o₃ : over s₃ (at + 12) rest ≡ over s₂ (at + 8) (word4 tableSize ++ rest) = rw e₃ (rw z₃ at (over-over s₂ (at + 8) (word4 tableSize) (omega arith) rest)) in
-    let o₂ : over s₂ (at + 8) (word4 tableSize ++ rest) ≡ over s₁ (at + 4) (word4 offset ++ (word4 tableSize ++ rest)) = rw e₂ (rw z₂ at (over-over s₁ (at + 4) (word4 offset) (omega arith) (word4 tableSize ++ rest))) in
-    let o₁ : over s₁ (at + 4) (word4 offset ++ (word4 tableSize ++ rest)) ≡ over s at (word4 c ++ (word4 offset ++ (word4 tableSize ++ rest))) = rw e₁ (over-over s at (word4 c) (omega arith) (word4 offset ++ (word4 tableSize ++ rest))) in
+    let o₃ : over s₃ (at + 12) rest ≡ over s₂ (at + 8) (word4 tableSize ++ rest) =
+    rw e₃ (rw z₃ at (over-over s₂ (at + 8) (word4 tableSize) (omega arith) rest)) in
+    let o₂ : over s₂ (at + 8) (word4 tableSize ++ rest)
+    ≡ over s₁ (at + 4) (word4 offset ++ (word4 tableSize ++ rest)) =
+    rw e₂ (rw z₂ at (over-over s₁ (at + 4) (word4 offset) (omega arith) (word4 tableSize ++ rest))) in
+    let o₁ : over s₁ (at + 4) (word4 offset ++ (word4 tableSize ++ rest))
+    ≡ over s at (word4 c ++ (word4 offset ++ (word4 tableSize ++ rest))) =
+    rw e₁ (over-over s at (word4 c) (omega arith) (word4 offset ++ (word4 tableSize ++ rest))) in
     (o₃ ∙ o₂ ∙ o₁, l₃)
 
-pub headed-start : (ch : Choice) (n : ℕ) (s₀ : List ℕ) → n ≡ length (codesOf ch) → n ≤ 4 → headerSize n ≤ length s₀ → Headed ch n s₀ s₀ 4 (headerSize n) 0
+pub headed-start : (ch : Choice) (n : ℕ) (s₀ : List ℕ) → n ≡ length (codesOf ch) → n ≤ 4 → headerSize n ≤ length s₀
+    → Headed ch n s₀ s₀ 4 (headerSize n) 0
 headed-start ch n s₀ en h l = record {
   most = omega arith;
   same-length = refl;
@@ -64,10 +74,13 @@ module _ (ch : Choice) (n : ℕ) (s₀ s : List ℕ) (at offset code : ℕ) (now
     pub headed-room : b ≡ true → at + 12 ≤ length s
     headed-room e = omega (arith, now .room, ap length (codes-take ch code b eb h e))
 
-    pub headed-take : b ≡ true → (s₁ s₂ s₃ : List ℕ) → s₁ ≡ over s at (word4 code) → s₂ ≡ over s₁ (at + 4) (word4 offset) → s₃ ≡ over s₂ (at + 8) (word4 tableSize) → Headed ch n s₀ s₃ (at + 12) (offset + tableSize) (code + 1)
+    pub headed-take : b ≡ true → (s₁ s₂ s₃ : List ℕ) → s₁ ≡ over s at (word4 code)
+        → s₂ ≡ over s₁ (at + 4) (word4 offset) → s₃ ≡ over s₂ (at + 8) (word4 tableSize)
+        → Headed ch n s₀ s₃ (at + 12) (offset + tableSize) (code + 1)
     headed-take e s₁ s₂ s₃ e₁ e₂ e₃ =
         let z = codes-take ch code b eb h e in
-        let o = entry-over code at offset (codesFrom ch (4 - (code + 1)) (code + 1)) s s₁ s₂ s₃ (headed-room e) e₁ e₂ e₃ in
+        let o = entry-over code at offset (codesFrom ch (4 - (code + 1)) (code + 1)) s s₁ s₂ s₃ (headed-room e) e₁ e₂
+        e₃ in
         record {
           most = omega arith;
           same-length = o .1 ∙ now .same-length;
@@ -76,10 +89,12 @@ module _ (ch : Choice) (n : ℕ) (s₀ s : List ℕ) (at offset code : ℕ) (now
           whole = o .0 ∙ (rw z at (now .whole));
         }
 
-  pub headed-end : (t : List ℕ) → 4 ≤ code → n ≡ length (codesOf ch) → headerSize n ≤ length t → s₀ ≡ over t 0 (word4 n) → s ≡ over t 0 (headerOf (codesOf ch))
+  pub headed-end : (t : List ℕ) → 4 ≤ code → n ≡ length (codesOf ch) → headerSize n ≤ length t
+      → s₀ ≡ over t 0 (word4 n) → s ≡ over t 0 (headerOf (codesOf ch))
   unfolding entriesOf headerOf word4
   headed-end t h en l e =
-      sym (over-nothing s at) ∙ rw (codes-end ch code h) at (now .whole) ∙ rw (e, ← en) (over-over t 0 (word4 n) (omega arith) (entriesOf (codesOf ch) (headerSize n)))
+      sym (over-nothing s at) ∙ rw (codes-end ch code h) at (now .whole)
+      ∙ rw (e, ← en) (over-over t 0 (word4 n) (omega arith) (entriesOf (codesOf ch) (headerSize n)))
 
 -- ---- the tables: those left, filled in the set as it stands, give the whole answer
 
@@ -89,7 +104,8 @@ pub record Tabled (ch : Choice) (w : SetWritten) (s₀ s : List ℕ) (at code : 
   pub room : at + tableSize * length (codesFrom ch (4 - code) code) ≡ length s
   pub whole : finish (codesFrom ch (4 - code) code) at s ≡ w
 
-pub tabled-start : (ch : Choice) (n : ℕ) (s₀ : List ℕ) → n ≡ length (codesOf ch) → length s₀ ≡ setSize n → Tabled ch (finish (codesOf ch) (headerSize n) s₀) s₀ s₀ (headerSize n) 0
+pub tabled-start : (ch : Choice) (n : ℕ) (s₀ : List ℕ) → n ≡ length (codesOf ch) → length s₀ ≡ setSize n
+    → Tabled ch (finish (codesOf ch) (headerSize n) s₀) s₀ s₀ (headerSize n) 0
 tabled-start ch n s₀ en l = record {
   most = omega arith;
   same-length = refl;
@@ -113,7 +129,8 @@ module _ (ch : Choice) (w : SetWritten) (s₀ s : List ℕ) (at code : ℕ) (now
       pub tabled-room : at + tableSize ≤ length s
       tabled-room = omega (arith, now .room, ap length (codes-take ch code b eb h e))
 
-      module _ (a : Filled) (refused : Bool) (u : List ℕ) (ea : a ≡ filledAt code at s .answer) (er : refused ≡ isRefusal a) (eu : u ≡ filledAt code at s .bytes) where
+      module _ (a : Filled) (refused : Bool) (u : List ℕ) (ea : a ≡ filledAt code at s .answer)
+          (er : refused ≡ isRefusal a) (eu : u ≡ filledAt code at s .bytes) where
         pub tabled-take : length u ≡ length s → refused ≡ false → Tabled ch w s₀ u (at + tableSize) (code + 1)
         tabled-take l d =
             let z = codes-take ch code b eb h e in
@@ -128,7 +145,9 @@ module _ (ch : Choice) (w : SetWritten) (s₀ s : List ℕ) (at code : ℕ) (now
         pub tabled-refused : refused ≡ true → w ≡ record { answer = Written.Refused 10; bytes = u }
         tabled-refused d =
             let z = codes-take ch code b eb h e in
-            sym (rw z at (now .whole)) ∙ rw eu (finish-refused code at s (codesFrom ch (4 - (code + 1)) (code + 1)) h tabled-room (rw ea at (sym er ∙ d)))
+            sym (rw z at (now .whole))
+            ∙ rw eu (finish-refused code at s (codesFrom ch (4 - (code + 1)) (code + 1)) h tabled-room
+            (rw ea at (sym er ∙ d)))
 
   pub tabled-end : 4 ≤ code → w ≡ record { answer = Written.Done; bytes = s }
   tabled-end h =
@@ -137,8 +156,10 @@ module _ (ch : Choice) (w : SetWritten) (s₀ s : List ℕ) (at code : ℕ) (now
 
 -- ---- the answer, by its two fields
 
-module _ (ch : Choice) (n : ℕ) (t s₀ : List ℕ) (en : n ≡ length (codesOf ch)) (l : length t ≡ setSize n) (e : s₀ ≡ over t 0 (headerOf (codesOf ch))) where
-  pub write-is : (u : List ℕ) (a : Written) → finish (codesOf ch) (headerSize n) s₀ ≡ record { answer = a; bytes = u } → (a ≡ writeOf ch t .answer) × (u ≡ writeOf ch t .bytes)
+module _ (ch : Choice) (n : ℕ) (t s₀ : List ℕ) (en : n ≡ length (codesOf ch)) (l : length t ≡ setSize n)
+    (e : s₀ ≡ over t 0 (headerOf (codesOf ch))) where
+  pub write-is : (u : List ℕ) (a : Written) → finish (codesOf ch) (headerSize n) s₀ ≡ record { answer = a; bytes = u }
+      → (a ≡ writeOf ch t .answer) × (u ≡ writeOf ch t .bytes)
   write-is u a q =
       let k : writeOf ch t ≡ record { answer = a; bytes = u } = sym (write-start ch t n en l) ∙ (rw e at q) in
       (ap (λ (x : SetWritten). x .answer) (sym k), ap (λ (x : SetWritten). x .bytes) (sym k))

@@ -11,7 +11,7 @@ use borrow.Author.Tests.{eq-eqb, ne-eqb}
 use Rattle.finite.specs.Mapped.{mapFrom, cleared-same}
 use Rattle.finite.specs.Pieces.{over}
 use Rattle.answers.specs.declared.Filled.{Filled}
-use Rattle.endings.specs.Chess.{tableSize}
+use Rattle.endings.specs.Ending.{tableSize}
 use Rattle.endings.specs.Answers.{fillOf}
 use Rattle.sets.specs.declared.Choice.{Choice}
 use Rattle.sets.specs.declared.Found.{Found}
@@ -41,14 +41,18 @@ pub codes-end : (ch : Choice) (code : ℕ) → 4 ≤ code → codesFrom ch (4 - 
 unfolding codesFrom
 codes-end ch code h = let z : 4 - code ≡ 0 = omega arith in rw z
 
-pub codes-count : (ch : Choice) → (cond (ch .queen) 1 0 + cond (ch .rook) 1 0 + cond (ch .bishop) 1 0 + cond (ch .knight) 1 0 ≡ length (codesOf ch)) × (length (codesOf ch) ≤ 4)
+pub codes-count : (ch : Choice)
+    → (cond (ch .queen) 1 0 + cond (ch .rook) 1 0 + cond (ch .bishop) 1 0 + cond (ch .knight) 1 0
+    ≡ length (codesOf ch)) × (length (codesOf ch) ≤ 4)
 unfolding codesOf codesFrom chosen
 codes-count ch = go (ch .queen) (ch .rook) (ch .bishop) (ch .knight)
   where
     more : Bool → ℕ → List ℕ → List ℕ
     more b code l = cond b (code ∷ l) l
 
-    go : (q r b k : Bool) → (cond q 1 0 + cond r 1 0 + cond b 1 0 + cond k 1 0 ≡ length (more q 0 (more r 1 (more b 2 (more k 3 []))))) × (length (more q 0 (more r 1 (more b 2 (more k 3 [])))) ≤ 4)
+    go : (q r b k : Bool)
+        → (cond q 1 0 + cond r 1 0 + cond b 1 0 + cond k 1 0 ≡ length (more q 0 (more r 1 (more b 2 (more k 3 [])))))
+        × (length (more q 0 (more r 1 (more b 2 (more k 3 [])))) ≤ 4)
     go true true true true = (refl, omega arith)
     go true true true false = (refl, omega arith)
     go true true false true = (refl, omega arith)
@@ -69,46 +73,62 @@ codes-count ch = go (ch .queen) (ch .rook) (ch .bishop) (ch .knight)
 -- ---- the answer
 
 module _ (ch : Choice) (s : List ℕ) (n : ℕ) (en : n ≡ length (codesOf ch)) where
-  pub write-unlike : (length s ≡ setSize n → ⊥) → (Written.Refused 14 ≡ writeOf ch s .answer) × (s ≡ writeOf ch s .bytes)
+  pub write-unlike : (length s ≡ setSize n → ⊥)
+      → (Written.Refused 14 ≡ writeOf ch s .answer) × (s ≡ writeOf ch s .bytes)
   unfolding writeOf
-  write-unlike no? = let e = ne-eqb (length s) (setSize (length (codesOf ch))) (λ l. no? (rw en l)) in (sym (rw e), sym (rw e))
+  write-unlike no? =
+      let e = ne-eqb (length s) (setSize (length (codesOf ch))) (λ l. no? (rw en l)) in (sym (rw e), sym (rw e))
 
   -- the header alone
-  pub start-unlike : (length s ≡ setSize n → ⊥) → (Written.Refused 14 ≡ startOf ch s .answer) × (s ≡ startOf ch s .bytes)
+  pub start-unlike : (length s ≡ setSize n → ⊥)
+      → (Written.Refused 14 ≡ startOf ch s .answer) × (s ≡ startOf ch s .bytes)
   unfolding startOf
-  start-unlike no? = let e = ne-eqb (length s) (setSize (length (codesOf ch))) (λ l. no? (rw en l)) in (sym (rw e), sym (rw e))
+  start-unlike no? =
+      let e = ne-eqb (length s) (setSize (length (codesOf ch))) (λ l. no? (rw en l)) in (sym (rw e), sym (rw e))
 
-  pub start-is : length s ≡ setSize n → (u : List ℕ) → u ≡ over s 0 (headerOf (codesOf ch)) → (Written.Done ≡ startOf ch s .answer) × (u ≡ startOf ch s .bytes)
+  pub start-is : length s ≡ setSize n → (u : List ℕ) → u ≡ over s 0 (headerOf (codesOf ch))
+      → (Written.Done ≡ startOf ch s .answer) × (u ≡ startOf ch s .bytes)
   unfolding startOf
-  start-is l u eu = let e : eqb (length s) (setSize (length (codesOf ch))) ≡ true = eq-eqb (length s) (setSize (length (codesOf ch))) (omega arith) in (sym (rw e), eu ∙ sym (rw e))
+  start-is l u eu = let e : eqb (length s) (setSize (length (codesOf ch))) ≡ true =
+      eq-eqb (length s) (setSize (length (codesOf ch))) (omega arith) in (sym (rw e), eu ∙ sym (rw e))
 
 -- ---- a part that was lent to the fill, back in its place
 
-pub part-put : (code at k : ℕ) (s ys : List ℕ) (a : Filled) → k ≡ tableSize → at + tableSize ≤ length s → a ≡ fillOf code (take k (drop at s)) .answer → ys ≡ fillOf code (take k (drop at s)) .bytes → length ys ≡ length (take k (drop at s)) → (a ≡ fillOf code (take tableSize (drop at s)) .answer) × (take at s ++ (ys ++ drop k (drop at s)) ≡ over s at (fillOf code (take tableSize (drop at s)) .bytes))
+pub part-put : (code at k : ℕ) (s ys : List ℕ) (a : Filled) → k ≡ tableSize → at + tableSize ≤ length s
+    → a ≡ fillOf code (take k (drop at s)) .answer → ys ≡ fillOf code (take k (drop at s)) .bytes
+    → length ys ≡ length (take k (drop at s))
+    → (a ≡ fillOf code (take tableSize (drop at s)) .answer)
+    × (take at s ++ (ys ++ drop k (drop at s)) ≡ over s at (fillOf code (take tableSize (drop at s)) .bytes))
 unfolding over
 part-put code at k s ys a ek fits ea ey ly =
     let f : ys ≡ fillOf code (take tableSize (drop at s)) .bytes = rw ek at ey in
-    let n : length (fillOf code (take tableSize (drop at s)) .bytes) ≡ tableSize = rw (← f) (ly ∙ simp (length-take, length-drop) (omega arith)) in
+    let n : length (fillOf code (take tableSize (drop at s)) .bytes) ≡ tableSize =
+    rw (← f) (ly ∙ simp (length-take, length-drop) (omega arith)) in
     (rw ek at ea, rw (f, ek, n))
 
 -- ---- a table filled at its place
 
-module _ (code at : ℕ) (s t : List ℕ) (a : Filled) (b : Bool) (ea : a ≡ fillOf code (take tableSize (drop at s)) .answer) (et : t ≡ over s at (fillOf code (take tableSize (drop at s)) .bytes)) (eb : b ≡ isRefusal a) where
+module _ (code at : ℕ) (s t : List ℕ) (a : Filled) (b : Bool)
+    (ea : a ≡ fillOf code (take tableSize (drop at s)) .answer)
+    (et : t ≡ over s at (fillOf code (take tableSize (drop at s)) .bytes)) (eb : b ≡ isRefusal a) where
   pub at-kept : b ≡ false → (a ≡ filledAt code at s .answer) × (t ≡ filledAt code at s .bytes)
   unfolding filledAt
   at-kept e = (ea, et ∙ sym (rw (← ea, sym eb ∙ e)))
 
-  pub at-cleared : length t ≡ length s → b ≡ true → (a ≡ filledAt code at s .answer) × (mapFrom (λ n b. 0) 0 t ≡ filledAt code at s .bytes)
+  pub at-cleared : length t ≡ length s → b ≡ true
+      → (a ≡ filledAt code at s .answer) × (mapFrom (λ n b. 0) 0 t ≡ filledAt code at s .bytes)
   unfolding filledAt
   at-cleared l e = (ea, cleared-same t s l ∙ sym (rw (← ea, sym eb ∙ e)))
 
 -- ---- a table filled where it is found
 
 module _ (code : ℕ) (s : List ℕ) (f : Found) (ef : f ≡ findOf s code) where
-  pub in-found : (at : ℕ) → f ≡ Found.At at → (a : Filled) (u : List ℕ) → a ≡ filledAt code at s .answer → u ≡ filledAt code at s .bytes → (a ≡ fillInOf code s .answer) × (u ≡ fillInOf code s .bytes)
+  pub in-found : (at : ℕ) → f ≡ Found.At at → (a : Filled) (u : List ℕ) → a ≡ filledAt code at s .answer
+      → u ≡ filledAt code at s .bytes → (a ≡ fillInOf code s .answer) × (u ≡ fillInOf code s .bytes)
   unfolding fillInOf
   in-found at e a u ea eu = (ea ∙ sym (rw (← ef, e)), eu ∙ sym (rw (← ef, e)))
 
-  pub in-refused : (r : ℕ) → f ≡ Found.Refused r → (Filled.Refused r ≡ fillInOf code s .answer) × (s ≡ fillInOf code s .bytes)
+  pub in-refused : (r : ℕ) → f ≡ Found.Refused r
+      → (Filled.Refused r ≡ fillInOf code s .answer) × (s ≡ fillInOf code s .bytes)
   unfolding fillInOf
   in-refused r e = (sym (rw (← ef, e)), sym (rw (← ef, e)))

@@ -1,7 +1,7 @@
 -- A byte is a win, a loss or a draw; what `back` and `better` give, by what the bytes are.
 use mathlib.Core.Path.{_≡_, sym, subst}
 use mathlib.Core.Logic.{_⊎_, inl, inr, _↔_}
-use mathlib.Core.Bool.{Bool, true, false, not, _||_}
+use mathlib.Core.Bool.{true, false, not, _||_}
 use Prim.Native.Nat.{ℕ, _+_, _%_, _≤_, min, max}
 use native.Mathlib.Omega.{arith}
 use lib.Dec.{T, T-not, not-T, leb, eqb, leb→le, le→leb, eqb→eq}
@@ -17,8 +17,10 @@ pub kind : (b : ℕ) → Kind b
 kind b = small (decided (leb b 1))
   where
     even : T (not (leb b 1)) → T (eqb (b % 2) 0) ⊎ T (not (eqb (b % 2) 0)) → Kind b
-    even s (inl t) = let h : ¬ (b ≤ 1) = λ l. T-not (leb b 1) s (le→leb b 1 l) in let e = eqb→eq (b % 2) 0 t in loss (omega arith)
-    even s (inr t) = let h : ¬ (b ≤ 1) = λ l. T-not (leb b 1) s (le→leb b 1 l) in let e : ¬ (b % 2 ≡ 0) = λ e. T-not (eqb (b % 2) 0) t (subst (λ (n : ℕ). T (eqb n 0)) (sym e) tt) in win (omega arith)
+    even s (inl t) =
+        let h : ¬ (b ≤ 1) = λ l. T-not (leb b 1) s (le→leb b 1 l) in let e = eqb→eq (b % 2) 0 t in loss (omega arith)
+    even s (inr t) = let h : ¬ (b ≤ 1) = λ l. T-not (leb b 1) s (le→leb b 1 l) in let e : ¬ (b % 2 ≡ 0) =
+        λ e. T-not (eqb (b % 2) 0) t (subst (λ (n : ℕ). T (eqb n 0)) (sym e) tt) in win (omega arith)
 
     small : T (leb b 1) ⊎ T (not (leb b 1)) → Kind b
     small (inl t) = draw (leb→le b 1 t)
@@ -26,7 +28,10 @@ kind b = small (decided (leb b 1))
 
 pub winning-is : (b : ℕ) → T (winning b) ↔ Win b
 unfolding winning
-winning-is b = (λ t. (leb→le 3 b (and-left (leb 3 b) _ t), eqb→eq (b % 2) 1 (and-right (leb 3 b) _ t)), λ w. and-both (leb 3 b) _ (le→leb 3 b (w .0)) (subst (λ (n : ℕ). T (eqb n 1)) (sym (w .1)) tt))
+winning-is b = (
+  λ t. (leb→le 3 b (and-left (leb 3 b) _ t), eqb→eq (b % 2) 1 (and-right (leb 3 b) _ t)),
+  λ w. and-both (leb 3 b) _ (le→leb 3 b (w .0)) (subst (λ (n : ℕ). T (eqb n 1)) (sym (w .1)) tt),
+)
 
 is-win : (b : ℕ) → Win b → winning b ≡ true
 is-win b w = true-of (winning-is b .1 w)
@@ -64,7 +69,8 @@ better-draw x y p q o = rw (no-win x p, no-win y q, true-of {b = eqb x 1 || eqb 
 
 pub better-loss : (x y : ℕ) → ¬ Win x → ¬ Win y → ¬ (x ≡ 1) → ¬ (y ≡ 1) → better x y ≡ max x y
 unfolding better
-better-loss x y p q a b = let n : (eqb x 1 || eqb y 1) ≡ false = false-of (not-T (eqb x 1 || eqb y 1) (λ t. test (or-cases (eqb x 1) _ t))) in rw (no-win x p, no-win y q, n)
+better-loss x y p q a b = let n : (eqb x 1 || eqb y 1) ≡ false =
+    false-of (not-T (eqb x 1 || eqb y 1) (λ t. test (or-cases (eqb x 1) _ t))) in rw (no-win x p, no-win y q, n)
   where
     test : T (eqb x 1) ⊎ T (eqb y 1) → ⊥
     test (inl t) = a (eqb→eq x 1 t)

@@ -46,7 +46,9 @@ legal-take G zero p ms l = tt
 legal-take G (suc i) p [] l = tt
 legal-take G (suc i) p (m ∷ ms) l = (l .0, legal-take G i (G .play p m) ms (l .1))
 
-pub follows-take : (G : Game) (pick : G .Pos → Option (G .Move)) (side : Bool) (i : ℕ) (p : G .Pos) (ms : List (G .Move)) → Follows G pick side p ms → Follows G pick side p (take i ms)
+pub follows-take : (G : Game) (pick : G .Pos
+    → Option (G .Move)) (side : Bool) (i : ℕ) (p : G .Pos) (ms : List (G .Move)) → Follows G pick side p ms
+    → Follows G pick side p (take i ms)
 follows-take G pick side zero p ms f = tt
 follows-take G pick side (suc i) p [] f = tt
 follows-take G pick side (suc i) p (m ∷ ms) f = (f .0, follows-take G pick side i (G .play p m) ms (f .1))

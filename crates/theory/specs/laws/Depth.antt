@@ -29,19 +29,24 @@ module _ (G : Game) where
     pub none-shorter : (q : G .Pos) → q ∈ next G p → (m : ℕ) → LostIn G m q → n ≤ m
 
   pub win-is : (n : ℕ) (p : G .Pos) → WonIn G (suc n) p ↔ WinRule n p
-  win-is n p = (λ w. rule w (won-out G n p (w .within)), λ r. record { within = won-in G n p (r .to) (r .legal) (r .loss .within); least = λ m. shortest r m })
+  win-is n p = (
+    λ w. rule w (won-out G n p (w .within)),
+    λ r. record { within = won-in G n p (r .to) (r .legal) (r .loss .within); least = λ m. shortest r m },
+  )
     where
       rule : WonIn G (suc n) p → (q : G .Pos) × (q ∈ next G p) × T (lost G n q) → WinRule n p
       rule w o = record {
         to = o .0;
         legal = o .1;
-        loss = record { within = o .2; least = λ m t. le-of-suc-le-suc (w .least (suc m) (won-in G m p (o .0) (o .1) t)) };
+        loss =
+            record { within = o .2; least = λ m t. le-of-suc-le-suc (w .least (suc m) (won-in G m p (o .0) (o .1) t)) };
         none-shorter = λ q i m l. le-of-suc-le-suc (w .least (suc m) (won-in G m p q i (l .within)));
       }
 
       shortest : WinRule n p → (m : ℕ) → T (won G m p) → suc n ≤ m
       shortest r zero t = absurd (won-zero G p t)
-      shortest r (suc m) t = let o = won-out G m p t in let e = lost-exact G m (o .0) (o .2) in omega (arith, e .1, r .none-shorter (o .0) (o .1) (e .0) (e .2))
+      shortest r (suc m) t = let o = won-out G m p t in let e = lost-exact G m (o .0) (o .2) in
+          omega (arith, e .1, r .none-shorter (o .0) (o .1) (e .0) (e .2))
 
   -- A loss in n + 1: there are legal moves, each leads to a win in at most n, and one to a win in n.
   pub record LossRule (n : ℕ) (p : G .Pos) : Type 0 where
@@ -51,10 +56,18 @@ module _ (G : Game) where
     pub all-won : (q : G .Pos) → q ∈ next G p → (m : ℕ) × (m ≤ n) × WonIn G m q
 
   pub loss-is : (n : ℕ) (p : G .Pos) → LostIn G (suc n) p ↔ LossRule n p
-  loss-is n p = (λ l. rule n l (lost-out G n p (l .within)), λ r. record { within = lost-in G n p (all-of r); least = λ m. longest-needed r m })
+  loss-is n p = (
+    λ l. rule n l (lost-out G n p (l .within)),
+    λ r. record { within = lost-in G n p (all-of r); least = λ m. longest-needed r m },
+  )
     where
       all-of : LossRule n p → AllWon G n p
-      all-of r = record { to = r .to; legal = r .legal; each = λ q i. let e = r .all-won q i in won-le G (e .0) n q (e .1) (e .2 .within) }
+      all-of r = record {
+        to = r .to;
+        legal = r .legal;
+        each = λ q i. let e = r .all-won q i in
+            won-le G (e .0) n q (e .1) (e .2 .within);
+      }
 
       longest-needed : LossRule n p → (m : ℕ) → T (lost G m p) → suc n ≤ m
       longest-needed r zero t = absurd (mate-next G p (lost-zero G p .0 t) (r .to) (r .legal))
@@ -70,19 +83,31 @@ module _ (G : Game) where
       rule (suc k) l (inr a) = pick (decided (all (λ q. won G k q) (next G p)))
         where
           pick : T (all (λ q. won G k q) (next G p)) ⊎ T (not (all (λ q. won G k q) (next G p))) → LossRule (suc k) p
-          pick (inl t) = absurd (omega (arith, l .least (suc k) (lost-in G k p (record { to = a .to; legal = a .legal; each = λ q i. all-out (λ r. won G k r) i t }))))
+          pick (inl t) =
+              absurd (omega (
+                arith,
+                l .least (suc k)
+                    (lost-in G k p
+                    (record { to = a .to; legal = a .legal; each = λ q i. all-out (λ r. won G k r) i t })),
+              ))
           pick (inr t) = let f = all-fails (λ q. won G k q) (next G p) t in
               record {
                 to = f .0;
                 legal = f .1;
-                longest = record { within = a .each (f .0) (f .1); least = λ m. above (λ j. won G j (f .0)) (won-up G (f .0)) k m (f .2) };
+                longest = record {
+                  within = a .each (f .0) (f .1);
+                  least = λ m. above (λ j. won G j (f .0)) (won-up G (f .0)) k m (f .2);
+                };
                 all-won = λ q i. won-exact G (suc k) q (a .each q i);
               }
 
   -- Wins are odd, losses even.
   parity : (n : ℕ) → ((p : G .Pos) → WonIn G n p → n % 2 ≡ 1) × ((p : G .Pos) → LostIn G n p → n % 2 ≡ 0)
   parity zero = (λ p w. absurd (no-win-in-0 p w), λ p l. refl)
-  parity (suc n) = (λ p w. let r = win-is n p .0 w in omega (arith, parity n .1 (r .to) (r .loss)), λ p l. let r = loss-is n p .0 l in omega (arith, parity n .0 (r .to) (r .longest)))
+  parity (suc n) = (
+    λ p w. let r = win-is n p .0 w in omega (arith, parity n .1 (r .to) (r .loss)),
+    λ p l. let r = loss-is n p .0 l in omega (arith, parity n .0 (r .to) (r .longest)),
+  )
 
   pub won-odd : (n : ℕ) (p : G .Pos) → WonIn G n p → n % 2 ≡ 1
   won-odd n = parity n .0
@@ -107,7 +132,13 @@ module _ (G : Game) where
 
   -- A draw is what has no depth.
   pub draw-is : (p : G .Pos) → Drawn G p ↔ ((n : ℕ) → DepthIs G n p → ⊥)
-  draw-is p = (none, λ h. record { not-won = λ m t. let e = won-exact G m p t in h (e .0) (DepthIs.win (e .2)); not-lost = λ m t. let e = lost-exact G m p t in h (e .0) (DepthIs.loss (e .2)) })
+  draw-is p = (
+    none,
+    λ h. record {
+      not-won = λ m t. let e = won-exact G m p t in h (e .0) (DepthIs.win (e .2));
+      not-lost = λ m t. let e = lost-exact G m p t in h (e .0) (DepthIs.loss (e .2));
+    },
+  )
     where
       none : Drawn G p → (n : ℕ) → DepthIs G n p → ⊥
       none d n (DepthIs.win a) = d .not-won n (a .within)

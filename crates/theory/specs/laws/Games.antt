@@ -21,7 +21,8 @@ use Rattle.theory.specs.Play.{suits, LegalGame, after, atPly, IsMated, C
 use Rattle.theory.specs.laws.Choice.{suits-less, legal-take, follows-take}
 use Rattle.theory.specs.laws.OnePly.{sides, one-side, Safe, Winning, rule-live, mate-two, two-mated, over-decided, answered-at, safe-ply, winning-ply}
 
-module _ (G : Game) (D : G .Pos → Type 0) (closed : Closed G D) (reads : G .Pos → ℕ) (ok : Consistent G D reads) (pick : G .Pos → Option (G .Move)) (choice : Chooses G D reads pick) where
+module _ (G : Game) (D : G .Pos → Type 0) (closed : Closed G D) (reads : G .Pos → ℕ) (ok : Consistent G D reads)
+    (pick : G .Pos → Option (G .Move)) (choice : Chooses G D reads pick) where
   -- a move stays within D
   onward : (p : G .Pos) → D p → (m : G .Move) → m ∈ G .moves p → D (G .play p m)
   onward p d m i = closed p (G .play p m) d (map-in (G .play p) i)
@@ -31,14 +32,19 @@ module _ (G : Game) (D : G .Pos → Type 0) (closed : Closed G D) (reads : G .Po
   stays p (m ∷ ms) d l = stays (G .play p m) ms (onward p d m (l .0)) (l .1)
 
   -- safe for more plies than the game has: not mated at its end
-  safe-game : (side : Bool) (p : G .Pos) (ms : List (G .Move)) (k : ℕ) → D p → LegalGame G p ms → Follows G pick side p ms → Safe G reads k side p → length ms < k → IsMated G side (after G p ms) → ⊥
+  safe-game : (side : Bool) (p : G .Pos) (ms : List (G .Move)) (k : ℕ) → D p → LegalGame G p ms
+      → Follows G pick side p ms → Safe G reads k side p → length ms < k → IsMated G side (after G p ms) → ⊥
   unfolding Safe
-  safe-game side p [] k d l c s h x = let e = mate-two G D closed reads ok pick choice p d (x .0) in omega (arith, s .0 (x .1) (omega arith))
+  safe-game side p [] k d l c s h x =
+      let e = mate-two G D closed reads ok pick choice p d (x .0) in omega (arith, s .0 (x .1) (omega arith))
   safe-game side p (m ∷ ms) zero d l c s h x = omega arith
-  safe-game side p (m ∷ ms) (suc k) d l c s h x = safe-game side (G .play p m) ms k (onward p d m (l .0)) (l .1) (c .1) (safe-ply G D closed reads ok pick choice side p d m (l .0) (c .0) k s) (omega arith) x
+  safe-game side p (m ∷ ms) (suc k) d l c s h x =
+      safe-game side (G .play p m) ms k (onward p d m (l .0)) (l .1) (c .1)
+      (safe-ply G D closed reads ok pick choice side p d m (l .0) (c .0) k s) (omega arith) x
 
   -- winning: the byte falls by at least 1 with each ply
-  countdown : (side : Bool) (p : G .Pos) (ms : List (G .Move)) → D p → LegalGame G p ms → Follows G pick side p ms → Winning G reads side p → Winning G reads side (after G p ms) × (length ms + reads (after G p ms) ≤ reads p)
+  countdown : (side : Bool) (p : G .Pos) (ms : List (G .Move)) → D p → LegalGame G p ms → Follows G pick side p ms
+      → Winning G reads side p → Winning G reads side (after G p ms) × (length ms + reads (after G p ms) ≤ reads p)
   countdown side p [] d l c w = (w, omega arith)
   countdown side p (m ∷ ms) d l c w =
       let s = winning-ply G D closed reads ok pick choice side p d m (l .0) (c .0) w in
@@ -46,11 +52,15 @@ module _ (G : Game) (D : G .Pos → Type 0) (closed : Closed G D) (reads : G .Po
       (r .0, omega (arith, s .1, r .1))
 
   -- both follow: the byte falls by exactly 1 with each ply
-  both-countdown : (side : Bool) (p : G .Pos) (ms : List (G .Move)) → D p → LegalGame G p ms → Follows G pick side p ms → Follows G pick (not side) p ms → 2 ≤ reads p → (length ms + reads (after G p ms) ≡ reads p) × (2 ≤ reads (after G p ms))
+  both-countdown : (side : Bool) (p : G .Pos) (ms : List (G .Move)) → D p → LegalGame G p ms → Follows G pick side p ms
+      → Follows G pick (not side) p ms → 2 ≤ reads p
+      → (length ms + reads (after G p ms) ≡ reads p) × (2 ≤ reads (after G p ms))
   both-countdown side p [] d l a b h = (omega arith, h)
   both-countdown side p (m ∷ ms) d l a b h =
-      let e : 1 + reads (G .play p m) ≡ reads p = suits-less (reads p) (reads (G .play p m)) h (go (sides (G .turn p) side)) in
-      let r = both-countdown side (G .play p m) ms (onward p d m (l .0)) (l .1) (a .1) (b .1) (live (rule-live G D closed reads ok pick choice p d m (l .0))) in
+      let e : 1 + reads (G .play p m) ≡ reads p =
+      suits-less (reads p) (reads (G .play p m)) h (go (sides (G .turn p) side)) in
+      let r = both-countdown side (G .play p m) ms (onward p d m (l .0)) (l .1) (a .1) (b .1)
+      (live (rule-live G D closed reads ok pick choice p d m (l .0))) in
       (omega (arith, r .0), r .1)
     where
       go : (G .turn p ≡ side) ⊎ (G .turn p ≡ not side) → T (suits (reads p) (reads (G .play p m)))
@@ -59,8 +69,10 @@ module _ (G : Game) (D : G .Pos → Type 0) (closed : Closed G D) (reads : G .Po
 
       -- what is decided and has moves is deeper than mate
       live : Rule (map reads (next G p)) (reads p) false → 2 ≤ reads (G .play p m)
-      live (Rule.wins c n k f e) = let z = suits-less (reads p) (reads (G .play p m)) h (go (sides (G .turn p) side)) in omega arith
-      live (Rule.loses c n f e) = let z = suits-less (reads p) (reads (G .play p m)) h (go (sides (G .turn p) side)) in omega (arith, f c n .0 .0)
+      live (Rule.wins c n k f e) =
+          let z = suits-less (reads p) (reads (G .play p m)) h (go (sides (G .turn p) side)) in omega arith
+      live (Rule.loses c n f e) = let z = suits-less (reads p) (reads (G .play p m)) h (go (sides (G .turn p) side)) in
+          omega (arith, f c n .0 .0)
       live (Rule.draws c n k f e) = absurd (omega arith)
       live (Rule.stalemate z e) = absurd (omega arith)
 
@@ -85,7 +97,8 @@ module _ (G : Game) (D : G .Pos → Type 0) (closed : Closed G D) (reads : G .Po
   depth-of : (p : G .Pos) → D p → 2 ≤ reads p → DepthIs G (reads p - 2) p
   depth-of p d h = consistent-depth G D closed reads ok p d (reads p - 2) .0 (omega arith)
 
-  module _ (side : Bool) (p : G .Pos) (ms : List (G .Move)) (d : D p) (l : LegalGame G p ms) (c : Follows G pick side p ms) where
+  module _ (side : Bool) (p : G .Pos) (ms : List (G .Move)) (d : D p) (l : LegalGame G p ms)
+      (c : Follows G pick side p ms) where
     abbrev last : G .Pos
     last = after G p ms
 
@@ -110,20 +123,29 @@ module _ (G : Game) (D : G .Pos → Type 0) (closed : Closed G D) (reads : G .Po
           over-mated = λ o. mated-other side last at (r .0) (over-decided G D closed reads ok pick choice last at o h);
           falls = λ i k.
               let s = countdown side p (take i ms) d (legal-take G i p ms l) (follows-take G pick side i p ms c) w in
-              let t = winning-two side (atPly G p ms i) (s .0) in
-              (reads (atPly G p ms i) - 2, omega (arith, s .1, length-take-le i ms k), depth-of (atPly G p ms i) (here i) t);
+              let t = winning-two side (atPly G p ms i) (s .0) in (
+                reads (atPly G p ms i) - 2,
+                omega (arith, s .1, length-take-le i ms k),
+                depth-of (atPly G p ms i) (here i) t,
+              );
         }
 
     won-winning : (n : ℕ) → WonIn G n p → G .turn p ≡ side → Winning G reads side p
     unfolding Winning
-    won-winning n w e = (λ f. omega (arith, depth-byte n (DepthIs.win w), won-odd G n p w), λ f. absurd (one-side (G .turn p) side e f))
+    won-winning n w e =
+        (λ f. omega (arith, depth-byte n (DepthIs.win w), won-odd G n p w), λ f. absurd (one-side (G .turn p) side e f))
 
     lost-winning : (n : ℕ) → LostIn G n p → G .turn p ≡ not side → Winning G reads side p
     unfolding Winning
-    lost-winning n w e = (λ f. absurd (one-side (G .turn p) side f e), λ f. omega (arith, depth-byte n (DepthIs.loss w), lost-even G n p w))
+    lost-winning n w e = (
+      λ f. absurd (one-side (G .turn p) side f e),
+      λ f. omega (arith, depth-byte n (DepthIs.loss w), lost-even G n p w),
+    )
 
     unmated : (n : ℕ) → Safe G reads n side p → Unmated G side p ms n
-    unmated n s i h k x = safe-game side p (take i ms) n d (legal-take G i p ms l) (follows-take G pick side i p ms c) s (omega (arith, length-take-le i ms h)) x
+    unmated n s i h k x =
+        safe-game side p (take i ms) n d (legal-take G i p ms l) (follows-take G pick side i p ms c) s
+        (omega (arith, length-take-le i ms h)) x
 
     -- a byte 2 + n is safe for n plies, and a draw for any number
     safe-depth : (n : ℕ) → DepthIs G n p → Safe G reads n side p
@@ -141,10 +163,19 @@ module _ (G : Game) (D : G .Pos → Type 0) (closed : Closed G D) (reads : G .Po
         let at : D last = stays p ms d l in
         record {
           falls = λ i h.
-              let s = both-countdown side p (take i ms) d (legal-take G i p ms l) (follows-take G pick side i p ms c) (follows-take G pick (not side) i p ms b) (omega arith) in
+              let s = both-countdown side p (take i ms) d (legal-take G i p ms l) (follows-take G pick side i p ms c)
+              (follows-take G pick (not side) i p ms b) (omega arith) in
               let z : reads (atPly G p ms i) - 2 ≡ n - i = omega (arith, s .0, s .1, length-take-le i ms h) in
               (omega (arith, s .0, s .1, length-take-le i ms h), rw z at (depth-of (atPly G p ms i) (here i) (s .1)));
-          over-at = (λ o. omega (arith, r .0, mate-two G D closed reads ok pick choice last at (over-decided G D closed reads ok pick choice last at o (r .1))), λ f. G .mate-ends last (two-mated G D closed reads ok pick choice last at (omega (arith, r .0))));
+          over-at = (
+            λ o. omega (
+              arith,
+              r .0,
+              mate-two G D closed reads ok pick choice last at
+                  (over-decided G D closed reads ok pick choice last at o (r .1)),
+            ),
+            λ f. G .mate-ends last (two-mated G D closed reads ok pick choice last at (omega (arith, r .0))),
+          );
         }
 
     -- The table is consistent on positions D closed under moves, p is one of them, ms is a game from p, and the side follows in it.

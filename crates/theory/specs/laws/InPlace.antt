@@ -1,12 +1,12 @@
 -- A pass may write in place: turning some bytes 1 into 2 + k, on any bytes at all, changes no verdict "depth k is required".
-use mathlib.Core.Path.{_≡_, refl, sym, subst, _∙_}
+use mathlib.Core.Path.{_≡_, sym, _∙_}
 use mathlib.Core.Logic.{_⊎_, inl, inr, _↔_}
-use mathlib.Core.Bool.{Bool, false}
+use mathlib.Core.Bool.{Bool}
 use mathlib.Core.List.{List, map, Memᴰ·cast}
-use Prim.Native.Nat.{ℕ, _+_, _%_, _≤_}
+use Prim.Native.Nat.{ℕ, _+_, _≤_}
 use native.Mathlib.Omega.{arith}
-use Rattle.finite.specs.Members.{_∈_, map-in, map-out, none-in}
-use Rattle.theory.specs.Required.{Win, Loss, Draw, Rule, required}
+use Rattle.finite.specs.Members.{_∈_, map-in, map-out}
+use Rattle.theory.specs.Required.{Win, Rule, required}
 use Rattle.theory.specs.laws.RuleLaws.{required-rule, rule-one}
 
 -- a byte as it stands during pass k: as it was, or just settled
@@ -31,21 +31,24 @@ module _ {A : Type 0} (k : ℕ) (was is : A → ℕ) (l : List A) (same : (x : A
 
   forth : {mate : Bool} → Rule (map was l) (2 + k) mate → Rule (map is l) (2 + k) mate
   forth (Rule.checkmate e) = Rule.checkmate e
-  forth (Rule.wins b m h f e) = Rule.wins b (from-was b m (λ z. omega arith)) h (λ c n j. f c (from-is c n (λ z. omega arith)) j) e
+  forth (Rule.wins b m h f e) =
+      Rule.wins b (from-was b m (λ z. omega arith)) h (λ c n j. f c (from-is c n (λ z. omega arith)) j) e
   forth (Rule.loses b m f e) = Rule.loses b (from-was b m (λ z. omega (arith, f b m .0 .0))) (λ c n. here c n) e
     where
       here : (c : ℕ) → c ∈ map is l → Win c × (c ≤ b)
       here c n = let o = map-out is c l n in go (o .0) (o .1) (o .2) (same (o .0) (o .1))
         where
           go : (x : A) → x ∈ l → c ≡ is x → Settling k (was x) (is x) → Win c × (c ≤ b)
-          go x i d (inl s) = let w = f (was x) (map-in was i) in (omega (arith, w .0, d ∙ s), omega (arith, w .1, d ∙ s))
+          go x i d (inl s) =
+              let w = f (was x) (map-in was i) in (omega (arith, w .0, d ∙ s), omega (arith, w .1, d ∙ s))
           go x i d (inr s) = absurd (omega (arith, f (was x) (map-in was i) .0 .0, s .0))
   forth (Rule.draws b m d f e) = absurd (omega arith)
   forth (Rule.stalemate z e) = absurd (omega arith)
 
   back : {mate : Bool} → Rule (map is l) (2 + k) mate → Rule (map was l) (2 + k) mate
   back (Rule.checkmate e) = Rule.checkmate e
-  back (Rule.wins b m h f e) = Rule.wins b (from-is b m (λ z. omega arith)) h (λ c n j. f c (from-was c n (λ z. omega arith)) j) e
+  back (Rule.wins b m h f e) =
+      Rule.wins b (from-is b m (λ z. omega arith)) h (λ c n j. f c (from-was c n (λ z. omega arith)) j) e
   back (Rule.loses b m f e) = Rule.loses b (from-is b m (λ z. omega arith)) (λ c n. here c n) e
     where
       here : (c : ℕ) → c ∈ map was l → Win c × (c ≤ b)
@@ -58,4 +61,7 @@ module _ {A : Type 0} (k : ℕ) (was is : A → ℕ) (l : List A) (same : (x : A
   back (Rule.stalemate z e) = absurd (omega arith)
 
   pub in-place : (mate : Bool) → (required mate (map was l) ≡ 2 + k) ↔ (required mate (map is l) ≡ 2 + k)
-  in-place mate = (λ e. rule-one (required-rule mate (map is l)) (forth (rw e at (required-rule mate (map was l)))), λ e. rule-one (required-rule mate (map was l)) (back (rw e at (required-rule mate (map is l)))))
+  in-place mate = (
+    λ e. rule-one (required-rule mate (map is l)) (forth (rw e at (required-rule mate (map was l)))),
+    λ e. rule-one (required-rule mate (map was l)) (back (rw e at (required-rule mate (map is l)))),
+  )

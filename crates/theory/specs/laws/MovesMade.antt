@@ -1,14 +1,14 @@
 -- "Document 003 counts the winner's moves: that is (n + 1) / 2, rounded down" (01): in a game of n plies from a position decided in n, that many moves
 -- are the winner's.
-use mathlib.Core.Path.{_≡_, refl, sym, ap, _∙_}
+use mathlib.Core.Path.{_≡_, refl, ap, _∙_}
 use mathlib.Core.Bool.{Bool, Bool·beq, true, false, not, cond}
 use mathlib.Core.List.{List, [], _∷_}
-use Prim.Native.Nat.{ℕ, zero, suc, _+_, _/_}
+use Prim.Native.Nat.{ℕ, suc, _+_, _/_}
 use native.Mathlib.Omega.{arith}
 use lib.ListN.{length}
 use Rattle.theory.specs.Game.{Game}
 use Rattle.theory.specs.Value.{WonIn, LostIn}
-use Rattle.theory.specs.laws.Depth.{won-odd, lost-even}
+use Rattle.theory.specs.laws.Depth.{lost-even}
 use Rattle.theory.specs.Play.{LegalGame}
 
 -- the moves of the winner from a position decided in n plies
@@ -22,13 +22,16 @@ module _ (G : Game) where
   movesBy side p (m ∷ ms) = cond (Bool·beq side (G .turn p)) 1 0 + movesBy side (G .play p m) ms
 
   -- sides take turns, and the side to move has the first
-  half : (side turn : Bool) (n : ℕ) → cond (Bool·beq side turn) 1 0 + cond (Bool·beq side (not turn)) ((n + 1) / 2) (n / 2) ≡ cond (Bool·beq side turn) ((suc n + 1) / 2) (suc n / 2)
+  half : (side turn : Bool) (n : ℕ)
+      → cond (Bool·beq side turn) 1 0 + cond (Bool·beq side (not turn)) ((n + 1) / 2) (n / 2)
+      ≡ cond (Bool·beq side turn) ((suc n + 1) / 2) (suc n / 2)
   half true true n = omega arith
   half true false n = omega arith
   half false true n = omega arith
   half false false n = omega arith
 
-  shared : (side : Bool) (p : G .Pos) (ms : List (G .Move)) → LegalGame G p ms → movesBy side p ms ≡ cond (Bool·beq side (G .turn p)) ((length ms + 1) / 2) (length ms / 2)
+  shared : (side : Bool) (p : G .Pos) (ms : List (G .Move)) → LegalGame G p ms
+      → movesBy side p ms ≡ cond (Bool·beq side (G .turn p)) ((length ms + 1) / 2) (length ms / 2)
   unfolding movesBy
   shared side p [] l = zero-moves (Bool·beq side (G .turn p))
     where
@@ -37,7 +40,8 @@ module _ (G : Game) where
       zero-moves false = refl
   shared side p (m ∷ ms) l =
       ap (λ (k : ℕ). cond (Bool·beq side (G .turn p)) 1 0 + k)
-      (shared side (G .play p m) ms (l .1) ∙ ap (λ (t : Bool). cond (Bool·beq side t) ((length ms + 1) / 2) (length ms / 2)) (G .alternates p m (l .0)))
+      (shared side (G .play p m) ms (l .1)
+      ∙ ap (λ (t : Bool). cond (Bool·beq side t) ((length ms + 1) / 2) (length ms / 2)) (G .alternates p m (l .0)))
       ∙ half side (G .turn p) (length ms)
 
   own : (side turn : Bool) (n k : ℕ) → turn ≡ side → cond (Bool·beq side turn) n k ≡ n

@@ -35,13 +35,15 @@ one-side a false e f = true-not-false f e
 module _ (G : Game) (reads : G .Pos → ℕ) where
   -- Safe for k plies: where the side is to move and lost, or the other is to move and won, the depth is at least k.
   unfoldable pub Safe : ℕ → Bool → G .Pos → Type 0
-  Safe k side p = (G .turn p ≡ side → Loss (reads p) → 2 + k ≤ reads p) × (G .turn p ≡ not side → Win (reads p) → 2 + k ≤ reads p)
+  Safe k side p =
+      (G .turn p ≡ side → Loss (reads p) → 2 + k ≤ reads p) × (G .turn p ≡ not side → Win (reads p) → 2 + k ≤ reads p)
 
   -- The side is winning.
   unfoldable pub Winning : Bool → G .Pos → Type 0
   Winning side p = (G .turn p ≡ side → Win (reads p)) × (G .turn p ≡ not side → Loss (reads p))
 
-module _ (G : Game) (D : G .Pos → Type 0) (closed : Closed G D) (reads : G .Pos → ℕ) (ok : Consistent G D reads) (pick : G .Pos → Option (G .Move)) (choice : Chooses G D reads pick) where
+module _ (G : Game) (D : G .Pos → Type 0) (closed : Closed G D) (reads : G .Pos → ℕ) (ok : Consistent G D reads)
+    (pick : G .Pos → Option (G .Move)) (choice : Chooses G D reads pick) where
   -- ---- one position
 
   rule-of : (p : G .Pos) → D p → Rule (map reads (next G p)) (reads p) (G .mated p)
@@ -52,7 +54,8 @@ module _ (G : Game) (D : G .Pos → Type 0) (closed : Closed G D) (reads : G .Po
 
   -- where there is a move it is not mate
   pub rule-live : (p : G .Pos) → D p → (m : G .Move) → m ∈ G .moves p → Rule (map reads (next G p)) (reads p) false
-  rule-live p d m i = let e : G .mated p ≡ false = false-of (not-T (G .mated p) (λ t. mate-next G p t (G .play p m) (played p m i))) in rw e at (rule-of p d)
+  rule-live p d m i = let e : G .mated p ≡ false =
+      false-of (not-T (G .mated p) (λ t. mate-next G p t (G .play p m) (played p m i))) in rw e at (rule-of p d)
 
   pub mate-two : (p : G .Pos) → D p → T (G .mated p) → reads p ≡ 2
   mate-two p d t = consistent-depth G D closed reads ok p d 0 .1 (DepthIs.loss (mate-is G p .1 t))
@@ -79,7 +82,8 @@ module _ (G : Game) (D : G .Pos → Type 0) (closed : Closed G D) (reads : G .Po
       go false (Rule.stalemate z e) = omega arith
 
   -- a successor's byte that suits is found
-  suits-in : (p : G .Pos) → D p → (b : ℕ) → b ∈ map reads (next G p) → T (suits (reads p) b) → (m : G .Move) × (pick p ≡ some m) × (m ∈ G .moves p)
+  suits-in : (p : G .Pos) → D p → (b : ℕ) → b ∈ map reads (next G p) → T (suits (reads p) b)
+      → (m : G .Move) × (pick p ≡ some m) × (m ∈ G .moves p)
   suits-in p d b i t =
       let q = map-out reads b (next G p) i in
       let m = map-out (G .play p) (q .0) (G .moves p) (q .1) in
@@ -87,23 +91,28 @@ module _ (G : Game) (D : G .Pos → Type 0) (closed : Closed G D) (reads : G .Po
       let f = choice .total p d (m .0) (m .1) (rw e at t) in
       (f .0, f .1, choice .sound p d (f .0) (f .1) .0)
 
-  finds : (p : G .Pos) → D p → Rule (map reads (next G p)) (reads p) false → (q : G .Pos) → q ∈ next G p → (m : G .Move) × (pick p ≡ some m) × (m ∈ G .moves p)
+  finds : (p : G .Pos) → D p → Rule (map reads (next G p)) (reads p) false → (q : G .Pos) → q ∈ next G p
+      → (m : G .Move) × (pick p ≡ some m) × (m ∈ G .moves p)
   finds p x (Rule.wins b i l f e) q j = suits-in p x b i (less-suits (reads p) b (omega arith) (omega arith))
-  finds p x (Rule.loses b i f e) q j = suits-in p x b i (less-suits (reads p) b (omega (arith, f b i .0 .0)) (omega arith))
+  finds p x (Rule.loses b i f e) q j =
+      suits-in p x b i (less-suits (reads p) b (omega (arith, f b i .0 .0)) (omega arith))
   finds p x (Rule.draws b i d f e) q j = suits-in p x b i (draw-suits (reads p) b (omega arith) d)
   finds p x (Rule.stalemate z e) q j = absurd (none-in z (map-in reads j))
 
   -- each position of D is answered
   pub answered-at : (p : G .Pos) → D p → Answered G reads pick p
-  answered-at p d = record { truth = consistent-true G D closed reads ok p d; accepted = ok p d; goes-on = go (nil-or (G .moves p)) }
+  answered-at p d =
+      record { truth = consistent-true G D closed reads ok p d; accepted = ok p d; goes-on = go (nil-or (G .moves p)) }
     where
-      go : (G .moves p ≡ []) ⊎ ((m : G .Move) × (m ∈ G .moves p)) → Over G p ⊎ ((m : G .Move) × (pick p ≡ some m) × (m ∈ G .moves p))
+      go : (G .moves p ≡ []) ⊎ ((m : G .Move) × (m ∈ G .moves p))
+          → Over G p ⊎ ((m : G .Move) × (pick p ≡ some m) × (m ∈ G .moves p))
       go (inl e) = inl e
       go (inr x) = inr (finds p d (rule-live p d (x .0) (x .1)) (G .play p (x .0)) (played p (x .0) (x .1)))
 
   -- ---- one ply, from p by m to q, the mover following if it is the side's turn
 
-  module _ (side : Bool) (p : G .Pos) (d : D p) (m : G .Move) (i : m ∈ G .moves p) (follows : G .turn p ≡ side → pick p ≡ some m) where
+  module _ (side : Bool) (p : G .Pos) (d : D p) (m : G .Move) (i : m ∈ G .moves p)
+      (follows : G .turn p ≡ side → pick p ≡ some m) where
     abbrev q : G .Pos
     q = G .play p m
 
@@ -134,8 +143,15 @@ module _ (G : Game) (D : G .Pos → Type 0) (closed : Closed G D) (reads : G .Po
     safe-ply k s = go (sides (G .turn p) side)
       where
         go : (G .turn p ≡ side) ⊎ (G .turn p ≡ not side) → Safe G reads k side q
-        go (inl e) = (λ f. absurd (one-side (G .turn q) side f (own-ply e)), λ f w. let r = from-own e w (kind (reads p)) in omega (arith, s .0 e (r .1), r .0))
-        go (inr e) = (λ f l. let r = from-other (rule-live p d m i) l in omega (arith, s .1 e (r .1), r .0), λ f. absurd (one-side (G .turn q) side (other-ply e) f))
+        go (inl e) = (
+          λ f. absurd (one-side (G .turn q) side f (own-ply e)),
+          λ f w. let r = from-own e w (kind (reads p)) in
+              omega (arith, s .0 e (r .1), r .0),
+        )
+        go (inr e) = (
+          λ f l. let r = from-other (rule-live p d m i) l in omega (arith, s .1 e (r .1), r .0),
+          λ f. absurd (one-side (G .turn q) side (other-ply e) f),
+        )
 
     -- from a loss every move leads to a win, at least one ply less deep
     from-lost : Rule (map reads (next G p)) (reads p) false → Loss (reads p) → (1 + reads q ≤ reads p) × Win (reads q)

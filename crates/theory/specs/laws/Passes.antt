@@ -30,9 +30,14 @@ module _ (G : Game) where
     done : (n : ℕ) → n < k → DepthIs G n p → b ≡ 2 + n → Settled k p b
 
   -- not below k, and won or lost within k: depth k
-  reached : (k : ℕ) (p : G .Pos) → ((n : ℕ) → n < k → DepthIs G n p → ⊥) → T (won G k p) ⊎ T (lost G k p) → DepthIs G k p
-  reached k p none (inl t) = let e = won-exact G k p t in let h : ¬ (e .0 < k) = λ l. none (e .0) l (DepthIs.win (e .2)) in let z : e .0 ≡ k = omega (arith, e .1) in subst (λ (n : ℕ). DepthIs G n p) z (DepthIs.win (e .2))
-  reached k p none (inr t) = let e = lost-exact G k p t in let h : ¬ (e .0 < k) = λ l. none (e .0) l (DepthIs.loss (e .2)) in let z : e .0 ≡ k = omega (arith, e .1) in subst (λ (n : ℕ). DepthIs G n p) z (DepthIs.loss (e .2))
+  reached : (k : ℕ) (p : G .Pos) → ((n : ℕ) → n < k → DepthIs G n p → ⊥) → T (won G k p) ⊎ T (lost G k p)
+      → DepthIs G k p
+  reached k p none (inl t) = let e = won-exact G k p t in let h : ¬ (e .0 < k) =
+      λ l. none (e .0) l (DepthIs.win (e .2)) in let z : e .0 ≡ k = omega (arith, e .1) in
+      subst (λ (n : ℕ). DepthIs G n p) z (DepthIs.win (e .2))
+  reached k p none (inr t) = let e = lost-exact G k p t in let h : ¬ (e .0 < k) =
+      λ l. none (e .0) l (DepthIs.loss (e .2)) in let z : e .0 ≡ k = omega (arith, e .1) in
+      subst (λ (n : ℕ). DepthIs G n p) z (DepthIs.loss (e .2))
 
   within : (n k : ℕ) (p : G .Pos) → n ≤ k → DepthIs G n p → T (won G k p || lost G k p)
   within n k p h (DepthIs.win w) = or-left (won G k p) _ (won-le G n k p h (w .within))
@@ -46,9 +51,12 @@ module _ (G : Game) where
       no-pass : (n : ℕ) → n < suc k → T (not (won G k p || lost G k p)) → DepthIs G n p → ⊥
       no-pass n h t d = T-not (won G k p || lost G k p) t (within n k p (omega arith) d)
 
-      at-one : ((n : ℕ) → n < k → DepthIs G n p → ⊥) → T (won G k p || lost G k p) ⊎ T (not (won G k p || lost G k p)) → Settled (suc k) p (cond (won G k p || lost G k p) (2 + k) 1)
-      at-one none (inl t) = let e : (won G k p || lost G k p) ≡ true = true-of t in rw e (Settled.done k (omega arith) (reached k p none (or-cases (won G k p) _ t)) refl)
-      at-one none (inr t) = let e : (won G k p || lost G k p) ≡ false = false-of t in rw e (Settled.yet (λ n h d. no-pass n h t d) refl)
+      at-one : ((n : ℕ) → n < k → DepthIs G n p → ⊥) → T (won G k p || lost G k p) ⊎ T (not (won G k p || lost G k p))
+          → Settled (suc k) p (cond (won G k p || lost G k p) (2 + k) 1)
+      at-one none (inl t) = let e : (won G k p || lost G k p) ≡ true = true-of t in
+          rw e (Settled.done k (omega arith) (reached k p none (or-cases (won G k p) _ t)) refl)
+      at-one none (inr t) =
+          let e : (won G k p || lost G k p) ≡ false = false-of t in rw e (Settled.yet (λ n h d. no-pass n h t d) refl)
 
       go : (b : ℕ) → Settled k p b → Settled (suc k) p (cond (eqb b 1 && (won G k p || lost G k p)) (2 + k) b)
       go b (Settled.yet none e) = rw e (at-one none (decided (won G k p || lost G k p)))
@@ -62,13 +70,17 @@ module _ (G : Game) where
     where
       go : Settled k p (settled k p) → (settled k p ≡ 2 + n) ↔ DepthIs G n p
       go (Settled.yet none e) = (λ d. absurd (omega arith), λ d. absurd (none n h d))
-      go (Settled.done m l d e) = (λ f. let z : m ≡ n = omega arith in rw z at d, λ f. let z = one-depth G m n p d f in omega arith)
+      go (Settled.done m l d e) =
+          (λ f. let z : m ≡ n = omega arith in rw z at d, λ f. let z = one-depth G m n p d f in omega arith)
 
   -- Pass k, from bytes that are right about the depths below k at the successors (those after k passes, or a finished table's): a position
   -- that holds 1 gets 2 + k where the rule requires depth k.
-  pub pass-from : (reads : G .Pos → ℕ) (k : ℕ) (p : G .Pos) → ((q : G .Pos) → q ∈ next G p → RightBelow G reads k q) → settled (suc k) p ≡ cond (eqb (settled k p) 1 && eqb (requiredAt G reads p) (2 + k)) (2 + k) (settled k p)
+  pub pass-from : (reads : G .Pos → ℕ) (k : ℕ) (p : G .Pos) → ((q : G .Pos) → q ∈ next G p → RightBelow G reads k q)
+      → settled (suc k) p ≡ cond (eqb (settled k p) 1 && eqb (requiredAt G reads p) (2 + k)) (2 + k) (settled k p)
   unfolding settled
-  pass-from reads k p right = ap (λ (b : Bool). cond b (2 + k) (settled k p)) (same-test (one && (won G k p || lost G k p)) (one && eqb (requiredAt G reads p) (2 + k)) there back)
+  pass-from reads k p right =
+      ap (λ (b : Bool). cond b (2 + k) (settled k p))
+      (same-test (one && (won G k p || lost G k p)) (one && eqb (requiredAt G reads p) (2 + k)) there back)
     where
       one : Bool
       one = eqb (settled k p) 1
@@ -81,12 +93,17 @@ module _ (G : Game) where
       open-yet (Settled.done m l d e) t = absurd (omega (arith, eqb→eq (settled k p) 1 t))
 
       there : T (one && (won G k p || lost G k p)) → T (one && eqb (requiredAt G reads p) (2 + k))
-      there t = and-both one _ (and-left one _ t) (eq-test (rule .1 (reached k p (open-yet (settled-is k p) (and-left one _ t)) (or-cases (won G k p) _ (and-right one _ t)))))
+      there t = and-both one _ (and-left one _ t)
+          (eq-test
+          (rule .1
+          (reached k p (open-yet (settled-is k p) (and-left one _ t)) (or-cases (won G k p) _ (and-right one _ t)))))
 
       back : T (one && eqb (requiredAt G reads p) (2 + k)) → T (one && (won G k p || lost G k p))
-      back t = and-both one _ (and-left one _ t) (within k k p (omega arith) (rule .0 (eqb→eq _ (2 + k) (and-right one _ t))))
+      back t = and-both one _ (and-left one _ t)
+          (within k k p (omega arith) (rule .0 (eqb→eq _ (2 + k) (and-right one _ t))))
 
-  pub pass : (k : ℕ) (p : G .Pos) → settled (suc k) p ≡ cond (eqb (settled k p) 1 && eqb (requiredAt G (settled k) p) (2 + k)) (2 + k) (settled k p)
+  pub pass : (k : ℕ) (p : G .Pos)
+      → settled (suc k) p ≡ cond (eqb (settled k p) 1 && eqb (requiredAt G (settled k) p) (2 + k)) (2 + k) (settled k p)
   pass k p = pass-from (settled k) k p (λ q i. settled-right k q)
 
   -- Pass k settles p exactly where the depth is k ..
@@ -104,8 +121,10 @@ module _ (G : Game) where
   module _ (D : G .Pos → Type 0) (closed : Closed G D) where
     -- a position of depth n + 1 has a successor of depth n: no depth is skipped
     pub shallower : (n : ℕ) (p : G .Pos) → D p → DepthIs G (suc n) p → (q : G .Pos) × D q × DepthIs G n q
-    shallower n p d (DepthIs.win w) = let r = win-is G n p .0 w in (r .to, closed p (r .to) d (r .legal), DepthIs.loss (r .loss))
-    shallower n p d (DepthIs.loss l) = let r = loss-is G n p .0 l in (r .to, closed p (r .to) d (r .legal), DepthIs.win (r .longest))
+    shallower n p d (DepthIs.win w) =
+        let r = win-is G n p .0 w in (r .to, closed p (r .to) d (r .legal), DepthIs.loss (r .loss))
+    shallower n p d (DepthIs.loss l) =
+        let r = loss-is G n p .0 l in (r .to, closed p (r .to) d (r .legal), DepthIs.win (r .longest))
 
     -- so a depth above k somewhere in D means the depth k somewhere in D
     pub deep-down : (n k : ℕ) (p : G .Pos) → D p → DepthIs G (n + k) p → (q : G .Pos) × D q × DepthIs G k q
@@ -113,7 +132,8 @@ module _ (G : Game) where
     deep-down (suc n) k p d h = let q = shallower (n + k) p d (rw suc-add at h) in deep-down n k (q .0) (q .1) (q .2)
 
     -- No position of D has depth k: then nothing is settled later, and every depth in D is below k.
-    pub all-below : (k : ℕ) → ((p : G .Pos) → D p → DepthIs G k p → ⊥) → (n : ℕ) (p : G .Pos) → D p → DepthIs G n p → n < k
+    pub all-below : (k : ℕ) → ((p : G .Pos) → D p → DepthIs G k p → ⊥) → (n : ℕ) (p : G .Pos) → D p → DepthIs G n p
+        → n < k
     all-below k none n p d h = go (decided (leb k n))
       where
         go : T (leb k n) ⊎ T (not (leb k n)) → n < k
@@ -137,5 +157,7 @@ module _ (G : Game) where
       pub most : (m : ℕ) (p : G .Pos) → D p → DepthIs G m p → m ≤ n
 
     -- Pass n settles a position and pass n + 1 none: the greatest depth is n.
-    pub greatest : (n : ℕ) (p : G .Pos) → D p → DepthIs G n p → ((q : G .Pos) → D q → DepthIs G (suc n) q → ⊥) → Greatest n
-    greatest n p d h none = record { position = p; inside = d; depth = h; most = λ m q e k. omega (arith, all-below (suc n) none m q e k) }
+    pub greatest : (n : ℕ) (p : G .Pos) → D p → DepthIs G n p → ((q : G .Pos) → D q → DepthIs G (suc n) q → ⊥)
+        → Greatest n
+    greatest n p d h none =
+        record { position = p; inside = d; depth = h; most = λ m q e k. omega (arith, all-below (suc n) none m q e k) }

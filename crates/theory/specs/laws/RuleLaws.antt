@@ -26,27 +26,40 @@ module _ (b : ℕ) (bs : List ℕ) (r : ℕ) where
   here = List·Memᴰ·head refl
 
   add-draw : Draw b → ¬ (bs ≡ []) → Rule bs r false → Rule (b ∷ bs) (better (back b) r) false
-  add-draw d n (wins c m l f e) = wins c (List·Memᴰ·tail m) l (each (λ k. absurd (omega arith)) f) (rw (back-draw b d, better-right 1 r (λ v. omega arith) (omega arith)) e)
+  add-draw d n (wins c m l f e) =
+      wins c (List·Memᴰ·tail m) l (each (λ k. absurd (omega arith)) f)
+      (rw (back-draw b d, better-right 1 r (λ v. omega arith) (omega arith)) e)
   add-draw d n (loses c m f e) =
       let k = f c m in
-      draws b here d (each (λ k. omega arith) (λ a i l. omega (arith, f a i .0 .1))) (rw (back-draw b d, better-draw 1 r (λ v. omega arith) (λ v. omega arith) (inl refl)))
-  add-draw d n (draws c m k f e) = draws b here d (each (λ k. omega arith) f) (rw (back-draw b d, better-draw 1 r (λ v. omega arith) (λ v. omega arith) (inl refl)))
+      draws b here d (each (λ k. omega arith) (λ a i l. omega (arith, f a i .0 .1)))
+      (rw (back-draw b d, better-draw 1 r (λ v. omega arith) (λ v. omega arith) (inl refl)))
+  add-draw d n (draws c m k f e) =
+      draws b here d (each (λ k. omega arith) f)
+      (rw (back-draw b d, better-draw 1 r (λ v. omega arith) (λ v. omega arith) (inl refl)))
   add-draw d n (stalemate z e) = absurd (n z)
 
   add-win : Win b → ¬ (bs ≡ []) → Rule bs r false → Rule (b ∷ bs) (better (back b) r) false
-  add-win w n (wins c m l f e) = wins c (List·Memᴰ·tail m) l (each (λ k. absurd (omega arith)) f) (rw (back-more b (omega arith), better-right (1 + b) r (λ v. omega arith) (omega arith)) e)
+  add-win w n (wins c m l f e) =
+      wins c (List·Memᴰ·tail m) l (each (λ k. absurd (omega arith)) f)
+      (rw (back-more b (omega arith), better-right (1 + b) r (λ v. omega arith) (omega arith)) e)
   add-win w n (loses c m f e) = go (decided (leb b c))
     where
       k : Win c × (c ≤ c)
       k = f c m
 
       value : better (back b) r ≡ max (1 + b) r
-      value = rw (back-more b (omega arith), better-loss (1 + b) r (λ v. omega arith) (λ v. omega (arith, k .0 .1)) (omega arith) (omega (arith, k .0 .0)))
+      value = rw (
+        back-more b (omega arith),
+        better-loss (1 + b) r (λ v. omega arith) (λ v. omega (arith, k .0 .1)) (omega arith) (omega (arith, k .0 .0)),
+      )
 
       go : T (leb b c) ⊎ T (not (leb b c)) → Rule (b ∷ bs) (better (back b) r) false
       go (inl t) = let h = leb→le b c t in loses c (List·Memᴰ·tail m) (each (w, h) f) (rw value (omega arith))
-      go (inr t) = let h : ¬ (b ≤ c) = λ l. T-not (leb b c) t (le→leb b c l) in loses b here (each (w, omega arith) (λ a i. (f a i .0, omega (arith, f a i .1)))) (rw value (omega arith))
-  add-win w n (draws c m k f e) = draws c (List·Memᴰ·tail m) k (each (λ k. omega arith) f) (rw (back-more b (omega arith), better-draw (1 + b) r (λ v. omega arith) (λ v. omega arith) (inr e)))
+      go (inr t) = let h : ¬ (b ≤ c) = λ l. T-not (leb b c) t (le→leb b c l) in
+          loses b here (each (w, omega arith) (λ a i. (f a i .0, omega (arith, f a i .1)))) (rw value (omega arith))
+  add-win w n (draws c m k f e) =
+      draws c (List·Memᴰ·tail m) k (each (λ k. omega arith) f)
+      (rw (back-more b (omega arith), better-draw (1 + b) r (λ v. omega arith) (λ v. omega arith) (inr e)))
   add-win w n (stalemate z e) = absurd (n z)
 
   add-loss : Loss b → ¬ (bs ≡ []) → Rule bs r false → Rule (b ∷ bs) (better (back b) r) false
@@ -56,10 +69,16 @@ module _ (b : ℕ) (bs : List ℕ) (r : ℕ) where
       value = rw (back-more b (omega arith), better-wins (1 + b) r (omega arith) (omega arith))
 
       go : T (leb b c) ⊎ T (not (leb b c)) → Rule (b ∷ bs) (better (back b) r) false
-      go (inl t) = let h = leb→le b c t in wins b here l (each (λ j. omega arith) (λ a i j. omega (arith, f a i j))) (rw value (omega arith))
-      go (inr t) = let h : ¬ (b ≤ c) = λ l. T-not (leb b c) t (le→leb b c l) in wins c (List·Memᴰ·tail m) k (each (λ j. omega arith) f) (rw value (omega arith))
-  add-loss l n (loses c m f e) = let k = f c m in wins b here l (each (λ j. omega arith) (λ a i j. absurd (omega (arith, f a i .0 .1)))) (rw (back-more b (omega arith), better-left (1 + b) r (omega arith) (λ v. omega arith)))
-  add-loss l n (draws c m k f e) = wins b here l (each (λ j. omega arith) (λ a i j. absurd (f a i j))) (rw (back-more b (omega arith), better-left (1 + b) r (omega arith) (λ v. omega arith)))
+      go (inl t) = let h = leb→le b c t in
+          wins b here l (each (λ j. omega arith) (λ a i j. omega (arith, f a i j))) (rw value (omega arith))
+      go (inr t) = let h : ¬ (b ≤ c) = λ l. T-not (leb b c) t (le→leb b c l) in
+          wins c (List·Memᴰ·tail m) k (each (λ j. omega arith) f) (rw value (omega arith))
+  add-loss l n (loses c m f e) = let k = f c m in
+      wins b here l (each (λ j. omega arith) (λ a i j. absurd (omega (arith, f a i .0 .1))))
+      (rw (back-more b (omega arith), better-left (1 + b) r (omega arith) (λ v. omega arith)))
+  add-loss l n (draws c m k f e) =
+      wins b here l (each (λ j. omega arith) (λ a i j. absurd (f a i j)))
+      (rw (back-more b (omega arith), better-left (1 + b) r (omega arith) (λ v. omega arith)))
   add-loss l n (stalemate z e) = absurd (n z)
 
   add : Kind b → ¬ (bs ≡ []) → Rule bs r false → Rule (b ∷ bs) (better (back b) r) false
@@ -69,9 +88,18 @@ module _ (b : ℕ) (bs : List ℕ) (r : ℕ) where
 
 -- the first move
 alone : (b : ℕ) → Kind b → Rule (b ∷ []) (better (back b) 0) false
-alone b (win w) = loses b (List·Memᴰ·head refl) (λ c m. let e : c ≡ b = List·Memᴰ·eq-of-singleton m in (rw e w, omega arith)) (rw (back-more b (omega arith), better-loss (1 + b) 0 (λ v. omega arith) (λ v. omega arith) (omega arith) (omega arith)) (omega arith))
-alone b (loss l) = wins b (List·Memᴰ·head refl) l (λ c m k. let e : c ≡ b = List·Memᴰ·eq-of-singleton m in omega arith) (rw (back-more b (omega arith), better-left (1 + b) 0 (omega arith) (λ v. omega arith)))
-alone b (draw d) = draws b (List·Memᴰ·head refl) d (λ c m k. let e : c ≡ b = List·Memᴰ·eq-of-singleton m in omega arith) (rw (back-draw b d, better-draw 1 0 (λ v. omega arith) (λ v. omega arith) (inl refl)))
+alone b (win w) =
+    loses b (List·Memᴰ·head refl) (λ c m. let e : c ≡ b = List·Memᴰ·eq-of-singleton m in (rw e w, omega arith))
+    (rw (
+      back-more b (omega arith),
+      better-loss (1 + b) 0 (λ v. omega arith) (λ v. omega arith) (omega arith) (omega arith),
+    ) (omega arith))
+alone b (loss l) =
+    wins b (List·Memᴰ·head refl) l (λ c m k. let e : c ≡ b = List·Memᴰ·eq-of-singleton m in omega arith)
+    (rw (back-more b (omega arith), better-left (1 + b) 0 (omega arith) (λ v. omega arith)))
+alone b (draw d) =
+    draws b (List·Memᴰ·head refl) d (λ c m k. let e : c ≡ b = List·Memᴰ·eq-of-singleton m in omega arith)
+    (rw (back-draw b d, better-draw 1 0 (λ v. omega arith) (λ v. omega arith) (inl refl)))
 
 -- ---- only the members count
 
@@ -121,13 +149,16 @@ passed-all bs c = (λ m. go (passed-in [] bs c .0 m), λ m. passed-in [] bs c .1
     go (inl m) = elim m [ ]
     go (inr m) = m
 
-best-passed : (a : ℕ) (seen bs : List ℕ) (top : ℕ) → Rule (a ∷ seen) top false → Rule (passed (a ∷ seen) bs) (best top bs) false
+best-passed : (a : ℕ) (seen bs : List ℕ) (top : ℕ) → Rule (a ∷ seen) top false
+    → Rule (passed (a ∷ seen) bs) (best top bs) false
 unfolding best passed
 best-passed a seen [] top r = r
-best-passed a seen (b ∷ bs) top r = best-passed b (a ∷ seen) bs (better (back b) top) (add b (a ∷ seen) top (kind b) (λ e. cons≢nil e) r)
+best-passed a seen (b ∷ bs) top r =
+    best-passed b (a ∷ seen) bs (better (back b) top) (add b (a ∷ seen) top (kind b) (λ e. cons≢nil e) r)
 
 best-rule : (b : ℕ) (bs : List ℕ) → Rule (b ∷ bs) (best 0 (b ∷ bs)) false
-best-rule b bs = rule-same (passed-all (b ∷ bs)) (unfold best passed in best-passed b [] bs (better (back b) 0) (alone b (kind b)))
+best-rule b bs =
+    rule-same (passed-all (b ∷ bs)) (unfold best passed in best-passed b [] bs (better (back b) 0) (alone b (kind b)))
 
 -- ---- the rule and the byte required
 
@@ -143,7 +174,8 @@ pub required-rule : (mate : Bool) (bs : List ℕ) → Rule bs (required mate bs)
 unfolding required
 required-rule true bs = checkmate refl
 required-rule false [] = unfold best in stalemate refl refl
-required-rule false (b ∷ bs) = let h = rule-pos (best-rule b bs) in let e : max 1 (best 0 (b ∷ bs)) ≡ best 0 (b ∷ bs) = omega arith in rw e (best-rule b bs)
+required-rule false (b ∷ bs) = let h = rule-pos (best-rule b bs) in let e : max 1 (best 0 (b ∷ bs)) ≡ best 0 (b ∷ bs) =
+    omega arith in rw e (best-rule b bs)
 
 -- The rule says one byte.
 pub rule-one : {bs : List ℕ} {r s : ℕ} {mate : Bool} → Rule bs r mate → Rule bs s mate → r ≡ s

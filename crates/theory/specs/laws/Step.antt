@@ -25,11 +25,13 @@ near j n f = go (decided (leb n j))
 
 module _ (G : Game) where
   -- only the bytes at the successors count
-  pub required-reads : (f g : G .Pos → ℕ) (p : G .Pos) → ((q : G .Pos) → q ∈ next G p → f q ≡ g q) → requiredAt G f p ≡ requiredAt G g p
+  pub required-reads : (f g : G .Pos → ℕ) (p : G .Pos) → ((q : G .Pos) → q ∈ next G p → f q ≡ g q)
+      → requiredAt G f p ≡ requiredAt G g p
   required-reads f g p h = ap (required (G .mated p)) (map-same f g (next G p) h)
 
   -- as a loop over the moves reads them
-  pub required-moves : (reads : G .Pos → ℕ) (p : G .Pos) → requiredAt G reads p ≡ required (G .mated p) (map (λ m. reads (G .play p m)) (G .moves p))
+  pub required-moves : (reads : G .Pos → ℕ) (p : G .Pos)
+      → requiredAt G reads p ≡ required (G .mated p) (map (λ m. reads (G .play p m)) (G .moves p))
   required-moves reads p = ap (required (G .mated p)) (map-twice reads (G .play p) (G .moves p))
 
   -- the byte at q is right about the depths below k
@@ -41,7 +43,10 @@ module _ (G : Game) where
     bytes = map reads (next G p)
 
     mate-step : (k : ℕ) → T (G .mated p) → (2 ≡ 2 + k) ↔ DepthIs G k p
-    mate-step k t = (λ e. let z : 0 ≡ k = omega arith in rw (← z) (DepthIs.loss (mate-is G p .1 t)), λ d. let z = one-depth G k 0 p d (DepthIs.loss (mate-is G p .1 t)) in omega arith)
+    mate-step k t = (
+      λ e. let z : 0 ≡ k = omega arith in rw (← z) (DepthIs.loss (mate-is G p .1 t)),
+      λ d. let z = one-depth G k 0 p d (DepthIs.loss (mate-is G p .1 t)) in omega arith,
+    )
 
     -- from the rule to the depth
     to-depth : (k : ℕ) → ((q : G .Pos) → q ∈ next G p → RightBelow reads k q) → Rule bytes (2 + k) false → DepthIs G k p
@@ -64,14 +69,21 @@ module _ (G : Game) where
         DepthIs.loss (loss-is G j p .1 (record {
           to = o .0;
           legal = o .1;
-          longest = depth-odd G j (o .0) (right (o .0) (o .1) j (omega arith) .0 (omega (arith, o .2))) (omega (arith, f b m .0 .1));
+          longest = depth-odd G j (o .0) (right (o .0) (o .1) j (omega arith) .0 (omega (arith, o .2)))
+              (omega (arith, f b m .0 .1));
           all-won = λ q i.
-              let w = f (reads q) (map-in reads i) in
-              (reads q - 2, omega (arith, w .1), depth-odd G (reads q - 2) q (right q i (reads q - 2) (omega (arith, w .1)) .0 (omega (arith, w .0 .0))) (omega (arith, w .0 .0, w .0 .1)));
+              let w = f (reads q) (map-in reads i) in (
+                reads q - 2,
+                omega (arith, w .1),
+                depth-odd G (reads q - 2) q
+                    (right q i (reads q - 2) (omega (arith, w .1)) .0 (omega (arith, w .0 .0)))
+                    (omega (arith, w .0 .0, w .0 .1)),
+              );
         }))
 
     -- and back
-    to-rule : (k : ℕ) → ((q : G .Pos) → q ∈ next G p → RightBelow reads k q) → (T (G .mated p) → ⊥) → DepthIs G k p → Rule bytes (2 + k) false
+    to-rule : (k : ℕ) → ((q : G .Pos) → q ∈ next G p → RightBelow reads k q) → (T (G .mated p) → ⊥) → DepthIs G k p
+        → Rule bytes (2 + k) false
     to-rule zero right live (DepthIs.win w) = absurd (no-win-in-0 G p w)
     to-rule zero right live (DepthIs.loss l) = absurd (live (mate-is G p .0 l))
     to-rule (suc j) right live (DepthIs.win w) =
@@ -79,7 +91,11 @@ module _ (G : Game) where
         let e : reads (r .to) ≡ 2 + j = right (r .to) (r .legal) j (omega arith) .1 (DepthIs.loss (r .loss)) in
         Rule.wins (reads (r .to)) (map-in reads (r .legal)) (omega (arith, lost-even G j (r .to) (r .loss)))
         (λ c m l. let o = map-out reads c (next G p) m in
-        let h : j ≤ c - 2 = near j (c - 2) (λ h. r .none-shorter (o .0) (o .1) (c - 2) (depth-even G (c - 2) (o .0) (right (o .0) (o .1) (c - 2) (omega arith) .0 (omega (arith, o .2))) (omega arith))) in
+        let h : j ≤ c - 2 =
+        near j (c - 2)
+        (λ h. r .none-shorter (o .0) (o .1) (c - 2)
+        (depth-even G (c - 2) (o .0) (right (o .0) (o .1) (c - 2) (omega arith) .0 (omega (arith, o .2)))
+        (omega arith))) in
         omega arith)
         (omega arith)
     to-rule (suc j) right live (DepthIs.loss l) =
@@ -92,9 +108,13 @@ module _ (G : Game) where
         omega (arith, won-odd G (w .0) (o .0) (w .2), o .2, w .1))
         (omega arith)
 
-    pub step : (k : ℕ) → ((q : G .Pos) → q ∈ next G p → RightBelow reads k q) → (requiredAt G reads p ≡ 2 + k) ↔ DepthIs G k p
+    pub step : (k : ℕ) → ((q : G .Pos) → q ∈ next G p → RightBelow reads k q)
+        → (requiredAt G reads p ≡ 2 + k) ↔ DepthIs G k p
     step k right = go (G .mated p) refl
       where
         go : (b : Bool) → G .mated p ≡ b → (required b bytes ≡ 2 + k) ↔ DepthIs G k p
         go true e = unfold required in mate-step k (of-true e)
-        go false e = (λ d. to-depth k right (rw d at (required-rule false bytes)), λ d. rule-one (required-rule false bytes) (to-rule k right (λ t. rw e at t) d))
+        go false e = (
+          λ d. to-depth k right (rw d at (required-rule false bytes)),
+          λ d. rule-one (required-rule false bytes) (to-rule k right (λ t. rw e at t) d),
+        )

@@ -9,8 +9,14 @@ use Rattle.theory.specs.laws.Depth.{one-depth, draw-is}
 
 module _ (G : Game) where
   pub byte-is : (p : G .Pos) (b n : ℕ) → TrueByte G p b → (b ≡ 2 + n) ↔ DepthIs G n p
-  byte-is p b n (TrueByte.win k a e) = (λ d. let h : k ≡ n = omega arith in rw (← h) (DepthIs.win a), λ d. let h = one-depth G n k p d (DepthIs.win a) in omega arith)
-  byte-is p b n (TrueByte.loss k a e) = (λ d. let h : k ≡ n = omega arith in rw (← h) (DepthIs.loss a), λ d. let h = one-depth G n k p d (DepthIs.loss a) in omega arith)
+  byte-is p b n (TrueByte.win k a e) = (
+    λ d. let h : k ≡ n = omega arith in rw (← h) (DepthIs.win a),
+    λ d. let h = one-depth G n k p d (DepthIs.win a) in omega arith,
+  )
+  byte-is p b n (TrueByte.loss k a e) = (
+    λ d. let h : k ≡ n = omega arith in rw (← h) (DepthIs.loss a),
+    λ d. let h = one-depth G n k p d (DepthIs.loss a) in omega arith,
+  )
   byte-is p b n (TrueByte.draw a e) = (λ d. absurd (omega arith), λ d. absurd (draw-is G p .0 a n d))
 
   -- the byte of a depth

@@ -20,7 +20,8 @@ enum-known-refusal c = search needs
 returns : tie.Need-returns
 returns c =
     let e = c .before .before .before .position-of .ensures in
-    writes-at (c .before .before .before .before .args .number) _ (sym (c .before .enum-told .given .1) ∙ e) _ (c .seven-bytes .ensures)
+    writes-at (c .before .before .before .before .args .number) _ (sym (c .before .enum-told .given .1) ∙ e) _
+    (c .seven-bytes .ensures)
 
 returns-2 : tie.Need-returns-2
 returns-2 c =

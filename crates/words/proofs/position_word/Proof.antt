@@ -43,7 +43,9 @@ add-result-3 : tie.Need-add-result-3
 add-result-3 c = search needs
 
 returns : tie.Need-returns
-returns c = let p = c .before .before .before .before .before .args .p in ap (λ (m : Piece). p .side * 2 ^ 8 + p .«white_king» * 2 ^ 16 + m .square * 2 ^ 24 + p .«black_king» * 2 ^ 32) (c .before .before .before .before .man-in .ensures)
+returns c = let p = c .before .before .before .before .before .args .p in
+    ap (λ (m : Piece). p .side * 2 ^ 8 + p .«white_king» * 2 ^ 16 + m .square * 2 ^ 24 + p .«black_king» * 2 ^ 32)
+    (c .before .before .before .before .man-in .ensures)
 
 pub position-word-spec : {M : Type 1} → statement M
 position-word-spec =

@@ -1,31 +1,34 @@
 -- Each word is read back by the header's bit ranges, and no two answers have one word.
 use mathlib.Core.Path.{_≡_, refl, sym, ap, _∙_}
-use mathlib.Core.Bool.{true, false}
 use Prim.Native.Nat.{ℕ, _+_, _*_, _^_, _<_}
 use native.Mathlib.Nat.{zero-add, add-mul-div-right, add-mul-mod-self-right, div-eq-of-lt, mod-eq-of-lt}
 use native.Mathlib.Omega.{arith}
-use lib.Dec.{eqb}
 use borrow.Author.Tests.{ne-eqb}
-use Rattle.rules.specs.declared.Move.{Move}
-use Rattle.answers.specs.declared.Advice.{Advice}
+use Rattle.answers.specs.declared.BestMove.{BestMove}
 use Rattle.answers.specs.declared.Answer.{Answer}
 use Rattle.answers.specs.declared.Checked.{Checked}
 use Rattle.answers.specs.declared.Filled.{Filled}
-use Rattle.position.specs.declared.Position.{Position}
-use Rattle.position.specs.Keyed.{squareOf}
-use Rattle.index.specs.declared.Numbered.{Numbered}
+use Rattle.position.specs.Keyed.{manSquare}
+use Rattle.index.specs.declared.NumberAnswer.{NumberAnswer}
 use Rattle.index.specs.declared.Placed.{Placed}
-use Rattle.listing.specs.declared.Counted.{Counted}
-use Rattle.endings.specs.Desk.{given, moveIn}
+use Rattle.move_list.specs.declared.Counted.{Counted}
+use Rattle.endings.specs.GamePromise.{given, moveOfAnswer}
 use Rattle.words.specs.Words.{numberWord, placedWord, countWord, filledWord, checkedWord, adviceWord, answerWord}
-use Rattle.words.specs.Reading.{bits, unlessRefused, numberRead, placedRead, countRead, filledRead, checkedRead, adviceRead, valueRead, answerRead, Byte, RefusalFits, NumberFits, PositionFits, PlacedFits, CountFits, FilledFits, CheckedFits, AdviceFits, AnswerFits, ReadBack, OneWord}
+use Rattle.words.specs.Reading.{bits, unlessRefused, numberRead, placedRead, countRead, filledRead, checkedRead, adviceRead, valueRead, answerRead, Byte, RefusalFits, NumberFits, PlacedFits, CountFits, FilledFits, CheckedFits, AdviceFits, AnswerFits, ReadBack, OneWord}
 
 -- ---- one field of any word
 
 -- a value above what lies below it, with anything above
-pub field : (first width low value high word : ℕ) → word ≡ low + (value + high * 2 ^ width) * 2 ^ first → low < 2 ^ first → value < 2 ^ width → bits first width word ≡ value
+pub field : (first width low value high word : ℕ) → word ≡ low + (value + high * 2 ^ width) * 2 ^ first
+    → low < 2 ^ first → value < 2 ^ width → bits first width word ≡ value
 field first width low value high word e l v =
-    rw (e, add-mul-div-right low (value + high * 2 ^ width) {z = 2 ^ first} (omega arith), div-eq-of-lt l, zero-add (value + high * 2 ^ width), add-mul-mod-self-right value high (2 ^ width))
+    rw (
+      e,
+      add-mul-div-right low (value + high * 2 ^ width) {z = 2 ^ first} (omega arith),
+      div-eq-of-lt l,
+      zero-add (value + high * 2 ^ width),
+      add-mul-mod-self-right value high (2 ^ width),
+    )
     (mod-eq-of-lt v)
 
 -- ---- a refusal and any other answer
@@ -47,12 +50,13 @@ module _ {A : Type 0} (Fits : A → Type 0) (word : A → ℕ) (read : ℕ → A
 -- ---- number
 
 pub number-read : ReadBack NumberFits numberWord numberRead
-number-read (Numbered.Number n) h =
+number-read (NumberAnswer.Number n) h =
     let high : bits 31 1 n ≡ 0 = field 31 1 n 0 0 n (omega arith) h (omega arith) in
     let low : bits 0 31 n ≡ n = field 0 31 0 n 0 n (omega arith) (omega arith) h in
     rw (high, low)
-number-read (Numbered.Refused k) h =
-    let high : bits 31 1 (2 ^ 31 + k) ≡ 1 = field 31 1 k 1 0 (2 ^ 31 + k) (omega arith) (omega (arith, h .1)) (omega arith) in
+number-read (NumberAnswer.Refused k) h =
+    let high : bits 31 1 (2 ^ 31 + k) ≡ 1 =
+    field 31 1 k 1 0 (2 ^ 31 + k) (omega arith) (omega (arith, h .1)) (omega arith) in
     let low : bits 0 8 (2 ^ 31 + k) ≡ k = field 0 8 0 k (2 ^ 23) (2 ^ 31 + k) (omega arith) (omega arith) (h .1) in
     rw (high, low)
 
@@ -68,7 +72,8 @@ record PlaceBits (side white square black word : ℕ) : Type 0 where
   square-read : bits 24 8 word ≡ square
   black-read : bits 32 8 word ≡ black
 
-place-bits : (s w q b : ℕ) → Byte s → Byte w → Byte q → Byte b → PlaceBits s w q b (s * 2 ^ 8 + w * 2 ^ 16 + q * 2 ^ 24 + b * 2 ^ 32)
+place-bits : (s w q b : ℕ) → Byte s → Byte w → Byte q → Byte b
+    → PlaceBits s w q b (s * 2 ^ 8 + w * 2 ^ 16 + q * 2 ^ 24 + b * 2 ^ 32)
 place-bits s w q b hs hw hq hb =
     let word : ℕ = s * 2 ^ 8 + w * 2 ^ 16 + q * 2 ^ 24 + b * 2 ^ 32 in
     record {
@@ -79,14 +84,15 @@ place-bits s w q b hs hw hq hb =
       black-read = field 32 8 (s * 2 ^ 8 + w * 2 ^ 16 + q * 2 ^ 24) b 0 word (omega arith) (omega arith) hb;
     }
 
-pub placed-read : (man : ℕ) → ReadBack (PlacedFits man) placedWord (placedRead man)
-placed-read man (Placed.At p) h =
-    let b = place-bits (p .side) (p .«white_king») (squareOf p) (p .«black_king») (h .side) (h .white) (h .square) (h .black) in
+pub placed-read : (kind : ℕ) → ReadBack (PlacedFits kind) placedWord (placedRead kind)
+placed-read kind (Placed.At p) h =
+    let b = place-bits (p .side) (p .«white_king») (manSquare p) (p .«black_king») (h .side) (h .white) (h .square)
+    (h .black) in
     rw (b .none, b .side-read, b .white-read, b .square-read, b .black-read) (ap Placed.At (sym (h .own)))
-placed-read man (Placed.Refused k) h = refusal-read _ Placed.Refused k h
+placed-read kind (Placed.Refused k) h = refusal-read _ Placed.Refused k h
 
-pub places-apart : (man : ℕ) → OneWord (PlacedFits man) placedWord
-places-apart man = one-word (PlacedFits man) placedWord (placedRead man) (placed-read man)
+pub places-apart : (kind : ℕ) → OneWord (PlacedFits kind) placedWord
+places-apart kind = one-word (PlacedFits kind) placedWord (placedRead kind) (placed-read kind)
 
 -- ---- count
 
@@ -146,23 +152,33 @@ record ValueBits (value depth given from to word : ℕ) : Type 0 where
 
 value-bits : (v n g f t : ℕ) → Byte v → Byte n → g < 2 → Byte f → Byte t → ValueBits v n g f t (valueWord v n g f t)
 value-bits v n g f t hv hn hg hf ht = record {
-  none = field 0 8 0 0 (v + n * 2 ^ 8 + g * 2 ^ 16 + f * 2 ^ 24 + t * 2 ^ 32) (valueWord v n g f t) (omega arith) (omega arith) (omega arith);
-  value-read = field 8 8 0 v (n + g * 2 ^ 8 + f * 2 ^ 16 + t * 2 ^ 24) (valueWord v n g f t) (omega arith) (omega arith) hv;
-  depth-read = field 16 8 (v * 2 ^ 8) n (g + f * 2 ^ 8 + t * 2 ^ 16) (valueWord v n g f t) (omega arith) (omega arith) hn;
-  given-read = field 24 1 (v * 2 ^ 8 + n * 2 ^ 16) g (f * 2 ^ 7 + t * 2 ^ 15) (valueWord v n g f t) (omega arith) (omega arith) hg;
+  none = field 0 8 0 0 (v + n * 2 ^ 8 + g * 2 ^ 16 + f * 2 ^ 24 + t * 2 ^ 32) (valueWord v n g f t) (omega arith)
+      (omega arith) (omega arith);
+  value-read =
+      field 8 8 0 v (n + g * 2 ^ 8 + f * 2 ^ 16 + t * 2 ^ 24) (valueWord v n g f t) (omega arith) (omega arith) hv;
+  depth-read =
+      field 16 8 (v * 2 ^ 8) n (g + f * 2 ^ 8 + t * 2 ^ 16) (valueWord v n g f t) (omega arith) (omega arith) hn;
+  given-read =
+      field 24 1 (v * 2 ^ 8 + n * 2 ^ 16) g (f * 2 ^ 7 + t * 2 ^ 15) (valueWord v n g f t) (omega arith) (omega arith)
+      hg;
   from-read = field 32 8 (v * 2 ^ 8 + n * 2 ^ 16 + g * 2 ^ 24) f t (valueWord v n g f t) (omega arith) (omega arith) hf;
-  to-read = field 40 8 (v * 2 ^ 8 + n * 2 ^ 16 + g * 2 ^ 24 + f * 2 ^ 32) t 0 (valueWord v n g f t) (omega arith) (omega arith) ht;
+  to-read = field 40 8 (v * 2 ^ 8 + n * 2 ^ 16 + g * 2 ^ 24 + f * 2 ^ 32) t 0 (valueWord v n g f t) (omega arith)
+      (omega arith) ht;
 }
 
-advice-back : (v n : ℕ) (a : Advice) → Byte v → Byte n → AdviceFits a → adviceRead (v * 2 ^ 8 + n * 2 ^ 16 + adviceWord a) ≡ a
-advice-back v n (Advice.Play m) hv hn h = let b = value-bits v n 1 (m .from) (m .to) hv hn (omega arith) (h .0) (h .1) in rw (b .given-read, b .from-read, b .to-read)
-advice-back v n Advice.NoMove hv hn h = let b = value-bits v n 0 0 0 hv hn (omega arith) (omega arith) (omega arith) in rw (b .given-read)
+advice-back : (v n : ℕ) (a : BestMove) → Byte v → Byte n → AdviceFits a
+    → adviceRead (v * 2 ^ 8 + n * 2 ^ 16 + adviceWord a) ≡ a
+advice-back v n (BestMove.Play m) hv hn h = let b =
+    value-bits v n 1 (m .from) (m .to) hv hn (omega arith) (h .0) (h .1) in rw (b .given-read, b .from-read, b .to-read)
+advice-back v n BestMove.NoMove hv hn h =
+    let b = value-bits v n 0 0 0 hv hn (omega arith) (omega arith) (omega arith) in rw (b .given-read)
 
-value-back : (v n : ℕ) (a : Advice) → Byte v → Byte n → AdviceFits a → answerRead (v * 2 ^ 8 + n * 2 ^ 16 + adviceWord a) ≡ valueRead v n a
-value-back v n (Advice.Play m) hv hn h =
+value-back : (v n : ℕ) (a : BestMove) → Byte v → Byte n → AdviceFits a
+    → answerRead (v * 2 ^ 8 + n * 2 ^ 16 + adviceWord a) ≡ valueRead v n a
+value-back v n (BestMove.Play m) hv hn h =
     let b = value-bits v n 1 (m .from) (m .to) hv hn (omega arith) (h .0) (h .1) in
     rw (b .none, b .value-read, b .depth-read, b .given-read, b .from-read, b .to-read)
-value-back v n Advice.NoMove hv hn h =
+value-back v n BestMove.NoMove hv hn h =
     let b = value-bits v n 0 0 0 hv hn (omega arith) (omega arith) (omega arith) in
     rw (b .none, b .value-read, b .depth-read, b .given-read)
 
@@ -173,11 +189,12 @@ answer-read (Answer.Draw a) h = value-back 3 0 a (omega arith) (omega arith) h
 answer-read (Answer.Refused k) h = refusal-read _ Answer.Refused k h
 
 -- the move by itself; a refusal has none
-pub advice-read : (a : Answer) → AnswerFits a → given (adviceRead (answerWord a)) ≡ moveIn a
+pub advice-read : (a : Answer) → AnswerFits a → given (adviceRead (answerWord a)) ≡ moveOfAnswer a
 advice-read (Answer.Win n a) h = ap given (advice-back 1 n a (omega arith) (h .0) (h .1))
 advice-read (Answer.Loss n a) h = ap given (advice-back 2 n a (omega arith) (h .0) (h .1))
 advice-read (Answer.Draw a) h = ap given (advice-back 3 0 a (omega arith) (omega arith) h)
-advice-read (Answer.Refused k) h = let none : bits 24 1 k ≡ 0 = field 24 1 k 0 0 k (omega arith) (omega (arith, h .1)) (omega arith) in rw none
+advice-read (Answer.Refused k) h =
+    let none : bits 24 1 k ≡ 0 = field 24 1 k 0 0 k (omega arith) (omega (arith, h .1)) (omega arith) in rw none
 
 pub answers-apart : OneWord AnswerFits answerWord
 answers-apart = one-word AnswerFits answerWord answerRead answer-read

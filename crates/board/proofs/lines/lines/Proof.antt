@@ -32,7 +32,8 @@ record Walked (occ from first end k step set at : ℕ) : Type 0 where
   square : ℕ
   on : square < 64
   is : at ≡ bit square
-  rest : (t : ℕ) → t < 64 → ways occ from end first t ≡ ((has set t || lineOf (has occ) 0 square t way) || ways occ from end k t)
+  rest : (t : ℕ) → t < 64
+      → ways occ from end first t ≡ ((has set t || lineOf (has occ) 0 square t way) || ways occ from end k t)
 
 abbrev Inv-loop : tie.InvT-loop
 Inv-loop occ from first end set₀ k step ends at₀ set at = Walked occ from first end k step set at
@@ -53,7 +54,8 @@ step-at-requires : tie.Need-step-at-requires Inv-loop μ-loop Inv-lines μ-lines
 step-at-requires c κs = search needs
 
 ends-of-requires : tie.Need-ends-of-requires Inv-loop μ-loop Inv-lines μ-lines
-ends-of-requires c κs = step-small (c .step-at .result) (c .before .before .lines .k) (omega arith) (c .step-at .ensures) .0
+ends-of-requires c κs =
+    step-small (c .step-at .result) (c .before .before .lines .k) (omega arith) (c .step-at .ensures) .0
 
 add-k : tie.Need-add-k Inv-loop μ-loop Inv-lines μ-lines
 add-k c = search needs
@@ -63,16 +65,19 @@ shl-at c = search needs
 
 loop-holds : tie.Need-loop-holds Inv-loop μ-loop Inv-lines μ-lines
 loop-holds c =
-    let a = c .before .before .before .before .args in
+    let at = c .before .before .before .before in
+    let a = at .args in
     let o = c .before .before .before .lines in
     record {
       way = o .k;
       fits = omega arith;
       its = c .before .step-at .ensures;
       square = a .from;
-      on = c .before .before .before .before .pre .0;
+      on = at .pre .0;
       is = refl;
-      rest = λ t h. o .inv .rest t h ∙ sweep-line (lineOf (has (a .occ)) 0 (a .from) t) (o .k) (a .end) (c .before .before .if1 .left) (has (o .set) t);
+      rest = λ t h. o .inv .rest t h
+          ∙ sweep-line (lineOf (has (a .occ)) 0 (a .from) t) (o .k) (a .end) (c .before .before .if1 .left)
+          (has (o .set) t);
     }
 
 stepped-requires : tie.Need-stepped-requires Inv-loop μ-loop Inv-lines μ-lines
@@ -93,8 +98,10 @@ lines-again c =
     record {
       rest = λ t h.
           l .inv .rest t h
-          ∙ ap (λ b. b || ways (a .occ) (a .from) (a .end) (c .before .before .before .before .before .before .lines .k + 1) t)
-          (gathers-last (l .inv .way) _ (l .inv .square) _ (l .inv .fits) (l .inv .its) lands (a .occ) (start .fits .occ .fits) (l .set) t h (c .if2 .taken));
+          ∙ ap (λ b. b || ways (a .occ) (a .from) (a .end)
+          (c .before .before .before .before .before .before .lines .k + 1) t)
+          (gathers-last (l .inv .way) _ (l .inv .square) _ (l .inv .fits) (l .inv .its) lands (a .occ)
+          (start .fits .occ .fits) (l .set) t h (c .if2 .taken));
     }
 
 loop-less : tie.Need-loop-less Inv-loop μ-loop Inv-lines μ-lines
@@ -104,7 +111,8 @@ loop-less c =
     let lands = c .before .stepped .ensures (l .inv .square) (l .inv .on) (l .inv .is) in
     rw (l .inv .is)
     (nearer (l .inv .way) _ (l .inv .square) _ (l .inv .fits) (l .inv .its) lands (l .inv .on)
-    (free-board (l .inv .way) _ (l .inv .square) _ (l .inv .fits) (l .inv .its) lands (start .args .occ) (start .fits .occ .fits) (c .if2 .left)))
+    (free-board (l .inv .way) _ (l .inv .square) _ (l .inv .fits) (l .inv .its) lands (start .args .occ)
+    (start .fits .occ .fits) (c .if2 .left)))
 
 loop-again : tie.Need-loop-again Inv-loop μ-loop Inv-lines μ-lines
 loop-again c =
@@ -117,19 +125,23 @@ loop-again c =
       fits = l .inv .fits;
       its = l .inv .its;
       square = stepped (l .inv .square) (l .inv .way);
-      on = free-board (l .inv .way) _ (l .inv .square) _ (l .inv .fits) (l .inv .its) lands (a .occ) (start .fits .occ .fits) (c .if2 .left);
+      on = free-board (l .inv .way) _ (l .inv .square) _ (l .inv .fits) (l .inv .its) lands (a .occ)
+          (start .fits .occ .fits) (c .if2 .left);
       is = is-stepped (l .inv .square) (l .inv .way) _ _ (l .inv .its) lands;
       rest = λ t h.
           l .inv .rest t h
-          ∙ ap (λ b. b || ways (a .occ) (a .from) (a .end) (c .before .before .before .before .before .before .lines .k + 1) t)
-          (gathers-on (l .inv .way) _ (l .inv .square) _ (l .inv .fits) (l .inv .its) lands (a .occ) (start .fits .occ .fits) (l .set) t h (c .if2 .left));
+          ∙ ap (λ b. b || ways (a .occ) (a .from) (a .end)
+          (c .before .before .before .before .before .before .lines .k + 1) t)
+          (gathers-on (l .inv .way) _ (l .inv .square) _ (l .inv .fits) (l .inv .its) lands (a .occ)
+          (start .fits .occ .fits) (l .set) t h (c .if2 .left));
     }
 
 returns : tie.Need-returns Inv-loop μ-loop Inv-lines μ-lines
 returns c =
     let a = c .before .before .args in
     let o = c .before .lines in
-    λ t h. sym (o .inv .rest t h ∙ sweep-end _ _ (any-end (lineOf (has (a .occ)) 0 (a .from) t) (o .k) (a .end) (c .if1 .taken)))
+    λ t h. sym (o .inv .rest t h
+    ∙ sweep-end _ _ (any-end (lineOf (has (a .occ)) 0 (a .from) t) (o .k) (a .end) (c .if1 .taken)))
 
 pub lines-spec : {M : Type 1} → statement M
 lines-spec =

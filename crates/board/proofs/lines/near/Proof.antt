@@ -41,7 +41,8 @@ step-at-requires : tie.Need-step-at-requires Inv-loop μ-loop
 step-at-requires c κs = search needs
 
 ends-of-requires : tie.Need-ends-of-requires Inv-loop μ-loop
-ends-of-requires c κs = step-small (c .step-at .result) (c .before .before .loop .k) (omega arith) (c .step-at .ensures) .0
+ends-of-requires c κs =
+    step-small (c .step-at .result) (c .before .before .loop .k) (omega arith) (c .step-at .ensures) .0
 
 stepped-requires : tie.Need-stepped-requires Inv-loop μ-loop
 stepped-requires c κs =
@@ -65,8 +66,10 @@ loop-again c =
     record {
       rest = λ t h.
           l .inv .rest t h
-          ∙ sweep-line (leads (a .from) t) (l .k) (a .end) (c .before .before .before .loop-test .taken) (has (l .set) t)
-          ∙ ap (λ b. b || ways (a .from) (a .end) (l .k + 1) t) (sym (once-next (a .from) (l .k) (d .result) _ t (d .ensures) lands h (l .set)));
+          ∙ sweep-line (leads (a .from) t) (l .k) (a .end) (c .before .before .before .loop-test .taken)
+          (has (l .set) t)
+          ∙ ap (λ b. b || ways (a .from) (a .end) (l .k + 1) t)
+          (sym (once-next (a .from) (l .k) (d .result) _ t (d .ensures) lands h (l .set)));
     }
 
 returns : tie.Need-returns Inv-loop μ-loop

@@ -42,7 +42,9 @@ returns-5 : tie.Need-returns-5
 unfolding reaches
 returns-5 c =
     let a = c .before .before .before .before .before .before .args in
-    rw (c .before .if5 .taken) (set-is _ _ (c .near .ok) (λ t h. c .near .ensures t h ∙ knight-reaches (λ (u : ℕ). false) (has (a .occ)) (a .from) t))
+    rw (c .before .if5 .taken)
+    (set-is _ _ (c .near .ok)
+    (λ t h. c .near .ensures t h ∙ knight-reaches (λ (u : ℕ). false) (has (a .occ)) (a .from) t))
 
 near-requires-2 : tie.Need-near-requires-2
 near-requires-2 c κs = search needs
@@ -51,10 +53,14 @@ returns-6 : tie.Need-returns-6
 unfolding reaches
 returns-6 c =
     let a = c .before .before .before .before .before .before .before .args in
-    rw (c .before .if6 .taken) (set-is _ _ (c .near2 .ok) (λ t h. c .near2 .ensures t h ∙ king-reaches (λ (u : ℕ). false) (has (a .occ)) (a .from) t))
+    rw (c .before .if6 .taken)
+    (set-is _ _ (c .near2 .ok)
+    (λ t h. c .near2 .ensures t h ∙ king-reaches (λ (u : ℕ). false) (has (a .occ)) (a .from) t))
 
 returns-7 : tie.Need-returns-7
-returns-7 c = set-is _ 0 (omega arith) (λ t h. has-none t ∙ sym (reaches-other _ _ _ _ (omega arith) (c .before .if5 .left) (c .if6 .left)))
+returns-7 c =
+    set-is _ 0 (omega arith)
+    (λ t h. has-none t ∙ sym (reaches-other _ _ _ _ (omega arith) (c .before .if5 .left) (c .if6 .left)))
 
 pub targets-spec : {M : Type 1} → statement M
 targets-spec =

@@ -16,7 +16,8 @@ shr-result c = search needs
 
 returns : tie.Need-returns
 unfolding stepBits
-returns c = let a = c .before .args in let p = c .before .pre in step-bit (a .b) (a .step) (a .ends) (p .0) (p .1) (p .2) (rw (lt-ltb _ _ (c .if1 .taken)))
+returns c = let a = c .before .args in let p = c .before .pre in
+    step-bit (a .b) (a .step) (a .ends) (p .0) (p .1) (p .2) (rw (lt-ltb _ _ (c .if1 .taken)))
 
 cast-result-2 : tie.Need-cast-result-2
 cast-result-2 c = search needs
@@ -26,7 +27,8 @@ shl-result c = search needs
 
 returns-2 : tie.Need-returns-2
 unfolding stepBits
-returns-2 c = let a = c .before .args in let p = c .before .pre in step-bit (a .b) (a .step) (a .ends) (p .0) (p .1) (p .2) (rw (le-ltb _ _ (c .if1 .left)))
+returns-2 c = let a = c .before .args in let p = c .before .pre in
+    step-bit (a .b) (a .step) (a .ends) (p .0) (p .1) (p .2) (rw (le-ltb _ _ (c .if1 .left)))
 
 pub stepped-spec : {M : Type 1} → statement M
 stepped-spec = tie.close (tie.spec sub-result cast-result shr-result returns cast-result-2 shl-result returns-2)

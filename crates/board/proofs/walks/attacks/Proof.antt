@@ -47,7 +47,9 @@ returns-5 c =
     let n = c .before .near in
     rw (c .before .before .if5 .taken)
     (c .has .ensures
-    ∙ reaches-has (has (a .occ)) 3 (a .from) (a .t) (set-is _ _ (n .ok) (λ u h. n .ensures u h ∙ knight-reaches (λ (v : ℕ). false) (has (a .occ)) (a .from) u)) (n .ok))
+    ∙ reaches-has (has (a .occ)) 3 (a .from) (a .t)
+    (set-is _ _ (n .ok) (λ u h. n .ensures u h ∙ knight-reaches (λ (v : ℕ). false) (has (a .occ)) (a .from) u))
+    (n .ok))
 
 near-requires-2 : tie.Need-near-requires-2
 near-requires-2 c κs = search needs
@@ -62,7 +64,9 @@ returns-6 c =
     let n = c .before .near2 in
     rw (c .before .before .if6 .taken)
     (c .has2 .ensures
-    ∙ reaches-has (has (a .occ)) 5 (a .from) (a .t) (set-is _ _ (n .ok) (λ u h. n .ensures u h ∙ king-reaches (λ (v : ℕ). false) (has (a .occ)) (a .from) u)) (n .ok))
+    ∙ reaches-has (has (a .occ)) 5 (a .from) (a .t)
+    (set-is _ _ (n .ok) (λ u h. n .ensures u h ∙ king-reaches (λ (v : ℕ). false) (has (a .occ)) (a .from) u))
+    (n .ok))
 
 returns-7 : tie.Need-returns-7
 returns-7 c = sym (reaches-other _ _ _ _ (omega arith) (c .before .if5 .left) (c .if6 .left))

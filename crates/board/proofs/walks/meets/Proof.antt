@@ -9,7 +9,7 @@ use Rattle.finite.specs.Members.{any}
 use Rattle.finite.specs.Numbers.{numbers, any-end, any-first}
 use Rattle.board.specs.Sets.{has, setOf}
 use Rattle.board.specs.laws.SetLaws.{set-has}
-use Rattle.board.specs.Walk.{walkOf, metAt, standing, meetsFirst}
+use Rattle.board.specs.Walk.{walkOf, metAt, withTarget, meetsFirst}
 use Rattle.board.specs.laws.WalkLaws.{walk-same}
 use Rattle.board.specs.declared.Met.{Met}
 use Rattle.board.proofs.walks.meets.Statement.{statement}
@@ -20,9 +20,11 @@ abbrev ways : ℕ → ℕ → ℕ → ℕ → ℕ → Bool
 ways occ from end t k = any (meetsFirst (has occ) from t) (numbers (end - k) k)
 
 -- one more direction: set is occ with t put in, r what the walk over it meets
-module _ (occ from end t k set : ℕ) (r : Met) (e : set ≡ setOf (standing (has occ) t)) (q : r ≡ walkOf (has set) from k) (l : k < end) where
+module _ (occ from end t k set : ℕ) (r : Met) (e : set ≡ setOf (withTarget (has occ) t))
+    (q : r ≡ walkOf (has set) from k) (l : k < end) where
   met : meetsFirst (has occ) from t k ≡ metAt r t
-  met = ap (λ m. metAt m t) (sym (q ∙ walk-same (has set) (standing (has occ) t) (set-has (standing (has occ) t) e) from k))
+  met = ap (λ m. metAt m t)
+      (sym (q ∙ walk-same (has set) (withTarget (has occ) t) (set-has (withTarget (has occ) t) e) from k))
 
   hit : metAt r t ≡ true → ways occ from end t k ≡ true
   hit h = any-first (meetsFirst (has occ) from t) k end l ∙ rw (met, h)
@@ -31,10 +33,11 @@ module _ (occ from end t k set : ℕ) (r : Met) (e : set ≡ setOf (standing (ha
   miss h = any-first (meetsFirst (has occ) from t) k end l ∙ rw (met, h)
 
 abbrev Inv-loop : tie.InvT-loop
-Inv-loop occ from first end t standing direction₀ direction = ways occ from end t first ≡ ways occ from end t direction
+Inv-loop occ from first end t withTarget direction₀ direction =
+    ways occ from end t first ≡ ways occ from end t direction
 
 abbrev μ-loop : tie.MeasureT-loop
-μ-loop occ from first end t standing direction₀ direction = end - direction
+μ-loop occ from first end t withTarget direction₀ direction = end - direction
 
 with-requires : tie.Need-with-requires Inv-loop μ-loop
 with-requires c κs = search needs
@@ -55,7 +58,8 @@ returns c =
     let a = w .before .before .before .before .args in
     sym
     (l .inv
-    ∙ hit (a .occ) (a .from) (a .end) (a .t) (l .direction) _ _ (w .before .before .before .with .ensures) (w .walk .ensures) (w .before .loop-test .taken)
+    ∙ hit (a .occ) (a .from) (a .end) (a .t) (l .direction) _ _ (w .before .before .before .with .ensures)
+    (w .walk .ensures) (w .before .loop-test .taken)
     (rw (c .before .before .u .given .1) (eq-eqb _ _ (c .if1 .taken))))
 
 enum-told : tie.Need-enum-told Inv-loop μ-loop
@@ -73,7 +77,8 @@ loop-again c =
     let l = w .before .before .loop in
     let a = w .before .before .before .before .args in
     l .inv
-    ∙ miss (a .occ) (a .from) (a .end) (a .t) (l .direction) _ _ (w .before .before .before .with .ensures) (w .walk .ensures) (w .before .loop-test .taken)
+    ∙ miss (a .occ) (a .from) (a .end) (a .t) (l .direction) _ _ (w .before .before .before .with .ensures)
+    (w .walk .ensures) (w .before .loop-test .taken)
     (⊎-elim (λ m. rw (m .1 .given .1) (ne-eqb _ _ (m .3 .left))) (λ m. rw (m .1 .given .1)) (c .match .came))
 
 returns-2 : tie.Need-returns-2 Inv-loop μ-loop

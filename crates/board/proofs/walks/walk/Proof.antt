@@ -37,18 +37,26 @@ step-at-requires : tie.Need-step-at-requires Inv-loop μ-loop
 step-at-requires c κs = search needs
 
 ends-of-requires : tie.Need-ends-of-requires Inv-loop μ-loop
-ends-of-requires c κs = step-small (c .step-at .result) (c .before .before .before .args .direction) (omega arith) (c .step-at .ensures) .0
+ends-of-requires c κs =
+    step-small (c .step-at .result) (c .before .before .before .args .direction) (omega arith) (c .step-at .ensures) .0
 
 shl-at : tie.Need-shl-at Inv-loop μ-loop
 shl-at c = search needs
 
 loop-holds : tie.Need-loop-holds Inv-loop μ-loop
-loop-holds c = record { square = c .before .before .before .before .args .from; on = c .before .before .before .if1 .left; is = refl; rest = refl }
+loop-holds c =
+    record {
+      square = c .before .before .before .before .args .from;
+      on = c .before .before .before .if1 .left;
+      is = refl;
+      rest = refl;
+    }
 
 stepped-requires : tie.Need-stepped-requires Inv-loop μ-loop
 stepped-requires c κs =
     let d = c .before .before .step-at in
-    let w = step-small (d .result) (c .before .before .before .before .before .args .direction) (omega arith) (d .ensures) in
+    let w = step-small (d .result) (c .before .before .before .before .before .args .direction) (omega arith)
+    (d .ensures) in
     (w .0, w .1, c .before .ends-of .ensures)
 
 lowest-requires : tie.Need-lowest-requires Inv-loop μ-loop
@@ -61,7 +69,9 @@ loop-less c =
     let k = start .before .before .before .args .direction in
     let p = start .step-at .ensures in
     let lands = c .before .before .stepped .ensures (l .inv .square) (l .inv .on) (l .inv .is) in
-    rw (l .inv .is) (nearer k _ (l .inv .square) _ (start .before .if2 .left) p lands (l .inv .on) (on-board k _ (l .inv .square) _ (start .before .if2 .left) p lands (c .before .if3 .left)))
+    rw (l .inv .is)
+    (nearer k _ (l .inv .square) _ (start .before .if2 .left) p lands (l .inv .on)
+    (on-board k _ (l .inv .square) _ (start .before .if2 .left) p lands (c .before .if3 .left)))
 
 loop-again : tie.Need-loop-again Inv-loop μ-loop
 loop-again c =
@@ -75,7 +85,9 @@ loop-again c =
       square = stepped (l .inv .square) k;
       on = on-board k _ (l .inv .square) _ (start .before .if2 .left) p lands (c .before .if3 .left);
       is = is-stepped (l .inv .square) k _ _ p lands;
-      rest = l .inv .rest ∙ goes-on k _ (l .inv .square) _ (start .before .if2 .left) p lands (entry .args .occ) (entry .fits .occ .fits) (c .before .if3 .left) (c .if4 .left);
+      rest = l .inv .rest
+          ∙ goes-on k _ (l .inv .square) _ (start .before .if2 .left) p lands (entry .args .occ)
+          (entry .fits .occ .fits) (c .before .if3 .left) (c .if4 .left);
     }
 
 returns-3 : tie.Need-returns-3 Inv-loop μ-loop
@@ -84,7 +96,9 @@ returns-3 c =
     let start = c .before .before .before .before in
     let entry = start .before .before .before in
     let lands = c .before .stepped .ensures (l .inv .square) (l .inv .on) (l .inv .is) in
-    sym (l .inv .rest ∙ meets-edge (entry .args .direction) _ (l .inv .square) _ (start .before .if2 .left) (start .step-at .ensures) lands (entry .args .occ) (entry .fits .occ .fits) (c .if3 .taken))
+    sym (l .inv .rest
+    ∙ meets-edge (entry .args .direction) _ (l .inv .square) _ (start .before .if2 .left) (start .step-at .ensures)
+    lands (entry .args .occ) (entry .fits .occ .fits) (c .if3 .taken))
 
 returns-4 : tie.Need-returns-4 Inv-loop μ-loop
 returns-4 c =
@@ -93,7 +107,10 @@ returns-4 c =
     let entry = start .before .before .before in
     let lands = c .before .before .before .stepped .ensures (l .inv .square) (l .inv .on) (l .inv .is) in
     ap Met.At (c .lowest .ensures)
-    ∙ sym (l .inv .rest ∙ meets-piece (entry .args .direction) _ (l .inv .square) _ (start .before .if2 .left) (start .step-at .ensures) lands (entry .args .occ) (entry .fits .occ .fits) (c .before .before .if3 .left) (c .before .if4 .taken))
+    ∙ sym (l .inv .rest
+    ∙ meets-piece (entry .args .direction) _ (l .inv .square) _ (start .before .if2 .left)
+    (start .step-at .ensures) lands (entry .args .occ) (entry .fits .occ .fits) (c .before .before .if3 .left)
+    (c .before .if4 .taken))
 
 pub walk-spec : {M : Type 1} → statement M
 walk-spec =

@@ -13,16 +13,25 @@ enum-known-standing : tie.Need-enum-known-standing
 enum-known-standing c = search needs
 
 is-required-requires : tie.Need-is-required-requires
-is-required-requires c κs = (c .before .before .before .before .before .pre, at-lone _ _ _ (stands-there _ _ _ (sym (c .before .standing .given .1) ∙ c .before .before .before .legal-at .ensures) .1))
+is-required-requires c κs = (
+  c .before .before .before .before .before .pre,
+  at-lone _ _ _
+      (stands-there _ _ _ (sym (c .before .standing .given .1) ∙ c .before .before .before .legal-at .ensures) .1),
+)
 
 enum-told : tie.Need-enum-told
 enum-told c = search needs
 
 returns : tie.Need-returns
-returns c = let s = stands-there _ _ _ (sym (c .before .before .standing .given .1) ∙ c .before .before .before .before .legal-at .ensures) in position-right _ _ _ _ _ _ (s .1) (s .0) (c .is-required .ensures)
+returns c = let s =
+    stands-there _ _ _
+    (sym (c .before .before .standing .given .1) ∙ c .before .before .before .before .legal-at .ensures) in
+    position-right _ _ _ _ _ _ (s .1) (s .0) (c .is-required .ensures)
 
 returns-2 : tie.Need-returns-2
-returns-2 c = zero-right _ _ _ _ (nothing-there _ _ (sym (c .enum-told .given .1) ∙ c .before .before .legal-at .ensures))
+returns-2 c =
+    zero-right _ _ _ _ (nothing-there _ _ (sym (c .enum-told .given .1) ∙ c .before .before .legal-at .ensures))
 
 pub is-right-spec : {M : Type 1} → statement M
-is-right-spec = tie.close (tie.spec legal-at-requires enum-known-standing is-required-requires enum-told returns returns-2)
+is-right-spec =
+    tie.close (tie.spec legal-at-requires enum-known-standing is-required-requires enum-told returns returns-2)

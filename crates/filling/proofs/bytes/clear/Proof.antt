@@ -38,4 +38,5 @@ returns : tie.Need-returns Inv-loop μ-loop
 returns c = let u = c .before .loop .inv .1 in upto-all _ _ _ _ u (omega (arith, u .same-length))
 
 pub clear-spec : {M : Type 1} → statement M
-clear-spec = tie.close (tie.spec Inv-loop μ-loop loop-holds slice-write-table add-n loop-less loop-again same-length returns)
+clear-spec =
+    tie.close (tie.spec Inv-loop μ-loop loop-holds slice-write-table add-n loop-less loop-again same-length returns)

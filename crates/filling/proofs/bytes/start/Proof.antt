@@ -4,23 +4,24 @@ use native.Mathlib.Omega.{arith}
 use borrow.Author.Needs.{needs}
 use lib.ListN.{length, length-set}
 use Rattle.finite.specs.Mapped.{Upto, upto-none, upto-more, upto-all}
-use Rattle.numbered.specs.Numbered.{startByte}
+use Rattle.table_theory.specs.Tables.{startByte}
 use Rattle.rules.specs.Chess.{chess}
-use Rattle.endings.specs.Chess.{ending}
+use Rattle.endings.specs.Ending.{ending}
 use Rattle.filling.proofs.bytes.start.Statement.{statement}
 use Rattle.filling.proofs.bytes.start.Tie as tie
 
 abbrev Inv-loop : tie.InvT-loop
-Inv-loop man table₀ n₀ table n = (n ≤ length table) × Upto (startByte chess (ending man)) table₀ table n
+Inv-loop kind table₀ n₀ table n = (n ≤ length table) × Upto (startByte chess (ending kind)) table₀ table n
 
 abbrev μ-loop : tie.MeasureT-loop
-μ-loop man table₀ n₀ table n = length table - n
+μ-loop kind table₀ n₀ table n = length table - n
 
 loop-holds : tie.Need-loop-holds Inv-loop μ-loop
 loop-holds c = (omega arith, upto-none _ _)
 
 cast-first-byte : tie.Need-cast-first-byte Inv-loop μ-loop
-cast-first-byte c = let u = c .before .loop .inv .1 in omega (arith, c .loop-test .taken, u .same-length, c .before .before .before .pre)
+cast-first-byte c = let u = c .before .loop .inv .1 in
+    omega (arith, c .loop-test .taken, u .same-length, c .before .before .before .pre)
 
 first-byte-requires : tie.Need-first-byte-requires Inv-loop μ-loop
 first-byte-requires c κs = tt
@@ -36,8 +37,10 @@ loop-less c = simp length-set (omega arith)
 
 loop-again : tie.Need-loop-again Inv-loop μ-loop
 loop-again c =
-    let u = c .before .before .loop .inv .1 in
-    (simp length-set (omega arith), upto-more _ _ _ _ _ u (omega (arith, u .same-length, c .before .loop-test .taken)) (c .first-byte .ensures))
+    let u = c .before .before .loop .inv .1 in (
+      simp length-set (omega arith),
+      upto-more _ _ _ _ _ u (omega (arith, u .same-length, c .before .loop-test .taken)) (c .first-byte .ensures),
+    )
 
 same-length : tie.Need-same-length Inv-loop μ-loop
 same-length c = c .before .loop .inv .1 .same-length
@@ -46,4 +49,7 @@ returns : tie.Need-returns Inv-loop μ-loop
 returns c = let u = c .before .loop .inv .1 in upto-all _ _ _ _ u (omega (arith, u .same-length))
 
 pub start-spec : {M : Type 1} → statement M
-start-spec = tie.close (tie.spec Inv-loop μ-loop loop-holds cast-first-byte first-byte-requires slice-write-table add-n loop-less loop-again same-length returns)
+start-spec =
+    tie.close
+    (tie.spec Inv-loop μ-loop loop-holds cast-first-byte first-byte-requires slice-write-table add-n loop-less
+    loop-again same-length returns)

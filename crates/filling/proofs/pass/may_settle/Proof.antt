@@ -39,7 +39,11 @@ loop-again : tie.Need-loop-again Inv-loop μ-loop
 loop-again c = absent-more _ _ _ _ (c .before .before .before .loop .inv) (c .if2 .left)
 
 returns-3 : tie.Need-returns-3 Inv-loop μ-loop
-returns-3 c = λ e. quiet-if _ _ _ _ _ (c .before .before .if1 .left) (omega (arith, c .loop-test .left)) (c .before .loop .inv)
+returns-3 c =
+    λ e. quiet-if _ _ _ _ _ (c .before .before .if1 .left) (omega (arith, c .loop-test .left)) (c .before .loop .inv)
 
 pub may-settle-spec : {M : Type 1} → statement M
-may-settle-spec = tie.close (tie.spec Inv-loop μ-loop returns add-sought loop-holds shared-slice-read-if2 returns-2 add-n loop-less loop-again returns-3)
+may-settle-spec =
+    tie.close
+    (tie.spec Inv-loop μ-loop returns add-sought loop-holds shared-slice-read-if2 returns-2 add-n loop-less loop-again
+    returns-3)

@@ -4,19 +4,21 @@ use Prim.Native.Nat.{_≤_, _-_}
 use native.Mathlib.Omega.{arith}
 use lib.ListN.{length}
 use Rattle.finite.specs.Mapped.{Upto, upto-none}
-use Rattle.numbered.specs.Numbered.{passByte}
+use Rattle.table_theory.specs.Tables.{passByte}
 use Rattle.rules.specs.Chess.{chess}
-use Rattle.endings.specs.Chess.{ending}
+use Rattle.endings.specs.Ending.{ending}
 use Rattle.filling.specs.laws.Laws.{settledBelow, settled-none, settled-low, settle-one, pass-turn, pass-done, size-is}
 use Rattle.filling.specs.laws.Quiet.{quiet-in-place}
 use Rattle.filling.proofs.pass.pass.Statement.{statement}
 use Rattle.filling.proofs.pass.pass.Tie as tie
 
 abbrev Inv-loop : tie.InvT-loop
-Inv-loop list man k table₀ white black settled₀ n₀ table settled n = (n ≤ 59136) × (length table₀ ≡ 59136) × Upto (passByte chess (ending man) k table₀) table₀ table n × (settled ≡ settledBelow chess (ending man) k table₀ n)
+Inv-loop list kind k table₀ white black settled₀ n₀ table settled n = (n ≤ 59136) × (length table₀ ≡ 59136)
+    × Upto (passByte chess (ending kind) k table₀) table₀ table n
+    × (settled ≡ settledBelow chess (ending kind) k table₀ n)
 
 abbrev μ-loop : tie.MeasureT-loop
-μ-loop list man k table₀ white black settled₀ n₀ table settled n = 59136 - n
+μ-loop list kind k table₀ white black settled₀ n₀ table settled n = 59136 - n
 
 may-settle-requires : tie.Need-may-settle-requires Inv-loop μ-loop
 may-settle-requires c κs = let p = c .before .before .pre in (p .0, omega (arith, p .1))
@@ -34,8 +36,15 @@ settle-where-requires : tie.Need-settle-where-requires Inv-loop μ-loop
 settle-where-requires c κs =
     let i = c .before .before .before .loop .inv in
     let h = c .before .before .loop-test .taken in
-    let p = c .before .before .before .before .before .before .before .before .before .pre in
-    (h, i .2 .same-length ∙ i .1, p .0, p .2, quiet-in-place _ _ _ _ h _ _ _ _ (c .before .before .before .before .before .before .may-settle .ensures) (c .before .before .before .before .may-settle2 .ensures) (c .before .of-half .ensures) (i .2))
+    let p = c .before .before .before .before .before .before .before .before .before .pre in (
+      h,
+      i .2 .same-length
+          ∙ i .1,
+      p .0,
+      p .2,
+      quiet-in-place _ _ _ _ h _ _ _ _ (c .before .before .before .before .before .before .may-settle .ensures)
+          (c .before .before .before .before .may-settle2 .ensures) (c .before .of-half .ensures) (i .2),
+    )
 
 add-settled : tie.Need-add-settled Inv-loop μ-loop
 add-settled c =
@@ -55,7 +64,8 @@ loop-again : tie.Need-loop-again Inv-loop μ-loop
 loop-again c =
     let i = c .before .before .before .before .before .before .loop .inv in
     let h = c .before .before .before .before .before .loop-test .taken in
-    let t = pass-turn _ _ _ _ _ _ _ _ _ (i .2) (omega (arith, h, i .1)) (c .before .before .settle-where .ensures) (i .3) in
+    let t = pass-turn _ _ _ _ _ _ _ _ _ (i .2) (omega (arith, h, i .1)) (c .before .before .settle-where .ensures)
+    (i .3) in
     (omega (arith, h), i .1, t .0, t .1)
 
 same-length : tie.Need-same-length Inv-loop μ-loop
@@ -68,4 +78,6 @@ returns c =
     pass-done _ _ _ _ _ _ _ (e ∙ sym (size-is _)) (i .1 ∙ sym (size-is _)) (i .2) (i .3)
 
 pub pass-spec : {M : Type 1} → statement M
-pass-spec = tie.close (tie.spec Inv-loop μ-loop may-settle-requires may-settle-requires-2 loop-holds of-half-requires settle-where-requires add-settled add-n loop-less loop-again same-length returns)
+pass-spec = tie.close
+    (tie.spec Inv-loop μ-loop may-settle-requires may-settle-requires-2 loop-holds of-half-requires
+    settle-where-requires add-settled add-n loop-less loop-again same-length returns)

@@ -19,7 +19,9 @@ add-table : tie.Need-add-table
 add-table c = omega (arith, c .before .before .before .before .pre .2)
 
 slice-write-table : tie.Need-slice-write-table
-slice-write-table c = omega (arith, c .before .before .before .before .pre .0, c .before .before .before .before .pre .1)
+slice-write-table c =
+    let at = c .before .before .before .before in
+    omega (arith, at .pre .0, at .pre .1)
 
 same-length-2 : tie.Need-same-length-2
 same-length-2 c = search needs
@@ -28,4 +30,5 @@ returns-2 : tie.Need-returns-2
 returns-2 c = settle-yes _ _ _ _ _ _ (c .before .settles .ensures) (not-false _ (c .if1 .left))
 
 pub settle-spec : {M : Type 1} → statement M
-settle-spec = tie.close (tie.spec settles-requires same-length returns add-table slice-write-table same-length-2 returns-2)
+settle-spec =
+    tie.close (tie.spec settles-requires same-length returns add-table slice-write-table same-length-2 returns-2)

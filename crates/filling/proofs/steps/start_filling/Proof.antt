@@ -20,7 +20,10 @@ same-length : tie.Need-same-length
 same-length c = search needs
 
 returns-3 : tie.Need-returns-3
-returns-3 c = start-on _ _ _ _ (c .before .before .before .before .before .before .progress-at .ensures) (c .before .before .before .before .before .if1 .left) (c .before .before .before .before .if2 .left) (c .before .before .start .ensures)
+returns-3 c =
+    start-on _ _ _ _ (c .before .before .before .before .before .before .progress-at .ensures)
+    (c .before .before .before .before .before .if1 .left) (c .before .before .before .before .if2 .left)
+    (c .before .before .start .ensures)
 
 pub start-filling-spec : {M : Type 1} → statement M
 start-filling-spec =

@@ -23,16 +23,24 @@ same-length : tie.Need-same-length
 same-length c = search needs
 
 returns-3 : tie.Need-returns-3
-returns-3 c = step-taken _ _ _ (c .before .before .before .before .before .before .before .before .before .if1 .left) (c .before .before .before .before .before .before .before .before .if2 .left) _ _ _ (c .before .before .before .before .before .before .before .if3 .taken) (c .before .before .before .before .before .next-depth .ensures) (c .before .before .step-at .ensures)
+returns-3 c =
+    step-taken _ _ _ (c .before .before .before .before .before .before .before .before .before .if1 .left)
+    (c .before .before .before .before .before .before .before .before .if2 .left) _ _ _
+    (c .before .before .before .before .before .before .before .if3 .taken)
+    (c .before .before .before .before .before .next-depth .ensures) (c .before .before .step-at .ensures)
 
 ended-requires : tie.Need-ended-requires
 ended-requires c κs = search needs
 
 returns-4 : tie.Need-returns-4
-returns-4 c = step-over _ _ _ (c .before .before .before .before .if1 .left) (c .before .before .before .if2 .left) _ (c .before .if4 .taken) (c .ended .ensures)
+returns-4 c =
+    step-over _ _ _ (c .before .before .before .before .if1 .left) (c .before .before .before .if2 .left) _
+    (c .before .if4 .taken) (c .ended .ensures)
 
 returns-5 : tie.Need-returns-5
-returns-5 c = step-ten _ _ _ (c .before .before .before .if1 .left) (c .before .before .if2 .left) (c .before .if3 .left) (c .if4 .left)
+returns-5 c =
+    step-ten _ _ _ (c .before .before .before .if1 .left) (c .before .before .if2 .left) (c .before .if3 .left)
+    (c .if4 .left)
 
 pub take-step-spec : {M : Type 1} → statement M
 take-step-spec =

@@ -41,7 +41,15 @@ returns : tie.Need-returns
 unfolding frameOf
 returns c =
     let x = c .before .before .before in
-    rw (c .pair-in .ensures, c .before .exchanged2 .ensures, c .before .before .exchanged .ensures, x .exchange-of .ensures, x .before .flipped2 .ensures, x .before .before .flipped .ensures, x .before .before .before .flip-of .ensures)
+    rw (
+      c .pair-in .ensures,
+      c .before .exchanged2 .ensures,
+      c .before .before .exchanged .ensures,
+      x .exchange-of .ensures,
+      x .before .flipped2 .ensures,
+      x .before .before .flipped .ensures,
+      x .before .before .before .flip-of .ensures,
+    )
 
 pub frame-of-spec : {M : Type 1} → statement M
 frame-of-spec =

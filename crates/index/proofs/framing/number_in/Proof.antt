@@ -24,7 +24,8 @@ add-result : tie.Need-add-result
 add-result c = search needs
 
 returns : tie.Need-returns
-returns c = in-exchanged _ _ _ (c .before .before .before .before .flipped .ensures) _ (sym (c .before .before .before .exchanges-man .ensures) ∙ c .before .before .if1 .taken) (c .transposed .ensures)
+returns c = in-exchanged _ _ _ (c .before .before .before .before .flipped .ensures) _
+    (sym (c .before .before .before .exchanges-man .ensures) ∙ c .before .before .if1 .taken) (c .transposed .ensures)
 
 cast-result-3 : tie.Need-cast-result-3
 cast-result-3 c = search needs
@@ -36,7 +37,9 @@ add-result-2 : tie.Need-add-result-2
 add-result-2 c = search needs
 
 returns-2 : tie.Need-returns-2
-returns-2 c = in-plain _ _ _ (c .before .before .before .flipped .ensures) (sym (c .before .before .exchanges-man .ensures) ∙ c .before .if1 .left)
+returns-2 c =
+    in-plain _ _ _ (c .before .before .before .flipped .ensures)
+    (sym (c .before .before .exchanges-man .ensures) ∙ c .before .if1 .left)
 
 pub number-in-spec : {M : Type 1} → statement M
 number-in-spec =

@@ -1,27 +1,27 @@
 -- `lines::fields::man_code` meets its contract: each arm by the letter that it names.
 use borrow.Author.Tests.{ne-eqb}
-use Rattle.lines.specs.Grammar.{manOf}
+use Rattle.lines.specs.Grammar.{kindNamed}
 use Rattle.lines.proofs.fields.man_code.Statement.{statement}
 use Rattle.lines.proofs.fields.man_code.Tie as tie
 
 returns : tie.Need-returns
-unfolding manOf
+unfolding kindNamed
 returns c = rw (c .match .keys1)
 
 returns-2 : tie.Need-returns-2
-unfolding manOf
+unfolding kindNamed
 returns-2 c = rw (c .match .keys2)
 
 returns-3 : tie.Need-returns-3
-unfolding manOf
+unfolding kindNamed
 returns-3 c = rw (c .match .keys3)
 
 returns-4 : tie.Need-returns-4
-unfolding manOf
+unfolding kindNamed
 returns-4 c = rw (c .match .keys4)
 
 returns-5 : tie.Need-returns-5
-unfolding manOf
+unfolding kindNamed
 returns-5 c =
     let other = c .match .rest in
     simp (ne-eqb _ _ (other .0 .0 .0 .1), ne-eqb _ _ (other .0 .0 .1), ne-eqb _ _ (other .0 .1), ne-eqb _ _ (other .1))

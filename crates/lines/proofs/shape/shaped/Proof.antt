@@ -42,7 +42,8 @@ returns-2 : tie.Need-returns-2 Inv-loop μ-loop
 returns-2 c =
     let f = c .before in
     let at = f .before .before .before .before in
-    sym (at .loop .inv .rest ∙ shape-first _ _ (at .loop .i) (omega arith) (omega arith) ∙ rw (sym (f .fits-place .ensures) ∙ not-true _ (c .if2 .taken)))
+    sym (at .loop .inv .rest ∙ shape-first _ _ (at .loop .i) (omega arith) (omega arith)
+    ∙ rw (sym (f .fits-place .ensures) ∙ not-true _ (c .if2 .taken)))
 
 add-i : tie.Need-add-i Inv-loop μ-loop
 add-i c = search needs
@@ -57,7 +58,8 @@ loop-again c =
     record {
       alike = at .loop .inv .alike;
       within = omega arith;
-      rest = at .loop .inv .rest ∙ shape-first _ _ (at .loop .i) (omega arith) (omega arith) ∙ rw (sym (f .fits-place .ensures) ∙ not-false _ (c .if2 .left));
+      rest = at .loop .inv .rest ∙ shape-first _ _ (at .loop .i) (omega arith) (omega arith)
+          ∙ rw (sym (f .fits-place .ensures) ∙ not-false _ (c .if2 .left));
     }
 
 returns-3 : tie.Need-returns-3 Inv-loop μ-loop

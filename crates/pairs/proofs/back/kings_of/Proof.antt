@@ -17,26 +17,35 @@ array-read-result c = let e = c .row-of .ensures in omega (arith, row-lt (c .bef
 
 cast-result : tie.Need-cast-result
 unfolding blacks
-cast-result c = let f = kings-found (c .before .before .args .pair) (c .row-of .result) (c .before .if1 .left) (c .row-of .ensures) .small in omega arith
+cast-result c = let f =
+    kings-found (c .before .before .args .pair) (c .row-of .result) (c .before .if1 .left)
+    (c .row-of .ensures) .small in omega arith
 
 mul-result : tie.Need-mul-result
 unfolding blacks
-mul-result c = let f = kings-found (c .before .before .args .pair) (c .row-of .result) (c .before .if1 .left) (c .row-of .ensures) .small in omega arith
+mul-result c = let f =
+    kings-found (c .before .before .args .pair) (c .row-of .result) (c .before .if1 .left)
+    (c .row-of .ensures) .small in omega arith
 
 array-read-result-2 : tie.Need-array-read-result-2
 array-read-result-2 c = search needs
 
 cast-result-2 : tie.Need-cast-result-2
 unfolding blacks
-cast-result-2 c = let f = kings-found (c .before .before .args .pair) (c .row-of .result) (c .before .if1 .left) (c .row-of .ensures) .small in omega arith
+cast-result-2 c = let f =
+    kings-found (c .before .before .args .pair) (c .row-of .result) (c .before .if1 .left)
+    (c .row-of .ensures) .small in omega arith
 
 add-result : tie.Need-add-result
 unfolding blacks
-add-result c = let f = kings-found (c .before .before .args .pair) (c .row-of .result) (c .before .if1 .left) (c .row-of .ensures) .small in omega arith
+add-result c = let f =
+    kings-found (c .before .before .args .pair) (c .row-of .result) (c .before .if1 .left)
+    (c .row-of .ensures) .small in omega arith
 
 returns-2 : tie.Need-returns-2
 unfolding blacks
-returns-2 c = kings-found (c .before .before .args .pair) (c .row-of .result) (c .before .if1 .left) (c .row-of .ensures) .kings
+returns-2 c =
+    kings-found (c .before .before .args .pair) (c .row-of .result) (c .before .if1 .left) (c .row-of .ensures) .kings
 
 pub kings-of-spec : {M : Type 1} → statement M
 kings-of-spec =

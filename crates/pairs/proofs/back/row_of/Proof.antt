@@ -26,7 +26,9 @@ array-read-if1 : tie.Need-array-read-if1 Inv-loop μ-loop
 array-read-if1 c = omega arith
 
 returns : tie.Need-returns Inv-loop μ-loop
-returns c = let l = c .before .before .loop in sym (row-here (l .i) (c .before .before .before .args .pair) (c .before .loop-test .taken) (c .if1 .taken)) ∙ l .inv .1
+returns c = let l = c .before .before .loop in
+    sym (row-here (l .i) (c .before .before .before .args .pair) (c .before .loop-test .taken) (c .if1 .taken))
+    ∙ l .inv .1
 
 add-i : tie.Need-add-i Inv-loop μ-loop
 add-i c = omega arith
@@ -36,11 +38,15 @@ loop-less c = omega arith
 
 loop-again : tie.Need-loop-again Inv-loop μ-loop
 loop-again c =
-    let l = c .before .before .loop in
-    (omega arith, sym (row-next (l .i) (c .before .before .before .args .pair) (c .before .loop-test .taken) (c .if1 .left)) ∙ l .inv .1)
+    let l = c .before .before .loop in (
+      omega arith,
+      sym (row-next (l .i) (c .before .before .before .args .pair) (c .before .loop-test .taken) (c .if1 .left))
+          ∙ l .inv .1,
+    )
 
 returns-2 : tie.Need-returns-2 Inv-loop μ-loop
-returns-2 c = sym (row-last (c .before .loop .i) (c .before .before .args .pair) (omega arith)) ∙ c .before .loop .inv .1
+returns-2 c =
+    sym (row-last (c .before .loop .i) (c .before .before .args .pair) (omega arith)) ∙ c .before .loop .inv .1
 
 pub row-of-spec : {M : Type 1} → statement M
 row-of-spec =

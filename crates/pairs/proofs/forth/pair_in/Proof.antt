@@ -31,7 +31,11 @@ element-copy-out-result c = search needs
 returns-3 : tie.Need-returns-3
 returns-3 c =
     let s = c .before .before .before in
-    rw (s .slot-of .ensures) (in-entry _ _ _ (rw (s .slot-of .ensures) at (c .before .before .if1 .left)) (c .before .if2 .left))
+    rw (s .slot-of .ensures)
+    (in-entry _ _ _ (rw (s .slot-of .ensures) at (c .before .before .if1 .left)) (c .before .if2 .left))
 
 pub pair-in-spec : {M : Type 1} → statement M
-pair-in-spec = tie.close (tie.spec slot-of-requires returns returns-2 cast-result mul-result add-result mul-result-2 element-copy-out-result returns-3)
+pair-in-spec =
+    tie.close
+    (tie.spec slot-of-requires returns returns-2 cast-result mul-result add-result mul-result-2 element-copy-out-result
+    returns-3)

@@ -16,10 +16,16 @@ sub-result : tie.Need-sub-result
 sub-result c = search needs
 
 mul-result : tie.Need-mul-result
-mul-result c = omega (arith, place-small (c .before .before .args .white / 8) (omega (arith, c .before .if1 .left, c .if2 .left)))
+mul-result c =
+    omega (arith, place-small (c .before .before .args .white / 8) (omega (arith, c .before .if1 .left, c .if2 .left)))
 
 add-result : tie.Need-add-result
-add-result c = omega (arith, c .before .if1 .left, place-small (c .before .before .args .white / 8) (omega (arith, c .before .if1 .left, c .if2 .left)))
+add-result c =
+    omega (
+      arith,
+      c .before .if1 .left,
+      place-small (c .before .before .args .white / 8) (omega (arith, c .before .if1 .left, c .if2 .left)),
+    )
 
 returns-3 : tie.Need-returns-3
 returns-3 c = slot-place _ (c .before .if1 .left) (c .if2 .left)

@@ -56,7 +56,8 @@ add-result-3 : tie.Need-add-result-3
 add-result-3 c = search needs
 
 returns : tie.Need-returns
-returns c = four-bytes _ _ _ _ _ _ (c .before .before .before .before .before .before .wide .ensures) (c .before .before .before .before .wide2 .ensures) (c .before .before .wide3 .ensures) (c .wide4 .ensures)
+returns c = four-bytes _ _ _ _ _ _ (c .before .before .before .before .before .before .wide .ensures)
+    (c .before .before .before .before .wide2 .ensures) (c .before .before .wide3 .ensures) (c .wide4 .ensures)
 
 pub four-spec : {M : Type 1} → statement M
 four-spec =

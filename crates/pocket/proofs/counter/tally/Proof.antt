@@ -22,13 +22,27 @@ word-requires : tie.Need-word-requires Inv-loop μ-loop
 word-requires c κs = omega (arith, c .loop-test .taken, c .before .loop .inv .eights, c .before .before .if1 .left)
 
 add-low : tie.Need-add-low Inv-loop μ-loop
-add-low c = omega (arith, sums-room _ _ _ _ _ (sums-more _ _ _ _ _ (c .before .before .loop .inv) _ (c .before .loop-test .taken) (c .word .ensures)) .0)
+add-low c = omega (
+  arith,
+  sums-room _ _ _ _ _
+      (sums-more _ _ _ _ _ (c .before .before .loop .inv) _ (c .before .loop-test .taken) (c .word .ensures)) .0,
+)
 
 add-high : tie.Need-add-high Inv-loop μ-loop
-add-high c = omega (arith, sums-room _ _ _ _ _ (sums-more _ _ _ _ _ (c .before .before .loop .inv) _ (c .before .loop-test .taken) (c .word .ensures)) .1)
+add-high c =
+    omega (
+      arith,
+      sums-room _ _ _ _ _
+          (sums-more _ _ _ _ _ (c .before .before .loop .inv) _ (c .before .loop-test .taken) (c .word .ensures)) .1,
+    )
 
 add-both : tie.Need-add-both Inv-loop μ-loop
-add-both c = omega (arith, sums-room _ _ _ _ _ (sums-more _ _ _ _ _ (c .before .before .loop .inv) _ (c .before .loop-test .taken) (c .word .ensures)) .2)
+add-both c =
+    omega (
+      arith,
+      sums-room _ _ _ _ _
+          (sums-more _ _ _ _ _ (c .before .before .loop .inv) _ (c .before .loop-test .taken) (c .word .ensures)) .2,
+    )
 
 add-i : tie.Need-add-i Inv-loop μ-loop
 add-i c = omega (arith, c .before .loop-test .taken)

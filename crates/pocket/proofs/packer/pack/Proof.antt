@@ -37,13 +37,18 @@ loop-less : tie.Need-loop-less Inv-loop μ-loop
 loop-less c = simp length-set (omega arith)
 
 loop-again : tie.Need-loop-again Inv-loop μ-loop
-loop-again c = let u = c .before .before .loop .inv .1 in (simp length-set (omega arith), upto-more _ _ _ _ _ u (omega (arith, u .same-length, c .before .loop-test .taken)) (c .packed-byte .ensures))
+loop-again c = let u = c .before .before .loop .inv .1 in (
+  simp length-set (omega arith),
+  upto-more _ _ _ _ _ u (omega (arith, u .same-length, c .before .loop-test .taken)) (c .packed-byte .ensures),
+)
 
 same-length : tie.Need-same-length Inv-loop μ-loop
 same-length c = c .before .loop .inv .1 .same-length
 
 returns-3 : tie.Need-returns-3 Inv-loop μ-loop
-returns-3 c = let u = c .before .loop .inv .1 in pack-done _ _ (c .before .before .before .if1 .left) _ (c .before .before .if2 .left) (upto-all _ _ _ _ u (omega (arith, u .same-length)))
+returns-3 c = let u = c .before .loop .inv .1 in
+    pack-done _ _ (c .before .before .before .if1 .left) _ (c .before .before .if2 .left)
+    (upto-all _ _ _ _ u (omega (arith, u .same-length)))
 
 pub pack-spec : {M : Type 1} → statement M
 pack-spec =

@@ -59,7 +59,9 @@ add-result-3 : tie.Need-add-result-3
 add-result-3 c = search needs
 
 returns : tie.Need-returns
-returns c = packed-sum _ _ _ _ _ _ (c .before .before .before .before .before .before .entry .ensures .0) (c .before .before .before .before .entry2 .ensures .0) (c .before .before .entry3 .ensures .0) (c .entry4 .ensures .0)
+returns c = packed-sum _ _ _ _ _ _ (c .before .before .before .before .before .before .entry .ensures .0)
+    (c .before .before .before .before .entry2 .ensures .0) (c .before .before .entry3 .ensures .0)
+    (c .entry4 .ensures .0)
 
 pub packed-byte-spec : {M : Type 1} → statement M
 packed-byte-spec =

@@ -24,7 +24,8 @@ answer-requires c κs = tt
 returns-3 : tie.Need-returns-3
 returns-3 c =
     let l = c .before .before .before in
-    answered _ _ _ (l .before .before .standing-refusal .ensures) (l .before .if1 .left) _ _ _ (l .if2 .left) (c .before .before .number-by-rows .ensures) (c .before .entry-at .ensures) (c .answer .ensures)
+    answered _ _ _ (l .before .before .standing-refusal .ensures) (l .before .if1 .left) _ _ _ (l .if2 .left)
+    (c .before .before .number-by-rows .ensures) (c .before .entry-at .ensures) (c .answer .ensures)
 
 pub look-up-spec : {M : Type 1} → statement M
 look-up-spec =

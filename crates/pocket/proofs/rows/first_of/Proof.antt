@@ -48,8 +48,24 @@ returns-10 c = (rw (c .match .keys10), omega arith)
 returns-11 : tie.Need-returns-11
 unfolding firstOf
 returns-11 c =
-    let other = c .match .rest in
-    (simp (ne-eqb _ _ (other .0 .0 .0 .0 .0 .0 .0 .0 .0 .1), ne-eqb _ _ (other .0 .0 .0 .0 .0 .0 .0 .0 .1), ne-eqb _ _ (other .0 .0 .0 .0 .0 .0 .0 .1), ne-eqb _ _ (other .0 .0 .0 .0 .0 .0 .1), ne-eqb _ _ (other .0 .0 .0 .0 .0 .1), ne-eqb _ _ (other .0 .0 .0 .0 .1), ne-eqb _ _ (other .0 .0 .0 .1), ne-eqb _ _ (other .0 .0 .1), ne-eqb _ _ (other .0 .1), ne-eqb _ _ (other .1)), omega arith)
+    let other = c .match .rest in (
+      simp (
+        ne-eqb _ _ (other .0 .0 .0 .0 .0 .0 .0 .0 .0 .1),
+        ne-eqb _ _ (other .0 .0 .0 .0 .0 .0 .0 .0 .1),
+        ne-eqb _ _ (other .0 .0 .0 .0 .0 .0 .0 .1),
+        ne-eqb _ _ (other .0 .0 .0 .0 .0 .0 .1),
+        ne-eqb _ _ (other .0 .0 .0 .0 .0 .1),
+        ne-eqb _ _ (other .0 .0 .0 .0 .1),
+        ne-eqb _ _ (other .0 .0 .0 .1),
+        ne-eqb _ _ (other .0 .0 .1),
+        ne-eqb _ _ (other .0 .1),
+        ne-eqb _ _ (other .1),
+      ),
+      omega arith,
+    )
 
 pub first-of-spec : {M : Type 1} → statement M
-first-of-spec = tie.close (tie.spec returns returns-2 returns-3 returns-4 returns-5 returns-6 returns-7 returns-8 returns-9 returns-10 returns-11)
+first-of-spec =
+    tie.close
+    (tie.spec returns returns-2 returns-3 returns-4 returns-5 returns-6 returns-7 returns-8 returns-9 returns-10
+    returns-11)

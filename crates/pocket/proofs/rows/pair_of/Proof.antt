@@ -28,13 +28,27 @@ rem-below : tie.Need-rem-below
 rem-below c = bit-some _ (c .before .before .before .if1 .left)
 
 add-result : tie.Need-add-result
-add-result c = omega (arith, c .first-of .ensures .1, part-ones (c .before .before .row-of .result) (bit (c .before .before .before .before .args .black)) (c .before .before .row-of .ok))
+add-result c =
+    omega (
+      arith,
+      c .first-of .ensures .1,
+      part-ones (c .before .before .row-of .result) (bit (c .before .before .before .before .args .black))
+          (c .before .before .row-of .ok),
+    )
 
 cast-result : tie.Need-cast-result
-cast-result c = omega (arith, c .first-of .ensures .1, part-ones (c .before .before .row-of .result) (bit (c .before .before .before .before .args .black)) (c .before .before .row-of .ok))
+cast-result c =
+    omega (
+      arith,
+      c .first-of .ensures .1,
+      part-ones (c .before .before .row-of .result) (bit (c .before .before .before .before .args .black))
+          (c .before .before .row-of .ok),
+    )
 
 returns-3 : tie.Need-returns-3
-returns-3 c = bit-pair _ _ _ (c .before .before .row-of .ensures) (c .before .before .before .if1 .left) _ (c .before .before .row-of .ok) (c .first-of .ensures .0) (c .before .if2 .left)
+returns-3 c =
+    bit-pair _ _ _ (c .before .before .row-of .ensures) (c .before .before .before .if1 .left) _
+    (c .before .before .row-of .ok) (c .first-of .ensures .0) (c .before .if2 .left)
 
 pub pair-of-spec : {M : Type 1} → statement M
 pair-of-spec =

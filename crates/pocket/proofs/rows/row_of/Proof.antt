@@ -48,7 +48,21 @@ returns-11 : tie.Need-returns-11
 unfolding rowOf
 returns-11 c =
     let other = c .match .rest in
-    simp (ne-eqb _ _ (other .0 .0 .0 .0 .0 .0 .0 .0 .0 .1), ne-eqb _ _ (other .0 .0 .0 .0 .0 .0 .0 .0 .1), ne-eqb _ _ (other .0 .0 .0 .0 .0 .0 .0 .1), ne-eqb _ _ (other .0 .0 .0 .0 .0 .0 .1), ne-eqb _ _ (other .0 .0 .0 .0 .0 .1), ne-eqb _ _ (other .0 .0 .0 .0 .1), ne-eqb _ _ (other .0 .0 .0 .1), ne-eqb _ _ (other .0 .0 .1), ne-eqb _ _ (other .0 .1), ne-eqb _ _ (other .1))
+    simp (
+      ne-eqb _ _ (other .0 .0 .0 .0 .0 .0 .0 .0 .0 .1),
+      ne-eqb _ _ (other .0 .0 .0 .0 .0 .0 .0 .0 .1),
+      ne-eqb _ _ (other .0 .0 .0 .0 .0 .0 .0 .1),
+      ne-eqb _ _ (other .0 .0 .0 .0 .0 .0 .1),
+      ne-eqb _ _ (other .0 .0 .0 .0 .0 .1),
+      ne-eqb _ _ (other .0 .0 .0 .0 .1),
+      ne-eqb _ _ (other .0 .0 .0 .1),
+      ne-eqb _ _ (other .0 .0 .1),
+      ne-eqb _ _ (other .0 .1),
+      ne-eqb _ _ (other .1),
+    )
 
 pub row-of-spec : {M : Type 1} → statement M
-row-of-spec = tie.close (tie.spec returns returns-2 returns-3 returns-4 returns-5 returns-6 returns-7 returns-8 returns-9 returns-10 returns-11)
+row-of-spec =
+    tie.close
+    (tie.spec returns returns-2 returns-3 returns-4 returns-5 returns-6 returns-7 returns-8 returns-9 returns-10
+    returns-11)

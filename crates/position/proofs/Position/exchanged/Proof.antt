@@ -19,8 +19,11 @@ slot-transposed-requires-2 c κs = search needs
 
 returns : tie.Need-returns
 returns c =
-    by-squares exchange (c .before .before .before .before .args .self) _ _ _ _ (c .before .before .before .transposed .ensures) (c .before .before .transposed2 .ensures) (c .before .slot-transposed .ensures) (c .slot-transposed2 .ensures)
+    by-squares exchange (c .before .before .before .before .args .self) _ _ _ _
+    (c .before .before .before .transposed .ensures) (c .before .before .transposed2 .ensures)
+    (c .before .slot-transposed .ensures) (c .slot-transposed2 .ensures)
 
 pub exchanged-spec : {M : Type 1} → statement M
 exchanged-spec =
-    tie.close (tie.spec transposed-requires transposed-requires-2 slot-transposed-requires slot-transposed-requires-2 returns)
+    tie.close (tie.spec transposed-requires transposed-requires-2 slot-transposed-requires slot-transposed-requires-2
+    returns)

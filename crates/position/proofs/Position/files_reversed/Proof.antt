@@ -19,9 +19,12 @@ slot-file-reversed-requires-2 c κs = search needs
 
 returns : tie.Need-returns
 returns c =
-    by-squares filesReversed (c .before .before .before .before .args .self) _ _ _ _ (c .before .before .before .file-reversed .ensures) (c .before .before .file-reversed2 .ensures) (c .before .slot-file-reversed .ensures) (c .slot-file-reversed2 .ensures)
+    by-squares filesReversed (c .before .before .before .before .args .self) _ _ _ _
+    (c .before .before .before .file-reversed .ensures) (c .before .before .file-reversed2 .ensures)
+    (c .before .slot-file-reversed .ensures) (c .slot-file-reversed2 .ensures)
 
 pub files-reversed-spec : {M : Type 1} → statement M
 files-reversed-spec =
     tie.close
-    (tie.spec file-reversed-requires file-reversed-requires-2 slot-file-reversed-requires slot-file-reversed-requires-2 returns)
+    (tie.spec file-reversed-requires file-reversed-requires-2 slot-file-reversed-requires slot-file-reversed-requires-2
+    returns)

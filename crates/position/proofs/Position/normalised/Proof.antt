@@ -16,10 +16,13 @@ exchanged-requires : tie.Need-exchanged-requires
 exchanged-requires c κs = search needs
 
 returns : tie.Need-returns
-returns c = c .exchanged .ensures ∙ normal-by _ _ true (c .before .before .before .turned .ensures) (sym (c .before .if1 .taken) ∙ c .before .before .swaps .ensures)
+returns c = c .exchanged .ensures
+    ∙ normal-by _ _ true (c .before .before .before .turned .ensures)
+    (sym (c .before .if1 .taken) ∙ c .before .before .swaps .ensures)
 
 returns-2 : tie.Need-returns-2
-returns-2 c = sym (unmoved _) ∙ normal-by _ _ false (c .before .before .turned .ensures) (sym (c .if1 .left) ∙ c .before .swaps .ensures)
+returns-2 c = sym (unmoved _)
+    ∙ normal-by _ _ false (c .before .before .turned .ensures) (sym (c .if1 .left) ∙ c .before .swaps .ensures)
 
 pub normalised-spec : {M : Type 1} → statement M
 normalised-spec =

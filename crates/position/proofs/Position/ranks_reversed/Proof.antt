@@ -19,9 +19,12 @@ slot-rank-reversed-requires-2 c κs = search needs
 
 returns : tie.Need-returns
 returns c =
-    by-squares ranksReversed (c .before .before .before .before .args .self) _ _ _ _ (c .before .before .before .rank-reversed .ensures) (c .before .before .rank-reversed2 .ensures) (c .before .slot-rank-reversed .ensures) (c .slot-rank-reversed2 .ensures)
+    by-squares ranksReversed (c .before .before .before .before .args .self) _ _ _ _
+    (c .before .before .before .rank-reversed .ensures) (c .before .before .rank-reversed2 .ensures)
+    (c .before .slot-rank-reversed .ensures) (c .slot-rank-reversed2 .ensures)
 
 pub ranks-reversed-spec : {M : Type 1} → statement M
 ranks-reversed-spec =
     tie.close
-    (tie.spec rank-reversed-requires rank-reversed-requires-2 slot-rank-reversed-requires slot-rank-reversed-requires-2 returns)
+    (tie.spec rank-reversed-requires rank-reversed-requires-2 slot-rank-reversed-requires slot-rank-reversed-requires-2
+    returns)

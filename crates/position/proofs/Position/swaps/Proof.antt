@@ -18,11 +18,18 @@ returns-2 c = simp (le-ltb _ _ (c .before .if1 .left), ne-eqb _ _ (c .if2 .taken
 
 returns-3 : tie.Need-returns-3
 unfolding swapsKings boardOf
-returns-3 c = simp (le-ltb _ _ (c .before .before .if1 .left), eq-eqb _ _ (c .before .if2 .left), lt-ltb _ _ (c .if3 .taken))
+returns-3 c =
+    simp (le-ltb _ _ (c .before .before .if1 .left), eq-eqb _ _ (c .before .if2 .left), lt-ltb _ _ (c .if3 .taken))
 
 returns-4 : tie.Need-returns-4
 unfolding swapsKings boardOf
-returns-4 c = simp (le-ltb _ _ (c .before .before .before .if1 .left), eq-eqb _ _ (c .before .before .if2 .left), le-ltb _ _ (c .before .if3 .left), ne-eqb _ _ (c .if4 .taken))
+returns-4 c =
+    simp (
+      le-ltb _ _ (c .before .before .before .if1 .left),
+      eq-eqb _ _ (c .before .before .if2 .left),
+      le-ltb _ _ (c .before .if3 .left),
+      ne-eqb _ _ (c .if4 .taken),
+    )
 
 men-above-requires : tie.Need-men-above-requires
 men-above-requires c κs = search needs
@@ -35,7 +42,9 @@ returns-5 : tie.Need-returns-5
 unfolding swapsKings boardOf
 returns-5 c =
     c .men-above .ensures
-    ∙ last _ _ _ _ _ (le-ltb _ _ (c .before .before .before .before .if1 .left)) (eq-eqb _ _ (c .before .before .before .if2 .left)) (le-ltb _ _ (c .before .before .if3 .left)) (eq-eqb _ _ (c .before .if4 .left))
+    ∙ last _ _ _ _ _ (le-ltb _ _ (c .before .before .before .before .if1 .left))
+    (eq-eqb _ _ (c .before .before .before .if2 .left)) (le-ltb _ _ (c .before .before .if3 .left))
+    (eq-eqb _ _ (c .before .if4 .left))
 
 pub swaps-spec : {M : Type 1} → statement M
 swaps-spec = tie.close (tie.spec returns returns-2 returns-3 returns-4 men-above-requires returns-5)

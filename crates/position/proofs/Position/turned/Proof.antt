@@ -24,16 +24,21 @@ returns c =
     ∙ turned-by p true true (lt-ltb _ _ (c .before .before .before .if1 .taken)) (lt-ltb _ _ (c .before .if2 .taken))
 
 returns-2 : tie.Need-returns-2
-returns-2 c = c .before .files-reversed .ensures ∙ turned-by (c .before .before .before .args .self) true false (lt-ltb _ _ (c .before .before .if1 .taken)) (le-ltb _ _ (c .if2 .left))
+returns-2 c = c .before .files-reversed .ensures
+    ∙ turned-by (c .before .before .before .args .self) true false (lt-ltb _ _ (c .before .before .if1 .taken))
+    (le-ltb _ _ (c .if2 .left))
 
 ranks-reversed-requires-2 : tie.Need-ranks-reversed-requires-2
 ranks-reversed-requires-2 c κs = search needs
 
 returns-3 : tie.Need-returns-3
-returns-3 c = c .ranks-reversed2 .ensures ∙ turned-by (c .before .before .before .args .self) false true (le-ltb _ _ (c .before .before .if1 .left)) (lt-ltb _ _ (c .before .if3 .taken))
+returns-3 c = c .ranks-reversed2 .ensures
+    ∙ turned-by (c .before .before .before .args .self) false true (le-ltb _ _ (c .before .before .if1 .left))
+    (lt-ltb _ _ (c .before .if3 .taken))
 
 returns-4 : tie.Need-returns-4
-returns-4 c = let p = c .before .before .args .self in sym (unmoved p) ∙ turned-by p false false (le-ltb _ _ (c .before .if1 .left)) (le-ltb _ _ (c .if3 .left))
+returns-4 c = let p = c .before .before .args .self in sym (unmoved p)
+    ∙ turned-by p false false (le-ltb _ _ (c .before .if1 .left)) (le-ltb _ _ (c .if3 .left))
 
 pub turned-spec : {M : Type 1} → statement M
 turned-spec =

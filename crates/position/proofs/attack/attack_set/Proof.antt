@@ -27,7 +27,8 @@ returns c =
     let x = q .before .args in
     λ t h.
     union-four (strikes (has (x .occ)) (x .colour) t) (q .pieces-of .result) _ _ _ _ t
-    (c .before .before .before .strike-set .ensures t h) (c .before .before .strike-set2 .ensures t h) (c .before .strike-set3 .ensures t h) (c .strike-set4 .ensures t h)
+    (c .before .before .before .strike-set .ensures t h) (c .before .before .strike-set2 .ensures t h)
+    (c .before .strike-set3 .ensures t h) (c .strike-set4 .ensures t h)
     ∙ sym (attacked-four (x .p) _ (q .pieces-of .ensures) (has (x .occ)) (x .colour) t)
 
 pub attack-set-spec : {M : Type 1} → statement M

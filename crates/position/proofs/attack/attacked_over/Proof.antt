@@ -24,7 +24,12 @@ returns : tie.Need-returns
 returns c =
     let q = c .before .before .before .before in
     let x = q .before .args in
-    rw (c .before .before .before .strikes .ensures, c .before .before .strikes2 .ensures, c .before .strikes3 .ensures, c .strikes4 .ensures)
+    rw (
+      c .before .before .before .strikes .ensures,
+      c .before .before .strikes2 .ensures,
+      c .before .strikes3 .ensures,
+      c .strikes4 .ensures,
+    )
     (sym (attacked-four (x .p) _ (q .pieces-of .ensures) (has (x .occ)) (x .colour) (x .t)))
 
 pub attacked-over-spec : {M : Type 1} → statement M

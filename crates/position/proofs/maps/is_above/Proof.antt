@@ -1,7 +1,6 @@
 -- `position::is_above` meets its contract.
 use Rattle.position.specs.declared.Slot.{Slot}
-use mathlib.Core.Path.{_≡_, sym, ap, _∙_}
-use mathlib.Core.Bool.{Bool, true, false, _&&_, _||_}
+use mathlib.Core.Path.{sym, ap}
 use Rattle.numbering.specs.Normal.{firstAbove}
 use Rattle.position.specs.laws.MapLaws.{one-above}
 use Rattle.position.specs.Keyed.{slotMen}

@@ -30,7 +30,8 @@ returns c =
     let e = c .one4 in
     set-is _ _ (union-lt _ _ _ _ (a .ok) (b .ok) (d .ok) (e .ok))
     (λ t h.
-    union-four (standsOn t) (q .pieces-of .result) _ _ _ _ t (set-has _ (a .ensures) t h) (set-has _ (b .ensures) t h) (set-has _ (d .ensures) t h) (set-has _ (e .ensures) t h)
+    union-four (standsOn t) (q .pieces-of .result) _ _ _ _ t (set-has _ (a .ensures) t h) (set-has _ (b .ensures) t h)
+    (set-has _ (d .ensures) t h) (set-has _ (e .ensures) t h)
     ∙ sym (occupied-four (q .before .args .p) _ (q .pieces-of .ensures) t h))
 
 pub occupied-spec : {M : Type 1} → statement M

@@ -31,7 +31,8 @@ returns c =
     let colour = q .before .args .colour in
     set-is _ _ (union-lt _ _ _ _ (a .ok) (b .ok) (d .ok) (e .ok))
     (λ t h.
-    union-four (ownOn colour t) (q .pieces-of .result) _ _ _ _ t (a .ensures t h) (b .ensures t h) (d .ensures t h) (e .ensures t h)
+    union-four (ownOn colour t) (q .pieces-of .result) _ _ _ _ t (a .ensures t h) (b .ensures t h) (d .ensures t h)
+    (e .ensures t h)
     ∙ sym (stands-four (q .before .args .p) _ (q .pieces-of .ensures) colour t h))
 
 pub own-spec : {M : Type 1} → statement M

@@ -11,7 +11,8 @@ is-off-requires-2 : tie.Need-is-off-requires-2
 is-off-requires-2 c κs = search needs
 
 returns : tie.Need-returns
-returns c = rw (c .before .is-off .ensures, c .is-off2 .ensures) (off-by-slots (c .before .before .before .before .args .p))
+returns c =
+    rw (c .before .is-off .ensures, c .is-off2 .ensures) (off-by-slots (c .before .before .before .before .args .p))
 
 pub bad-square-spec : {M : Type 1} → statement M
 bad-square-spec = tie.close (tie.spec is-off-requires is-off-requires-2 returns)

@@ -19,7 +19,9 @@ returns : tie.Need-returns
 returns c = search needs
 
 returns-2 : tie.Need-returns-2
-returns-2 c = c .is-on .ensures ∙ sym (ap (λ (f : Slot). slotsShare f (c .before .before .before .before .args .second)) (c .before .before .first .given .1))
+returns-2 c = c .is-on .ensures
+    ∙ sym (ap (λ (f : Slot). slotsShare f (c .before .before .before .before .args .second))
+    (c .before .before .first .given .1))
 
 pub men-share-spec : {M : Type 1} → statement M
 men-share-spec = tie.close (tie.spec enum-told enum-known-first is-on-requires returns returns-2)

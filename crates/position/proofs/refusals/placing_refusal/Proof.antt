@@ -6,7 +6,7 @@ use Rattle.board.specs.Sets.{has}
 use Rattle.board.specs.laws.ReachLaws.{reaches-has, king-reaches}
 use Rattle.rules.specs.Rules.{touching}
 use Rattle.position.specs.Keyed.{boardOf}
-use Rattle.position.specs.Refusals.{placing}
+use Rattle.position.specs.Refusals.{placingRefusal}
 use borrow.Author.Needs.{needs}
 use Rattle.position.proofs.refusals.placing_refusal.Statement.{statement}
 use Rattle.position.proofs.refusals.placing_refusal.Tie as tie
@@ -15,26 +15,45 @@ bad-men-requires : tie.Need-bad-men-requires
 bad-men-requires c κs = search needs
 
 returns : tie.Need-returns
-unfolding placing
+unfolding placingRefusal
 returns c = sym (rw (sym (c .before .bad-men .ensures) ∙ c .if1 .taken))
 
 returns-2 : tie.Need-returns-2
-unfolding placing
-returns-2 c = sym (rw (sym (c .before .before .before .bad-men .ensures) ∙ c .before .before .if1 .left, le-leb _ _ (c .if2 .taken)))
+unfolding placingRefusal
+returns-2 c =
+    sym (rw (
+      sym (c .before .before .before .bad-men .ensures)
+          ∙ c .before .before .if1 .left,
+      le-leb _ _ (c .if2 .taken),
+    ))
 
 bad-square-requires : tie.Need-bad-square-requires
 bad-square-requires c κs = search needs
 
 returns-3 : tie.Need-returns-3
-unfolding placing
-returns-3 c = sym (rw (sym (c .before .before .before .before .before .bad-men .ensures) ∙ c .before .before .before .before .if1 .left, lt-leb _ _ (c .before .before .if2 .left), sym (c .before .bad-square .ensures) ∙ c .if3 .taken))
+unfolding placingRefusal
+returns-3 c =
+    sym (rw (
+      sym (c .before .before .before .before .before .bad-men .ensures)
+          ∙ c .before .before .before .before .if1 .left,
+      lt-leb _ _ (c .before .before .if2 .left),
+      sym (c .before .bad-square .ensures) ∙ c .if3 .taken,
+    ))
 
 shared-square-requires : tie.Need-shared-square-requires
 shared-square-requires c κs = search needs
 
 returns-4 : tie.Need-returns-4
-unfolding placing
-returns-4 c = sym (rw (sym (c .before .before .before .before .before .before .before .bad-men .ensures) ∙ c .before .before .before .before .before .before .if1 .left, lt-leb _ _ (c .before .before .before .before .if2 .left), sym (c .before .before .before .bad-square .ensures) ∙ c .before .before .if3 .left, sym (c .before .shared-square .ensures) ∙ c .if4 .taken))
+unfolding placingRefusal
+returns-4 c =
+    sym (rw (
+      sym (c .before .before .before .before .before .before .before .bad-men .ensures)
+          ∙ c .before .before .before .before .before .before .if1 .left,
+      lt-leb _ _ (c .before .before .before .before .if2 .left),
+      sym (c .before .before .before .bad-square .ensures)
+          ∙ c .before .before .if3 .left,
+      sym (c .before .shared-square .ensures) ∙ c .if4 .taken,
+    ))
 
 targets-requires : tie.Need-targets-requires
 targets-requires c κs = search needs
@@ -43,17 +62,40 @@ has-requires : tie.Need-has-requires
 has-requires c κs = search needs
 
 -- the answer about Black's king in the set of White's
-touches : (c : tie.After-has) → c .has .result ≡ touching (boardOf (c .before .before .before .before .before .before .before .before .before .before .args .p))
+touches : (c : tie.After-has)
+    → c .has .result
+    ≡ touching (boardOf (c .before .before .before .before .before .before .before .before .before .before .args .p))
 unfolding touching boardOf
-touches c = let r = c .before .targets in c .has .ensures ∙ reaches-has _ _ _ _ (r .ensures) (r .ok) ∙ king-reaches (has 0) (λ s. false) _ _
+touches c = let r = c .before .targets in c .has .ensures ∙ reaches-has _ _ _ _ (r .ensures) (r .ok)
+    ∙ king-reaches (has 0) (λ s. false) _ _
 
 returns-5 : tie.Need-returns-5
-unfolding placing
-returns-5 c = sym (rw (sym (c .before .before .before .before .before .before .before .before .before .before .bad-men .ensures) ∙ c .before .before .before .before .before .before .before .before .before .if1 .left, lt-leb _ _ (c .before .before .before .before .before .before .before .if2 .left), sym (c .before .before .before .before .before .before .bad-square .ensures) ∙ c .before .before .before .before .before .if3 .left, sym (c .before .before .before .before .shared-square .ensures) ∙ c .before .before .before .if4 .left, sym (touches (c .before)) ∙ c .if5 .taken))
+unfolding placingRefusal
+returns-5 c =
+    sym (rw (
+      sym (c .before .before .before .before .before .before .before .before .before .before .bad-men .ensures)
+          ∙ c .before .before .before .before .before .before .before .before .before .if1 .left,
+      lt-leb _ _ (c .before .before .before .before .before .before .before .if2 .left),
+      sym (c .before .before .before .before .before .before .bad-square .ensures)
+          ∙ c .before .before .before .before .before .if3 .left,
+      sym (c .before .before .before .before .shared-square .ensures)
+          ∙ c .before .before .before .if4 .left,
+      sym (touches (c .before)) ∙ c .if5 .taken,
+    ))
 
 returns-6 : tie.Need-returns-6
-unfolding placing
-returns-6 c = sym (rw (sym (c .before .before .before .before .before .before .before .before .before .before .bad-men .ensures) ∙ c .before .before .before .before .before .before .before .before .before .if1 .left, lt-leb _ _ (c .before .before .before .before .before .before .before .if2 .left), sym (c .before .before .before .before .before .before .bad-square .ensures) ∙ c .before .before .before .before .before .if3 .left, sym (c .before .before .before .before .shared-square .ensures) ∙ c .before .before .before .if4 .left, sym (touches (c .before)) ∙ c .if5 .left))
+unfolding placingRefusal
+returns-6 c =
+    sym (rw (
+      sym (c .before .before .before .before .before .before .before .before .before .before .bad-men .ensures)
+          ∙ c .before .before .before .before .before .before .before .before .before .if1 .left,
+      lt-leb _ _ (c .before .before .before .before .before .before .before .if2 .left),
+      sym (c .before .before .before .before .before .before .bad-square .ensures)
+          ∙ c .before .before .before .before .before .if3 .left,
+      sym (c .before .before .before .before .shared-square .ensures)
+          ∙ c .before .before .before .if4 .left,
+      sym (touches (c .before)) ∙ c .if5 .left,
+    ))
 
 pub placing-refusal-spec : {M : Type 1} → statement M
 placing-refusal-spec =

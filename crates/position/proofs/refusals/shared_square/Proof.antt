@@ -20,7 +20,14 @@ men-share-requires : tie.Need-men-share-requires
 men-share-requires c κs = search needs
 
 returns : tie.Need-returns
-returns c = rw (c .before .before .before .before .is-on .ensures, c .before .before .before .is-on2 .ensures, c .before .before .is-on3 .ensures, c .before .is-on4 .ensures, c .men-share .ensures) (shared-by-slots (c .before .before .before .before .before .args .p))
+returns c = rw (
+  c .before .before .before .before .is-on .ensures,
+  c .before .before .before .is-on2 .ensures,
+  c .before .before .is-on3 .ensures,
+  c .before .is-on4 .ensures,
+  c .men-share .ensures,
+)
+    (shared-by-slots (c .before .before .before .before .before .args .p))
 
 pub shared-square-spec : {M : Type 1} → statement M
 shared-square-spec =

@@ -1,7 +1,7 @@
 -- `position::standing_refusal` meets its contract: each return by the tests that led there.
 use mathlib.Core.Path.{_≡_, sym, _∙_}
 use borrow.Author.Tests.{eq-eqb, ne-eqb}
-use Rattle.position.specs.Refusals.{placing, otherInCheck, standing}
+use Rattle.position.specs.Refusals.{placingRefusal, otherInCheck, standingRefusal}
 use borrow.Author.Needs.{needs}
 use Rattle.position.proofs.refusals.standing_refusal.Statement.{statement}
 use Rattle.position.proofs.refusals.standing_refusal.Tie as tie
@@ -10,8 +10,9 @@ placing-refusal-requires : tie.Need-placing-refusal-requires
 placing-refusal-requires c κs = search needs
 
 returns : tie.Need-returns
-unfolding standing
-returns c = let e = c .before .placing-refusal .ensures in e ∙ sym (rw (ne-eqb (placing (c .before .before .args .p)) 0 (λ q. c .if1 .taken (e ∙ q))))
+unfolding standingRefusal
+returns c = let e = c .before .placing-refusal .ensures in e
+    ∙ sym (rw (ne-eqb (placingRefusal (c .before .before .args .p)) 0 (λ q. c .if1 .taken (e ∙ q))))
 
 other-requires : tie.Need-other-requires
 other-requires c κs = search needs
@@ -24,12 +25,22 @@ checked : (c : tie.After-in-check) → c .in-check .result ≡ otherInCheck (c .
 checked c = c .in-check .ensures ∙ rw (c .before .other .ensures)
 
 returns-2 : tie.Need-returns-2
-unfolding standing
-returns-2 c = let e = c .before .before .before .before .placing-refusal .ensures in sym (rw (eq-eqb (placing (c .before .before .before .before .before .args .p)) 0 (sym e ∙ c .before .before .before .if1 .left), sym (checked (c .before)) ∙ c .if2 .taken))
+unfolding standingRefusal
+returns-2 c = let e = c .before .before .before .before .placing-refusal .ensures in
+    sym (rw (
+      eq-eqb (placingRefusal (c .before .before .before .before .before .args .p)) 0
+          (sym e ∙ c .before .before .before .if1 .left),
+      sym (checked (c .before)) ∙ c .if2 .taken,
+    ))
 
 returns-3 : tie.Need-returns-3
-unfolding standing
-returns-3 c = let e = c .before .before .before .before .placing-refusal .ensures in sym (rw (eq-eqb (placing (c .before .before .before .before .before .args .p)) 0 (sym e ∙ c .before .before .before .if1 .left), sym (checked (c .before)) ∙ c .if2 .left))
+unfolding standingRefusal
+returns-3 c = let e = c .before .before .before .before .placing-refusal .ensures in
+    sym (rw (
+      eq-eqb (placingRefusal (c .before .before .before .before .before .args .p)) 0
+          (sym e ∙ c .before .before .before .if1 .left),
+      sym (checked (c .before)) ∙ c .if2 .left,
+    ))
 
 pub standing-refusal-spec : {M : Type 1} → statement M
 standing-refusal-spec =

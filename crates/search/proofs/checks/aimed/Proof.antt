@@ -17,7 +17,8 @@ targets-requires c κs = tt
 returns-2 : tie.Need-returns-2
 returns-2 c =
     let x = c .before .before .before .args in
-    λ t h. set-has _ (c .targets .ensures) t h ∙ sym (aims-here (has (x .occ)) (x .from) (x .at) t (x .m) (c .before .if1 .left))
+    λ t h. set-has _ (c .targets .ensures) t h
+    ∙ sym (aims-here (has (x .occ)) (x .from) (x .at) t (x .m) (c .before .if1 .left))
 
 pub aimed-spec : {M : Type 1} → statement M
 aimed-spec = tie.close (tie.spec returns targets-requires returns-2)

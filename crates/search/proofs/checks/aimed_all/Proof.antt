@@ -21,7 +21,8 @@ returns c =
     let x = c .before .before .before .before .args in
     λ t h.
     aims-all (has (x .occ)) (x .from) (x .at) t (x .s) _ _ _ _
-    (c .before .before .before .aimed .ensures t h) (c .before .before .aimed2 .ensures t h) (c .before .aimed-slot .ensures t h) (c .aimed-slot2 .ensures t h)
+    (c .before .before .before .aimed .ensures t h) (c .before .before .aimed2 .ensures t h)
+    (c .before .aimed-slot .ensures t h) (c .aimed-slot2 .ensures t h)
 
 pub aimed-all-spec : {M : Type 1} → statement M
 aimed-all-spec = tie.close (tie.spec aimed-requires aimed-requires-2 aimed-slot-requires aimed-slot-requires-2 returns)

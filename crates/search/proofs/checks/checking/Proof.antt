@@ -38,7 +38,9 @@ returns-3 c =
     let p = w .before in
     let i = p .before in
     let k = i .before in
-    aimed-checks _ _ _ _ _ _ _ (k .before .other .ensures) (k .king-square .ensures) (o .other2 .ensures) (p .occupied .ensures) (w .without .ensures) (i .if1 .left) _ (a .attacked-over .ensures) (c .before .if2 .left) _ (c .aimed-all .ensures)
+    aimed-checks _ _ _ _ _ _ _ (k .before .other .ensures) (k .king-square .ensures) (o .other2 .ensures)
+    (p .occupied .ensures) (w .without .ensures) (i .if1 .left) _ (a .attacked-over .ensures)
+    (c .before .if2 .left) _ (c .aimed-all .ensures)
 
 pub checking-spec : {M : Type 1} → statement M
 checking-spec =

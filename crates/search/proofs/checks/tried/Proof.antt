@@ -13,7 +13,8 @@ checking-requires : tie.Need-checking-requires
 checking-requires c κs = tt
 
 returns-2 : tie.Need-returns-2
-returns-2 c = tried-checks _ _ _ _ (c .before .before .legal-targets .ensures) (c .before .if1 .left) _ (c .checking .ensures)
+returns-2 c =
+    tried-checks _ _ _ _ (c .before .before .legal-targets .ensures) (c .before .if1 .left) _ (c .checking .ensures)
 
 pub tried-spec : {M : Type 1} → statement M
 tried-spec = tie.close (tie.spec legal-targets-requires returns checking-requires returns-2)

@@ -32,14 +32,18 @@ returns-3 c =
     let d = c .before .before in
     let l = d .before .before in
     let e = l .before in
-    opinion-searched _ _ _ (e .before .before .standing-refusal .ensures) (e .before .if1 .left) _ (e .if2 .left) (found-win _ _ (l .loop .inv) _ (d .before .loop-test .taken) _ (d .is-decided .ensures) (c .before .if3 .taken) (c .if4 .taken))
+    opinion-searched _ _ _ (e .before .before .standing-refusal .ensures) (e .before .if1 .left) _ (e .if2 .left)
+    (found-win _ _ (l .loop .inv) _ (d .before .loop-test .taken) _ (d .is-decided .ensures)
+    (c .before .if3 .taken) (c .if4 .taken))
 
 returns-4 : tie.Need-returns-4 Inv-loop μ-loop
 returns-4 c =
     let d = c .before .before in
     let l = d .before .before in
     let e = l .before in
-    opinion-searched _ _ _ (e .before .before .standing-refusal .ensures) (e .before .if1 .left) _ (e .if2 .left) (found-loss _ _ (l .loop .inv) _ (d .before .loop-test .taken) _ (d .is-decided .ensures) (c .before .if3 .taken) (c .if4 .left))
+    opinion-searched _ _ _ (e .before .before .standing-refusal .ensures) (e .before .if1 .left) _ (e .if2 .left)
+    (found-loss _ _ (l .loop .inv) _ (d .before .loop-test .taken) _ (d .is-decided .ensures)
+    (c .before .if3 .taken) (c .if4 .left))
 
 add-n : tie.Need-add-n Inv-loop μ-loop
 add-n c = omega arith
@@ -54,7 +58,11 @@ returns-5 : tie.Need-returns-5 Inv-loop μ-loop
 returns-5 c =
     let l = c .before in
     let e = l .before in
-    opinion-searched _ _ _ (e .before .before .standing-refusal .ensures) (e .before .if1 .left) _ (e .if2 .left) (found-none _ _ (l .loop .inv) _ (c .loop-test .left))
+    opinion-searched _ _ _ (e .before .before .standing-refusal .ensures) (e .before .if1 .left) _ (e .if2 .left)
+    (found-none _ _ (l .loop .inv) _ (c .loop-test .left))
 
 pub second-opinion-spec : {M : Type 1} → statement M
-second-opinion-spec = tie.close (tie.spec Inv-loop μ-loop standing-refusal-requires returns returns-2 loop-holds is-decided-requires returns-3 returns-4 add-n loop-less loop-again returns-5)
+second-opinion-spec =
+    tie.close
+    (tie.spec Inv-loop μ-loop standing-refusal-requires returns returns-2 loop-holds is-decided-requires returns-3
+    returns-4 add-n loop-less loop-again returns-5)

@@ -30,7 +30,15 @@ with-byte-requires-3 c κs = search needs
 
 returns-2 : tie.Need-returns-2
 unfolding decimal appended
-returns-2 c = simp (le-ltb _ _ (c .before .before .before .before .before .if1 .left), lt-ltb _ _ (c .before .before .before .before .if2 .taken), c .with-byte3 .ensures, c .before .digit3 .ensures, c .before .before .with-byte2 .ensures, c .before .before .before .digit2 .ensures)
+returns-2 c =
+    simp (
+      le-ltb _ _ (c .before .before .before .before .before .if1 .left),
+      lt-ltb _ _ (c .before .before .before .before .if2 .taken),
+      c .with-byte3 .ensures,
+      c .before .digit3 .ensures,
+      c .before .before .with-byte2 .ensures,
+      c .before .before .before .digit2 .ensures,
+    )
 
 digit-requires-4 : tie.Need-digit-requires-4
 digit-requires-4 c κs = search needs
@@ -52,7 +60,17 @@ with-byte-requires-6 c κs = search needs
 
 returns-3 : tie.Need-returns-3
 unfolding decimal appended
-returns-3 c = simp (le-ltb _ _ (c .before .before .before .before .before .before .before .if1 .left), le-ltb _ _ (c .before .before .before .before .before .before .if2 .left), c .with-byte6 .ensures, c .before .digit6 .ensures, c .before .before .with-byte5 .ensures, c .before .before .before .digit5 .ensures, c .before .before .before .before .with-byte4 .ensures, c .before .before .before .before .before .digit4 .ensures)
+returns-3 c =
+    simp (
+      le-ltb _ _ (c .before .before .before .before .before .before .before .if1 .left),
+      le-ltb _ _ (c .before .before .before .before .before .before .if2 .left),
+      c .with-byte6 .ensures,
+      c .before .digit6 .ensures,
+      c .before .before .with-byte5 .ensures,
+      c .before .before .before .digit5 .ensures,
+      c .before .before .before .before .with-byte4 .ensures,
+      c .before .before .before .before .before .digit4 .ensures,
+    )
 
 pub with-number-spec : {M : Type 1} → statement M
 with-number-spec =

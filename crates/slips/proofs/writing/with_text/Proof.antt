@@ -1,12 +1,9 @@
 -- `slips::writing::with_text` meets its contract: the loop keeps that writing what is left gives what writing the whole gives.
-use mathlib.Core.Path.{_≡_, refl, ap, sym, _∙_}
-use mathlib.Core.List.{List, []}
-use Prim.Native.Nat.{ℕ, _-_, _≤_}
+use mathlib.Core.Path.{_≡_, refl, sym, _∙_}
+use Prim.Native.Nat.{_-_, _≤_}
 use native.Mathlib.Omega.{arith}
 use borrow.Author.Needs.{needs}
 use lib.ListN.{length, drop}
-use lib.Seq.{drop-length}
-use Rattle.slips.specs.declared.Slip.{Slip}
 use Rattle.slips.specs.Appending.{appended}
 use Rattle.slips.specs.laws.Appending.{appended-first, appended-end}
 use Rattle.slips.proofs.writing.with_text.Statement.{statement}
@@ -34,10 +31,17 @@ loop-less : tie.Need-loop-less Inv-loop μ-loop
 loop-less c = search needs
 
 loop-again : tie.Need-loop-again Inv-loop μ-loop
-loop-again c = (omega arith, c .before .before .before .loop .inv .1 ∙ appended-first _ (c .before .before .before .before .before .args .text .now) (c .before .before .before .loop .i) (omega arith) ∙ rw (sym (c .with-byte .ensures)))
+loop-again c = (
+  omega arith,
+  c .before .before .before .loop .inv .1
+      ∙ appended-first _ (c .before .before .before .before .before .args .text .now)
+      (c .before .before .before .loop .i) (omega arith) ∙ rw (sym (c .with-byte .ensures)),
+)
 
 returns : tie.Need-returns Inv-loop μ-loop
-returns c = sym (c .before .loop .inv .1 ∙ appended-end _ (c .before .before .before .args .text .now) (c .before .loop .i) (omega arith))
+returns c = sym
+    (c .before .loop .inv .1
+    ∙ appended-end _ (c .before .before .before .args .text .now) (c .before .loop .i) (omega arith))
 
 pub with-text-spec : {M : Type 1} → statement M
 with-text-spec =

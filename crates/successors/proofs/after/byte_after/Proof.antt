@@ -33,7 +33,12 @@ returns-2 : tie.Need-returns-2
 returns-2 c =
     let d = c .before .before .before .before .before in
     λ kind. after-moved _ _ kind _ _ _ _ _ _ _ _ _ (d .before .before .before .if1 .left)
-    (c .before .frame-of .ensures ∙ rw (c .before .before .other .ensures, c .before .before .before .carried3 .ensures, c .before .before .before .before .carried2 .ensures))
+    (c .before .frame-of .ensures
+    ∙ rw (
+      c .before .before .other .ensures,
+      c .before .before .before .carried3 .ensures,
+      c .before .before .before .before .carried2 .ensures,
+    ))
     (d .before .before .carried .ensures)
     (c .byte-in .ensures)
 
@@ -44,7 +49,8 @@ returns-3 : tie.Need-returns-3
 returns-3 c =
     let d = c .before in
     λ kind. after-moved _ _ kind _ _ _ _ _ _ _ _ _ (d .before .before .before .if1 .left)
-    (kings-kept _ _ _ _ _ _ _ (sym (d .before .king-moves .ensures) ∙ d .if2 .left) (d .before .before .before .before .before .pre (sym (d .before .king-moves .ensures) ∙ d .if2 .left)))
+    (kings-kept _ _ _ _ _ _ _ (sym (d .before .king-moves .ensures) ∙ d .if2 .left)
+    (d .before .before .before .before .before .pre (sym (d .before .king-moves .ensures) ∙ d .if2 .left)))
     (d .before .before .carried .ensures)
     (c .byte-in2 .ensures)
 

@@ -8,7 +8,8 @@ number-in-requires : tie.Need-number-in-requires
 number-in-requires c κs = search needs
 
 returns : tie.Need-returns
-returns c = read-beyond (c .before .before .before .args .table .now) _ _ (c .before .number-in .ensures) (c .if1 .taken)
+returns c =
+    read-beyond (c .before .before .before .args .table .now) _ _ (c .before .number-in .ensures) (c .if1 .taken)
 
 shared-slice-read-result : tie.Need-shared-slice-read-result
 shared-slice-read-result c = search needs

@@ -13,7 +13,7 @@ use Rattle.board.specs.laws.LowestLaws.{Lowest, lowest-of}
 use Rattle.rules.specs.Rules.{canMove, movesFrom, moves}
 use Rattle.position.specs.Keyed.{boardOf, lone}
 use Rattle.successors.specs.declared.Judged.{Judged}
-use Rattle.successors.specs.Successors.{byteBy, moveIn, judgedOf, judgedFrom}
+use Rattle.successors.specs.Successors.{byteBy, moveFound, judgedOf, judgedFrom}
 use Rattle.successors.specs.laws.JudgeLaws.{advice-in, judged-refuted, judged-found, piece-refutes, piece-turn, piece-end, keyed-movers, keyed-targets}
 use Rattle.successors.specs.laws.VerdictLaws.{made-men}
 use Rattle.successors.proofs.judging.judge.Statement.{statement}
@@ -22,7 +22,10 @@ use Rattle.successors.proofs.judging.judge.Tie as tie
 abbrev Inv-loop : tie.InvT-loop
 Inv-loop list table kind side white square black byte p found₀ rest₀ found rest =
     (rest < 2 ^ 64)
-    × (judgedFrom (byteBy list table) byte (boardOf (lone kind side white square black)) (moveIn found) (flatMap (movesFrom (canMove (boardOf (lone kind side white square black)))) (members rest)) ≡ judgedFrom (byteBy list table) byte (boardOf (lone kind side white square black)) none (moves (boardOf (lone kind side white square black))))
+    × (judgedFrom (byteBy list table) byte (boardOf (lone kind side white square black)) (moveFound found)
+    (flatMap (movesFrom (canMove (boardOf (lone kind side white square black)))) (members rest))
+    ≡ judgedFrom (byteBy list table) byte (boardOf (lone kind side white square black)) none
+    (moves (boardOf (lone kind side white square black))))
 
 abbrev μ-loop : tie.MeasureT-loop
 μ-loop list table kind side white square black byte p found₀ rest₀ found rest = length (members rest)
@@ -34,15 +37,21 @@ own-requires : tie.Need-own-requires Inv-loop μ-loop
 own-requires c κs = tt
 
 loop-holds : tie.Need-loop-holds Inv-loop μ-loop
-loop-holds c = let a = c .before .before .before .args in (c .own .ok, sym (rw (keyed-movers _ (lone (a .kind) (a .side) (a .white) (a .square) (a .black)) (c .before .lone .ensures) _ (made-men _ _ _ _ _ _ refl) (c .own .ensures))))
+loop-holds c = let a = c .before .before .before .args in (
+  c .own .ok,
+  sym (rw (keyed-movers _ (lone (a .kind) (a .side) (a .white) (a .square) (a .black)) (c .before .lone .ensures) _
+      (made-men _ _ _ _ _ _ refl) (c .own .ensures))),
+)
 
 lowest-requires : tie.Need-lowest-requires Inv-loop μ-loop
 lowest-requires c κs = tt
 
 -- what taking the lowest square out of the rest means
-low : (c : tie.After-lowest Inv-loop μ-loop) (others : ℕ) → others ≡ setOf (λ (u : ℕ). has (c .before .before .loop .rest) u && not (eqb u (c .lowest .result)))
+low : (c : tie.After-lowest Inv-loop μ-loop) (others : ℕ)
+    → others ≡ setOf (λ (u : ℕ). has (c .before .before .loop .rest) u && not (eqb u (c .lowest .result)))
     → Lowest (c .before .before .loop .rest) (c .lowest .result) others
-low c others e = let i = c .before in lowest-of (i .before .loop .rest) _ _ (i .before .loop .inv .0) (i .loop-test .taken) (c .lowest .ensures) e
+low c others e = let i = c .before in
+    lowest-of (i .before .loop .rest) _ _ (i .before .loop .inv .0) (i .loop-test .taken) (c .lowest .ensures) e
 
 legal-targets-requires : tie.Need-legal-targets-requires Inv-loop μ-loop
 legal-targets-requires c κs = tt
@@ -59,7 +68,9 @@ returns c =
     let d = j .before .before in
     let l = d .before .before .loop in
     let g = d .before .before .before .before .lone in
-    ap judgedOf (piece-refutes _ _ _ _ _ (l .rest) _ _ _ (low d _ refl) (keyed-targets _ _ (g .ensures) _ _ (j .before .legal-targets .ensures)) (l .inv .1) (judged-refuted _ (sym (c .enum-told .given .1) ∙ j .judge-targets .ensures _)))
+    ap judgedOf (piece-refutes _ _ _ _ _ (l .rest) _ _ _ (low d _ refl)
+    (keyed-targets _ _ (g .ensures) _ _ (j .before .legal-targets .ensures)) (l .inv .1)
+    (judged-refuted _ (sym (c .enum-told .given .1) ∙ j .judge-targets .ensures _)))
 
 enum-known-judged : tie.Need-enum-known-judged Inv-loop μ-loop
 enum-known-judged c = search needs
@@ -77,11 +88,17 @@ loop-again c =
     let l = d .before .before .loop in
     let g = d .before .before .before .before .lone in (
       c .without .ok,
-      piece-turn _ _ _ _ _ (l .rest) _ _ _ (low d _ (c .without .ensures)) (keyed-targets _ _ (g .ensures) _ _ (j .before .legal-targets .ensures)) (l .inv .1) _ (judged-found _ _ (sym (c .before .before .judged .given .1) ∙ j .judge-targets .ensures _)),
+      piece-turn _ _ _ _ _ (l .rest) _ _ _ (low d _ (c .without .ensures))
+          (keyed-targets _ _ (g .ensures) _ _ (j .before .legal-targets .ensures)) (l .inv .1) _
+          (judged-found _ _ (sym (c .before .before .judged .given .1) ∙ j .judge-targets .ensures _)),
     )
 
 returns-2 : tie.Need-returns-2 Inv-loop μ-loop
-returns-2 c = let l = c .before .loop in ap Judged.Found (sym (advice-in (l .found))) ∙ ap judgedOf (piece-end _ _ _ _ _ (l .rest) (c .loop-test .left) (l .inv .1))
+returns-2 c = let l = c .before .loop in ap Judged.Found (sym (advice-in (l .found)))
+    ∙ ap judgedOf (piece-end _ _ _ _ _ (l .rest) (c .loop-test .left) (l .inv .1))
 
 pub judge-spec : {M : Type 1} → statement M
-judge-spec = tie.close (tie.spec Inv-loop μ-loop lone-requires own-requires loop-holds lowest-requires legal-targets-requires judge-targets-requires enum-told returns enum-known-judged without-requires loop-less loop-again returns-2)
+judge-spec =
+    tie.close
+    (tie.spec Inv-loop μ-loop lone-requires own-requires loop-holds lowest-requires legal-targets-requires
+    judge-targets-requires enum-told returns enum-known-judged without-requires loop-less loop-again returns-2)

@@ -20,7 +20,9 @@ count-of-requires c κs = search needs
 
 returns-2 : tie.Need-returns-2
 unfolding boardOf
-returns-2 c = counted-mate _ _ (c .before .before .before .pre) (c .count-of .ensures) true (sym (c .before .before .in-check .ensures) ∙ not-false _ (c .before .if1 .left))
+returns-2 c =
+    counted-mate _ _ (c .before .before .before .pre) (c .count-of .ensures) true
+    (sym (c .before .before .in-check .ensures) ∙ not-false _ (c .before .if1 .left))
 
 pub is-mated-spec : {M : Type 1} → statement M
 is-mated-spec = tie.close (tie.spec in-check-requires returns count-of-requires returns-2)

@@ -18,11 +18,15 @@ in-check-requires c κs = search needs
 
 returns-2 : tie.Need-returns-2
 unfolding boardOf
-returns-2 c = over-end _ _ (c .before .before .before .before .pre) (c .before .before .before .count-of .ensures) _ true (c .before .before .if1 .left) (sym (c .before .in-check .ensures) ∙ c .if2 .taken)
+returns-2 c =
+    over-end _ _ (c .before .before .before .before .pre) (c .before .before .before .count-of .ensures) _ true
+    (c .before .before .if1 .left) (sym (c .before .in-check .ensures) ∙ c .if2 .taken)
 
 returns-3 : tie.Need-returns-3
 unfolding boardOf
-returns-3 c = over-end _ _ (c .before .before .before .before .pre) (c .before .before .before .count-of .ensures) _ false (c .before .before .if1 .left) (sym (c .before .in-check .ensures) ∙ c .if2 .left)
+returns-3 c =
+    over-end _ _ (c .before .before .before .before .pre) (c .before .before .before .count-of .ensures) _ false
+    (c .before .before .if1 .left) (sym (c .before .in-check .ensures) ∙ c .if2 .left)
 
 pub is-over-with-spec : {M : Type 1} → statement M
 is-over-with-spec = tie.close (tie.spec count-of-requires returns in-check-requires returns-2 returns-3)

@@ -2,8 +2,8 @@
 use mathlib.Core.Path.{sym, ap, _∙_}
 use mathlib.Core.Option.{some}
 use borrow.Author.Needs.{needs}
-use Rattle.answers.specs.declared.Advice.{Advice}
-use Rattle.successors.specs.Successors.{moveIn}
+use Rattle.answers.specs.declared.BestMove.{BestMove}
+use Rattle.successors.specs.Successors.{moveFound}
 use Rattle.successors.specs.laws.JudgeLaws.{judged-refuted, judged-found}
 use Rattle.successors.specs.laws.VerdictLaws.{made-men, made-mate, depth-mate, depth-met, depth-refuted, depth-unmet}
 use Rattle.successors.proofs.verdicts.requires_depth.Statement.{statement}
@@ -16,7 +16,8 @@ is-mated-requires : tie.Need-is-mated-requires
 is-mated-requires c κs = made-men _ _ _ _ _ _ (c .lone .ensures)
 
 returns : tie.Need-returns
-returns c = made-mate _ _ _ (c .before .lone .ensures) (c .is-mated .ensures) ∙ depth-mate _ _ _ (c .before .before .if1 .taken)
+returns c =
+    made-mate _ _ _ (c .before .lone .ensures) (c .is-mated .ensures) ∙ depth-mate _ _ _ (c .before .before .if1 .taken)
 
 add-judge : tie.Need-add-judge
 add-judge c = search needs
@@ -45,13 +46,15 @@ returns-3 : tie.Need-returns-3
 returns-3 c =
     let j = c .before .before .before .before .before in
     depth-met _ _ _ (j .before .if1 .left) _
-    (judged-found _ _ (sym (c .before .before .before .judged .given .1) ∙ j .judge .ensures) ∙ ap (λ (a : Advice). some (moveIn a)) (c .enum-told2 .given .1))
+    (judged-found _ _ (sym (c .before .before .before .judged .given .1) ∙ j .judge .ensures)
+    ∙ ap (λ (a : BestMove). some (moveFound a)) (c .enum-told2 .given .1))
 
 returns-4 : tie.Need-returns-4
 returns-4 c =
     let j = c .before .before .before .before .before in
     depth-unmet _ _ _ (j .before .if1 .left)
-    (judged-found _ _ (sym (c .before .before .before .judged .given .1) ∙ j .judge .ensures) ∙ ap (λ (a : Advice). some (moveIn a)) (c .enum-told3 .given .1))
+    (judged-found _ _ (sym (c .before .before .before .judged .given .1) ∙ j .judge .ensures)
+    ∙ ap (λ (a : BestMove). some (moveFound a)) (c .enum-told3 .given .1))
 
 pub requires-depth-spec : {M : Type 1} → statement M
 requires-depth-spec =

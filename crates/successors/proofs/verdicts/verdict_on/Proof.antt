@@ -2,8 +2,8 @@
 use mathlib.Core.Path.{sym, ap, _∙_}
 use mathlib.Core.Option.{some}
 use borrow.Author.Needs.{needs}
-use Rattle.answers.specs.declared.Advice.{Advice}
-use Rattle.successors.specs.Successors.{moveIn}
+use Rattle.answers.specs.declared.BestMove.{BestMove}
+use Rattle.successors.specs.Successors.{moveFound}
 use Rattle.successors.specs.laws.JudgeLaws.{judged-refuted, judged-found}
 use Rattle.successors.specs.laws.VerdictLaws.{made-men, made-verdict, verdict-zero, verdict-refuted, verdict-met, verdict-over, verdict-open}
 use Rattle.successors.proofs.verdicts.verdict_on.Statement.{statement}
@@ -38,7 +38,8 @@ returns-2 c =
     let e = c .before .before .before in
     let j = e .before .before .before .before .before in
     verdict-over _ _ _
-    (judged-found _ _ (sym (e .before .before .before .judged .given .1) ∙ j .judge .ensures) ∙ ap (λ (a : Advice). some (moveIn a)) (e .enum-told2 .given .1))
+    (judged-found _ _ (sym (e .before .before .before .judged .given .1) ∙ j .judge .ensures)
+    ∙ ap (λ (a : BestMove). some (moveFound a)) (e .enum-told2 .given .1))
     (sym (made-verdict _ _ _ _ (c .before .before .lone .ensures) (c .before .is-over-with .ensures)) ∙ c .if2 .taken)
 
 returns-3 : tie.Need-returns-3
@@ -51,14 +52,16 @@ returns-4 c =
     let e = c .before in
     let j = e .before .before .before .before .before in
     verdict-met _ _ _ (j .before .if1 .left) _
-    (judged-found _ _ (sym (e .before .before .before .judged .given .1) ∙ j .judge .ensures) ∙ ap (λ (a : Advice). some (moveIn a)) (e .found .given .1))
+    (judged-found _ _ (sym (e .before .before .before .judged .given .1) ∙ j .judge .ensures)
+    ∙ ap (λ (a : BestMove). some (moveFound a)) (e .found .given .1))
 
 returns-5 : tie.Need-returns-5
 returns-5 c =
     let e = c .before .before .before in
     let j = e .before .before .before .before .before in
     verdict-open _ _ _
-    (judged-found _ _ (sym (e .before .before .before .judged .given .1) ∙ j .judge .ensures) ∙ ap (λ (a : Advice). some (moveIn a)) (e .enum-told2 .given .1))
+    (judged-found _ _ (sym (e .before .before .before .judged .given .1) ∙ j .judge .ensures)
+    ∙ ap (λ (a : BestMove). some (moveFound a)) (e .enum-told2 .given .1))
     (sym (made-verdict _ _ _ _ (c .before .before .lone .ensures) (c .before .is-over-with .ensures)) ∙ c .if2 .left)
 
 pub verdict-on-spec : {M : Type 1} → statement M

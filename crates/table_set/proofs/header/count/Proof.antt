@@ -27,7 +27,15 @@ add-result-3 : tie.Need-add-result-3
 add-result-3 c = omega arith
 
 returns : tie.Need-returns
-returns c = let k = codes-count (c .before .before .before .before .args .choice) in (rw (c .before .before .before .one .ensures .0, c .before .before .one2 .ensures .0, c .before .one3 .ensures .0, c .one4 .ensures .0) (k .0), omega arith)
+returns c = let k = codes-count (c .before .before .before .before .args .choice) in (
+  rw (
+    c .before .before .before .one .ensures .0,
+    c .before .before .one2 .ensures .0,
+    c .before .one3 .ensures .0,
+    c .one4 .ensures .0,
+  ) (k .0),
+  omega arith,
+)
 
 pub count-spec : {M : Type 1} → statement M
 count-spec =

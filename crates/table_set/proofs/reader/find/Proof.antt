@@ -10,7 +10,8 @@ use Rattle.table_set.proofs.reader.find.Statement.{statement}
 use Rattle.table_set.proofs.reader.find.Tie as tie
 
 abbrev Inv-loop : tie.InvT-loop
-Inv-loop set code wanted n offset₀ at₀ left₀ offset at left = (at + 12 * left ≤ length set) × (offset + 59136 * left ≤ length set) × (findEntry left set at offset code ≡ findOf set code)
+Inv-loop set code wanted n offset₀ at₀ left₀ offset at left = (at + 12 * left ≤ length set)
+    × (offset + 59136 * left ≤ length set) × (findEntry left set at offset code ≡ findOf set code)
 
 abbrev μ-loop : tie.MeasureT-loop
 μ-loop set code wanted n offset₀ at₀ left₀ offset at left = left
@@ -34,16 +35,29 @@ add-offset : tie.Need-add-offset Inv-loop μ-loop
 add-offset c = omega arith
 
 loop-holds : tie.Need-loop-holds Inv-loop μ-loop
-loop-holds c = let l = set-passed _ _ (c .before .before .is-set .ensures) (not-false _ (c .before .if2 .left)) in let w = c .word .ensures .0 in (omega (arith, l .0, l .1, w), omega (arith, l .1, w), find-entries _ _ (c .before .before .before .if1 .left) _ (c .before .before .is-set .ensures) (not-false _ (c .before .if2 .left)) _ w)
+loop-holds c = let l = set-passed _ _ (c .before .before .is-set .ensures) (not-false _ (c .before .if2 .left)) in
+    let w = c .word .ensures .0 in (
+      omega (arith, l .0, l .1, w),
+      omega (arith, l .1, w),
+      find-entries _ _ (c .before .before .before .if1 .left) _ (c .before .before .is-set .ensures)
+          (not-false _ (c .before .if2 .left)) _ w,
+    )
 
 word-requires-2 : tie.Need-word-requires-2 Inv-loop μ-loop
 word-requires-2 c κs = omega arith
 
 cast-t13 : tie.Need-cast-t13 Inv-loop μ-loop
-cast-t13 c = let l = c .before .before .before in omega (arith, l .loop .inv .1, set-passed _ _ (l .before .before .before .is-set .ensures) (not-false _ (l .before .before .if2 .left)) .2)
+cast-t13 c = let l = c .before .before .before in
+    omega (
+      arith,
+      l .loop .inv .1,
+      set-passed _ _ (l .before .before .before .is-set .ensures) (not-false _ (l .before .before .if2 .left)) .2,
+    )
 
 returns-3 : tie.Need-returns-3 Inv-loop μ-loop
-returns-3 c = let l = c .before .before .before in sym (sym (l .loop .inv .2) ∙ found-here _ _ _ _ _ _ (c .before .before .loop-test .taken) (c .before .word2 .ensures .0) (c .if3 .taken))
+returns-3 c = let l = c .before .before .before in
+    sym (sym (l .loop .inv .2)
+    ∙ found-here _ _ _ _ _ _ (c .before .before .loop-test .taken) (c .before .word2 .ensures .0) (c .if3 .taken))
 
 add-at : tie.Need-add-at Inv-loop μ-loop
 add-at c = omega arith
@@ -58,7 +72,12 @@ loop-less : tie.Need-loop-less Inv-loop μ-loop
 loop-less c = omega arith
 
 loop-again : tie.Need-loop-again Inv-loop μ-loop
-loop-again c = let l = c .before .before .before in (omega arith, omega arith, found-later _ _ _ _ _ _ (c .before .before .loop-test .taken) (c .before .word2 .ensures .0) (c .if3 .left) ∙ l .loop .inv .2)
+loop-again c = let l = c .before .before .before in (
+  omega arith,
+  omega arith,
+  found-later _ _ _ _ _ _ (c .before .before .loop-test .taken) (c .before .word2 .ensures .0) (c .if3 .left)
+      ∙ l .loop .inv .2,
+)
 
 returns-4 : tie.Need-returns-4 Inv-loop μ-loop
 returns-4 c = let l = c .before in sym (found-not _ _ _ _ _ (c .loop-test .left)) ∙ l .loop .inv .2
@@ -66,4 +85,5 @@ returns-4 c = let l = c .before in sym (found-not _ _ _ _ _ (c .loop-test .left)
 pub find-spec : {M : Type 1} → statement M
 find-spec =
     tie.close
-    (tie.spec Inv-loop μ-loop returns is-set-requires returns-2 word-requires mul-offset add-offset loop-holds word-requires-2 cast-t13 returns-3 add-at add-offset-2 sub-left loop-less loop-again returns-4)
+    (tie.spec Inv-loop μ-loop returns is-set-requires returns-2 word-requires mul-offset add-offset loop-holds
+    word-requires-2 cast-t13 returns-3 add-at add-offset-2 sub-left loop-less loop-again returns-4)

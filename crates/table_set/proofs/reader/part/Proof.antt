@@ -24,7 +24,8 @@ part-result-start : tie.Need-part-result-start
 part-result-start c = search needs
 
 part-result-end : tie.Need-part-result-end
-part-result-end c = omega (arith, part-room _ _ _ (c .before .before .before .find .ensures) _ (c .before .found .given .1))
+part-result-end c =
+    omega (arith, part-room _ _ _ (c .before .before .before .find .ensures) _ (c .before .found .given .1))
 
 enum-told : tie.Need-enum-told
 enum-told c = search needs
@@ -47,4 +48,5 @@ returns-2 c = part-refused _ _ _ (c .before .before .before .find .ensures) _ (c
 pub part-spec : {M : Type 1} → statement M
 part-spec =
     tie.close
-    (tie.spec find-requires enum-known-found cast-at add-end sub-result part-result-start part-result-end enum-told sub-result-2 part-result-start-2 part-result-end-2 returns returns-2)
+    (tie.spec find-requires enum-known-found cast-at add-end sub-result part-result-start part-result-end enum-told
+    sub-result-2 part-result-start-2 part-result-end-2 returns returns-2)

@@ -20,14 +20,17 @@ same-length c = search needs
 returns : tie.Need-returns
 returns c =
     let f = c .before .before .before .before .before .before .before .before .fill-part in
-    let k = at-cleared _ _ _ _ _ _ (f .ensures .0) (f .ensures .1) (c .before .before .before .before .before .is-refused .ensures) (f .kept .1 .1 .0) (c .before .before .before .before .if1 .taken) in
+    let k = at-cleared _ _ _ _ _ _ (f .ensures .0) (f .ensures .1)
+    (c .before .before .before .before .before .is-refused .ensures) (f .kept .1 .1 .0)
+    (c .before .before .before .before .if1 .taken) in
     (k .0, c .before .before .clear .ensures ∙ k .1)
 
 same-length-2 : tie.Need-same-length-2
 same-length-2 c = search needs
 
 returns-2 : tie.Need-returns-2
-returns-2 c = let f = c .before .before .before .before .fill-part .ensures in at-kept _ _ _ _ _ _ (f .0) (f .1) (c .before .is-refused .ensures) (c .if1 .left)
+returns-2 c = let f = c .before .before .before .before .fill-part .ensures in
+    at-kept _ _ _ _ _ _ (f .0) (f .1) (c .before .is-refused .ensures) (c .if1 .left)
 
 pub fill-at-spec : {M : Type 1} → statement M
 fill-at-spec =

@@ -29,7 +29,8 @@ returns c =
     let start = c .before .before .before .before .before in
     let at = start .args .at in
     let f = c .before .before .fill in
-    part-put _ at (at + 59136 - at) _ _ _ (omega arith) (start .pre) (f .ensures .0) (f .ensures .1) (f .kept .1 .0)
+    part-put _ at (at + 59136 - at) _ _ _ (omega arith) (start .pre) (f .ensures .answered) (f .ensures .left)
+    (f .kept .1 .0)
 
 pub fill-part-spec : {M : Type 1} → statement M
 fill-part-spec = tie.close (tie.spec add-end sub-fill part-fill-start part-fill-end fill-requires same-length returns)

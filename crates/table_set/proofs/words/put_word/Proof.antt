@@ -50,4 +50,5 @@ returns c = over-four _ _ _ _ _ _ (search needs)
 pub put-word-spec : {M : Type 1} → statement M
 put-word-spec =
     tie.close
-    (tie.spec cast-set slice-write-set cast-set-2 add-set slice-write-set-2 cast-set-3 add-set-2 slice-write-set-3 cast-set-4 add-set-3 slice-write-set-4 same-length returns)
+    (tie.spec cast-set slice-write-set cast-set-2 add-set slice-write-set-2 cast-set-3 add-set-2 slice-write-set-3
+    cast-set-4 add-set-3 slice-write-set-4 same-length returns)

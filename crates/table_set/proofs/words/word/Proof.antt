@@ -63,4 +63,6 @@ returns c = omega arith
 pub word-spec : {M : Type 1} → statement M
 word-spec =
     tie.close
-    (tie.spec shared-slice-read-wide wide-requires add-wide shared-slice-read-wide-2 wide-requires-2 add-wide-2 shared-slice-read-wide-3 wide-requires-3 add-wide-3 shared-slice-read-wide-4 wide-requires-4 mul-result add-result mul-result-2 add-result-2 mul-result-3 add-result-3 returns)
+    (tie.spec shared-slice-read-wide wide-requires add-wide shared-slice-read-wide-2 wide-requires-2 add-wide-2
+    shared-slice-read-wide-3 wide-requires-3 add-wide-3 shared-slice-read-wide-4 wide-requires-4 mul-result
+    add-result mul-result-2 add-result-2 mul-result-3 add-result-3 returns)

@@ -15,7 +15,8 @@ cast-fill-at : tie.Need-cast-fill-at
 cast-fill-at c = search needs
 
 fill-at-requires : tie.Need-fill-at-requires
-fill-at-requires c κs = part-room _ _ _ (c .before .before .before .before .find .ensures) _ (c .before .before .found .given .1)
+fill-at-requires c κs =
+    part-room _ _ _ (c .before .before .before .before .find .ensures) _ (c .before .before .found .given .1)
 
 enum-known-found-2 : tie.Need-enum-known-found-2
 enum-known-found-2 c = search needs
@@ -24,7 +25,9 @@ same-length : tie.Need-same-length
 same-length c = search needs
 
 returns : tie.Need-returns
-returns c = let f = c .before .before .fill-at .ensures in in-found _ _ _ (c .before .before .before .before .before .before .before .find .ensures) _ (c .before .before .before .before .before .found .given .1) _ _ (f .0) (f .1)
+returns c = let f = c .before .before .fill-at .ensures in
+    in-found _ _ _ (c .before .before .before .before .before .before .before .find .ensures) _
+    (c .before .before .before .before .before .found .given .1) _ _ (f .0) (f .1)
 
 same-length-2 : tie.Need-same-length-2
 same-length-2 c = search needs
@@ -35,4 +38,5 @@ returns-2 c = in-refused _ _ _ (c .before .before .before .find .ensures) _ (c .
 pub fill-ending-spec : {M : Type 1} → statement M
 fill-ending-spec =
     tie.close
-    (tie.spec find-requires enum-known-found cast-fill-at fill-at-requires enum-known-found-2 same-length returns same-length-2 returns-2)
+    (tie.spec find-requires enum-known-found cast-fill-at fill-at-requires enum-known-found-2 same-length returns
+    same-length-2 returns-2)

@@ -24,13 +24,16 @@ returns : tie.Need-returns
 returns c = start-unlike _ _ _ (c .before .count .ensures .0) (c .if1 .taken)
 
 write-header-requires : tie.Need-write-header-requires
-write-header-requires c κs = let k = c .before .before .count .ensures in (k .0, k .1, omega (arith, c .before .if1 .left))
+write-header-requires c κs =
+    let k = c .before .before .count .ensures in (k .0, k .1, omega (arith, c .before .if1 .left))
 
 same-length : tie.Need-same-length
 same-length c = search needs
 
 returns-2 : tie.Need-returns-2
-returns-2 c = start-is _ _ _ (c .before .before .before .before .before .count .ensures .0) (c .before .before .before .before .if1 .left) _ (c .before .before .write-header .ensures)
+returns-2 c =
+    start-is _ _ _ (c .before .before .before .before .before .count .ensures .0)
+    (c .before .before .before .before .if1 .left) _ (c .before .before .write-header .ensures)
 
 pub start-spec : {M : Type 1} → statement M
 start-spec =

@@ -1,0 +1,59 @@
+// The move list and the count of moves.
+use super::Counted;
+use super::Listed;
+use super::lists::moves_of;
+use super::lists::no_moves;
+use board::lowest;
+use board::size;
+use board::without;
+use movegen::legal_targets;
+use position::Position;
+use position::own;
+use position::standing_refusal;
+ghost use mathlib.Core.Path.{_≡_};
+ghost use lib.ListN.{length};
+ghost use Rattle.rules.specs.Rules.{canMove, allMoves};
+ghost use Rattle.position.specs.Keyed.{boardOf};
+ghost use Rattle.move_list.specs.Answers.{listed, Counts};
+
+// How many moves there are, bare kings or not.
+pub fn count_of(p: Position) -> u8
+    ensures { λ r. ⌜ r ≡ length (allMoves (canMove (boardOf p))) ⌝ }
+{
+    let mut count: u32 = 0;
+    let mut rest = own(p, p.side);
+    while rest != 0 {
+        let from = lowest(rest);
+        count += size(legal_targets(p, from));
+        rest = without(rest, from);
+    }
+    count as u8
+}
+
+// The legal moves, or a refusal from 1 to 6.
+pub fn legal_moves(p: Position) -> Listed
+    ensures { λ r. ⌜ r ≡ listed p ⌝ }
+{
+    let refusal = standing_refusal(p);
+    if refusal != 0 {
+        return Listed {
+            refusal,
+            list: no_moves(),
+        };
+    }
+    Listed {
+        refusal,
+        list: moves_of(p),
+    }
+}
+
+// Their count, or a refusal from 1 to 6.
+pub fn move_count(p: Position) -> Counted
+    ensures { λ r. ⌜ Counts p r ⌝ }
+{
+    let refusal = standing_refusal(p);
+    if refusal != 0 {
+        return Counted::Refused(refusal);
+    }
+    Counted::Count(count_of(p))
+}

@@ -1,4 +1,0 @@
-pub mod Numbered
-pub mod Lending
-pub mod Steps
-pub mod laws

@@ -1,0 +1,45 @@
+// The pocket edition: packing a table, looking a position up in a pocket, and a pocket's tallies.
+use super::pocket_words::packed_word;
+use super::pocket_words::pocket_word;
+use super::pocket_words::tallied_word;
+use pocket::look_up;
+use pocket::pack;
+use pocket::tally;
+use position::lone;
+ghost use mathlib.Core.Path.{_≡_};
+ghost use Rattle.pocket.specs.Pocket.{packOf, pocketLookUpOf};
+ghost use Rattle.pocket.specs.Tally.{tallyOf};
+ghost use Rattle.position.specs.Keyed.{lone as loneOf};
+ghost use Rattle.sledgewren.specs.PocketWords.{packedWord, toldWord, talliedWord};
+
+// Refusal 7 leaves the pocket as it was.
+#[no_mangle]
+pub extern "C" fn sledgewren_pack(table: &[u8], pocket: &mut [u8]) -> u32
+    ensures { λ r. ⌜ (r ≡ packedWord (packOf (now (table .entry)) (now (pocket .entry)) .answer)) × (now (pocket .exit) ≡ packOf (now (table .entry)) (now (pocket .entry)) .bytes) ⌝ }
+{
+    packed_word(pack(table, &mut *pocket))
+}
+
+// Refusals 1 to 7 and 11.
+#[no_mangle]
+pub extern "C" fn sledgewren_pocket_look_up(
+    pocket: &[u8],
+    kind: u8,
+    side: u8,
+    white: u8,
+    square: u8,
+    black: u8,
+) -> u32
+    ensures { λ r. ⌜ r ≡ toldWord (pocketLookUpOf (now (pocket .entry)) (loneOf kind side white square black)) ⌝ }
+{
+    let p = lone(kind, side, white, square, black);
+    pocket_word(look_up(pocket, p))
+}
+
+// Refusal 7.
+#[no_mangle]
+pub extern "C" fn sledgewren_tallies(pocket: &[u8]) -> u64
+    ensures { λ r. ⌜ r ≡ talliedWord (tallyOf (now (pocket .entry))) ⌝ }
+{
+    tallied_word(tally(pocket))
+}

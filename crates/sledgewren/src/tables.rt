@@ -1,0 +1,44 @@
+// Filling a table, checking one, and looking a position up.
+use checking::check;
+use filling::fill;
+use look_up::look_up;
+use position::lone;
+use words::answer_word;
+use words::checked_word;
+use words::filled_word;
+ghost use mathlib.Core.Path.{_≡_};
+ghost use Rattle.endings.specs.Answers.{fillOf, checkOf, lookUpOf};
+ghost use Rattle.position.specs.Keyed.{lone as loneOf};
+ghost use Rattle.sledgewren.specs.Words.{filledWord, checkedWord, answerWord};
+
+// Refusals 1 and 7 leave the table as it was, 10 all zero.
+#[no_mangle]
+pub extern "C" fn sledgewren_fill(kind: u8, table: &mut [u8]) -> u32
+    ensures { λ r. ⌜ (r ≡ filledWord (fillOf kind (now (table .entry)) .answer)) × (now (table .exit) ≡ fillOf kind (now (table .entry)) .bytes) ⌝ }
+{
+    filled_word(fill(kind, &mut *table))
+}
+
+// Refusals 1 and 7.
+#[no_mangle]
+pub extern "C" fn sledgewren_check(kind: u8, table: &[u8]) -> u64
+    ensures { λ r. ⌜ r ≡ checkedWord (checkOf kind (now (table .entry))) ⌝ }
+{
+    checked_word(check(kind, table))
+}
+
+// Refusals 1 to 7 and 11.
+#[no_mangle]
+pub extern "C" fn sledgewren_look_up(
+    table: &[u8],
+    kind: u8,
+    side: u8,
+    white: u8,
+    square: u8,
+    black: u8,
+) -> u64
+    ensures { λ r. ⌜ r ≡ answerWord (lookUpOf (now (table .entry)) (loneOf kind side white square black)) ⌝ }
+{
+    let p = lone(kind, side, white, square, black);
+    answer_word(look_up(table, p))
+}

@@ -1,0 +1,4 @@
+pub mod Tables
+pub mod Lending
+pub mod Steps
+pub mod laws
