@@ -47,7 +47,7 @@ extern "C" {
 
 /* Lengths of the buffers that the functions are lent. */
 #define SLEDGEWREN_TABLE_BYTES 59136
-#define SLEDGEWREN_MOVES_BYTES 70
+#define SLEDGEWREN_MOVES_BYTES 248
 #define SLEDGEWREN_SLIP_BYTES 16
 #define SLEDGEWREN_POCKET_BYTES 14784
 
@@ -173,9 +173,11 @@ uint32_t sledgewren_count(uint8_t man, uint8_t side, uint8_t white, uint8_t squa
 
 /*
  * The legal moves, in order of their from-square, then their to-square. The answer is
- * sledgewren_count's. Where len is 70, moves gets 35 pairs (from, to); the places after the last
- * move hold 0, and all of them on a refusal. With any other len nothing is written and the answer
- * is SLEDGEWREN_MOVES_LENGTH.
+ * sledgewren_count's. Where len is 248, moves gets 62 places of four bytes: from-square,
+ * to-square, 1 if the move takes a man and 0 if not, and 0. The places after the last move hold
+ * 0, and all of them on a refusal. With any other len nothing is written and the answer is
+ * SLEDGEWREN_MOVES_LENGTH. (62 places are room for endings with two men, and the fourth byte is
+ * kept for the piece that a pawn becomes, so that neither need change with them.)
  */
 uint32_t sledgewren_moves(uint8_t man, uint8_t side, uint8_t white, uint8_t square,
                           uint8_t black, uint8_t *moves, size_t len);
@@ -229,7 +231,9 @@ uint64_t sledgewren_check(uint8_t man, const uint8_t *table, size_t len);
 /*
  * A position's value, its depth in plies and a move, from the table of its ending. There is no
  * move at checkmate and stalemate, and the depth of a draw is 0. Refusals 1 to 7 and 11.
- *   bits 0-7 refusal, 8-15 value, 16-23 depth, bit 24 a move is given, 32-39 from, 40-47 to
+ *   bits 0-7 refusal, 8-15 value, 16-23 depth, bit 24 a move is given, 32-39 from, 40-47 to,
+ *   bit 48 it takes a man
+ * Bits 32-63 are the move's four bytes in sledgewren_moves' list, the lowest first.
  */
 uint64_t sledgewren_look_up(const uint8_t *table, size_t len, uint8_t man, uint8_t side,
                             uint8_t white, uint8_t square, uint8_t black);

@@ -4,7 +4,7 @@ use std::hint::black_box;
 
 use second::position::Keyed as SecondKeyed;
 use second::rules::{legal_position, moves};
-use sledgewren::{entry, ffi, Keyed, Man, Side, MOST_MOVES};
+use sledgewren::{entry, ffi, Keyed, Man, Side, MOVES_BYTES};
 
 use crate::positions::{legal, second};
 use crate::timing::{medians, timed, Of, Row};
@@ -17,7 +17,7 @@ fn oracle_moves(keyed: &SecondKeyed) -> usize {
 /// The C function as it is: the safe one also makes squares of the bytes.
 fn library_moves(keyed: Keyed) -> usize {
     let Keyed { man, side, white_king, man_square, black_king } = keyed;
-    let mut list = [0; 2 * MOST_MOVES];
+    let mut list = [0; MOVES_BYTES];
     let (start, len) = (list.as_mut_ptr(), list.len());
     // SAFETY: `start` leads to `len` bytes that nothing else refers to.
     let answer =

@@ -36,6 +36,9 @@ static void look_up(uint8_t side, uint8_t queen)
     if (SLEDGEWREN_BITS(answer, 24) & 1) {
         printf(" by ");
         print_square(SLEDGEWREN_BITS(answer, 32));
+        if (SLEDGEWREN_BITS(answer, 48) & 1) {
+            putchar('x');
+        }
         print_square(SLEDGEWREN_BITS(answer, 40));
     }
     printf("\n");

@@ -76,7 +76,7 @@ impl fmt::Display for Value {
     }
 }
 
-/// As on the desk's slip: `win 1 h2g1`, `loss 0`, `draw a1b2`.
+/// As on the desk's slip: `win 1 h2g1`, `loss 0`, `draw a1xb2`.
 impl fmt::Display for Answer {
     fn fmt(&self, out: &mut fmt::Formatter) -> fmt::Result {
         match self.best() {

@@ -10,7 +10,7 @@ pub use sets::{set_fill, set_find, set_start, set_write};
 
 use crate::ffi;
 use crate::{Answer, Checked, Keyed, Man, Move, Moves, Opinion, Position, Progress, Refusal, Side};
-use crate::{Outcome, Slip, Square, Stage, Step, Tallies, Typed, MOST_MOVES, SLIP_BYTES};
+use crate::{Outcome, Slip, Square, Stage, Step, Tallies, Typed, MOVES_BYTES, SLIP_BYTES};
 
 /// The linked library is not the one this crate is written for.
 #[cold]
@@ -87,14 +87,14 @@ pub fn count(keyed: impl Into<Keyed>) -> Result<u8, Refusal> {
 /// The legal moves by from-square, then to-square. Refusals 1 to 6.
 pub fn moves(keyed: impl Into<Keyed>) -> Result<Moves, Refusal> {
     let Keyed { man, side, white_king, man_square, black_king } = keyed.into();
-    let mut pairs = [0; 2 * MOST_MOVES];
-    let (start, len) = (pairs.as_mut_ptr(), pairs.len());
+    let mut list = [0; MOVES_BYTES];
+    let (start, len) = (list.as_mut_ptr(), list.len());
     // SAFETY: `start` leads to `len` bytes that nothing else refers to.
     let answer =
         unsafe { ffi::sledgewren_moves(man, side, white_king, man_square, black_king, start, len) }
             as u64;
     unless_refused("moves", answer)?;
-    let moves = Moves::from_pairs(&pairs, bits(answer, 8) as usize);
+    let moves = Moves::from_bytes(&list, bits(answer, 8) as usize);
     Ok(moves.unwrap_or_else(|| broken("moves", answer)))
 }
 
@@ -157,9 +157,9 @@ pub fn look_up(table: &[u8], keyed: impl Into<Keyed>) -> Result<Answer, Refusal>
         ffi::sledgewren_look_up(start, len, man, side, white_king, man_square, black_king)
     };
     unless_refused("look_up", answer)?;
-    let square = |first| square("look_up", answer, first);
+    let chosen = || Move::from_bytes(((answer >> 32) as u32).to_le_bytes());
     let given = bits(answer, 24) & 1 == 1;
-    let best = given.then(|| Move { from: square(32), to: square(40) });
+    let best = given.then(|| chosen().unwrap_or_else(|| broken("look_up", answer)));
     let depth = bits(answer, 16);
     match bits(answer, 8) {
         1 => Ok(Answer::Win { depth, best }),

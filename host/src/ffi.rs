@@ -17,8 +17,8 @@ extern "C" {
     /// Bits 0-7 refusal, 8-15 count of legal moves.
     pub fn sledgewren_count(man: u8, side: u8, white: u8, square: u8, black: u8) -> u32;
 
-    /// As the count. Where `len` is 70 it writes 35 pairs (from, to); with any other `len` it
-    /// writes nothing and answers 255.
+    /// As the count. Where `len` is 248 it writes 62 places of four bytes: from-square, to-square,
+    /// 1 if the move takes a man, and 0; with any other `len` it writes nothing and answers 255.
     pub fn sledgewren_moves(
         man: u8,
         side: u8,
@@ -42,7 +42,7 @@ extern "C" {
     pub fn sledgewren_check(man: u8, table: *const u8, len: usize) -> u64;
 
     /// Bits 0-7 refusal, 8-15 value (1 win, 2 loss, 3 draw), 16-23 depth, bit 24 a move is given,
-    /// 32-39 from, 40-47 to.
+    /// 32-39 from, 40-47 to, bit 48 it takes a man.
     pub fn sledgewren_look_up(
         table: *const u8,
         len: usize,

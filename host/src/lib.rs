@@ -69,7 +69,7 @@ pub use answer::{Answer, Checked, Value};
 pub use desk::{Desk, Slip, SLIP_BYTES};
 pub use filling::{Filling, Progress, Settled, Stage, Step};
 pub use man::{Man, Side};
-pub use moves::{Move, Moves, MOST_MOVES};
+pub use moves::{Move, Moves, MOST_MOVES, MOVES_BYTES};
 pub use opinion::{second_opinion, Opinion, MOST_PLIES};
 pub use pocket::{Outcome, Pocket, Tallies, POCKET_BYTES};
 pub use position::{Keyed, Position};

@@ -8,6 +8,9 @@ use crate::Square;
 /// No position has more legal moves: 27 of a queen and 8 of a king.
 pub const MOST_MOVES: usize = 35;
 
+/// The bytes of a list that `sledgewren_moves` is lent: 62 places of four bytes.
+pub const MOVES_BYTES: usize = 248;
+
 /// A man set from one square on another, taking what stood there.
 #[derive(Clone, Copy, PartialEq, Eq, Hash, Debug)]
 pub struct Move {
@@ -15,12 +18,26 @@ pub struct Move {
     pub from: Square,
     /// Where he is set.
     pub to: Square,
+    /// Whether a man of the other side stands there and is taken.
+    pub takes: bool,
 }
 
-/// As the desk writes it: `h2g1`.
+impl Move {
+    /// The move of its four bytes: from-square, to-square, whether it takes, and 0.
+    pub(crate) fn from_bytes(bytes: [u8; 4]) -> Option<Move> {
+        let [from, to, takes @ (0 | 1), 0] = bytes else {
+            return None;
+        };
+        let (from, to) = (Square::from_code(from)?, Square::from_code(to)?);
+        Some(Move { from, to, takes: takes == 1 })
+    }
+}
+
+/// As the desk writes it: `h2g1`, or `a1xb2` where it takes.
 impl fmt::Display for Move {
     fn fmt(&self, out: &mut fmt::Formatter) -> fmt::Result {
-        write!(out, "{}{}", self.from, self.to)
+        let mark = if self.takes { "x" } else { "" };
+        write!(out, "{}{mark}{}", self.from, self.to)
     }
 }
 
@@ -32,12 +49,11 @@ pub struct Moves {
 }
 
 impl Moves {
-    /// The first so many pairs (from, to) as moves, or none if a byte is no square.
-    pub(crate) fn from_pairs(pairs: &[u8; 2 * MOST_MOVES], count: usize) -> Option<Moves> {
-        let corner = Square::from_code(0)?;
-        let mut list = [Move { from: corner, to: corner }; MOST_MOVES];
-        for (place, pair) in list.iter_mut().zip(pairs.chunks_exact(2)).take(count) {
-            *place = Move { from: Square::from_code(pair[0])?, to: Square::from_code(pair[1])? };
+    /// The first so many places as moves, or none if one of them is no move.
+    pub(crate) fn from_bytes(bytes: &[u8; MOVES_BYTES], count: usize) -> Option<Moves> {
+        let mut list = [Move::from_bytes([0; 4])?; MOST_MOVES];
+        for (place, bytes) in list.iter_mut().zip(bytes.chunks_exact(4)).take(count) {
+            *place = Move::from_bytes(bytes.try_into().ok()?)?;
         }
         (count <= MOST_MOVES).then_some(Moves { list, count })
     }

@@ -50,6 +50,15 @@ fn the_rook_sees_through_the_square_the_king_leaves() {
 }
 
 #[test]
+fn a_move_says_what_it_takes() {
+    let written = |line| -> Vec<String> {
+        position(line).moves().unwrap().iter().map(|m| m.to_string()).collect()
+    };
+    assert_eq!(written("Q b h8 b2 a1"), ["a1xb2"]);
+    assert_eq!(written("N b a8 e3 e4")[..3], ["e4d3", "e4xe3", "e4f3"]);
+}
+
+#[test]
 fn the_white_king_stops_the_rook() {
     let position = position("R w c1 a1 e1");
     assert!(position.count().is_ok());

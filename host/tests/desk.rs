@@ -17,7 +17,7 @@ const OUTPUT: &str = "\
 win 1 h2g1
 loss 0
 draw
-draw a1b2
+draw a1xb2
 refused 6
 refused 1
 refused 12

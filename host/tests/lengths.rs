@@ -1,7 +1,7 @@
 //! Buffers of the wrong length, straight at the C functions: nothing is written.
 
 use sledgewren::ffi;
-use sledgewren::TABLE_BYTES;
+use sledgewren::{MOVES_BYTES, TABLE_BYTES};
 
 const DIRT: u8 = 165;
 
@@ -18,7 +18,7 @@ fn moves(keyed: [u8; 5], bytes: &mut [u8]) -> u32 {
 
 #[test]
 fn move_lists() {
-    for len in [0, 1, 35, 69, 71, 140] {
+    for len in [0, 1, 62, 70, 140, MOVES_BYTES - 1, MOVES_BYTES + 1, 2 * MOVES_BYTES] {
         for keyed in [[0, 0, 17, 15, 0], [9, 9, 99, 99, 99]] {
             let mut bytes = vec![DIRT; len];
             assert_eq!(moves(keyed, &mut bytes), 255, "{len} bytes");
@@ -29,16 +29,22 @@ fn move_lists() {
 
 #[test]
 fn every_byte_of_the_list_is_written() {
-    let mut bytes = [DIRT; 70];
+    let mut bytes = [DIRT; MOVES_BYTES];
     assert_eq!(moves([1, 1, 0, 32, 36], &mut bytes), 6 << 8);
-    let mut expected = [0; 70];
+    let mut expected = [0; MOVES_BYTES];
     for (place, to) in [27, 28, 29, 43, 44, 45].into_iter().enumerate() {
-        expected[2 * place..2 * place + 2].copy_from_slice(&[36, to]);
+        expected[4 * place..4 * place + 2].copy_from_slice(&[36, to]);
     }
+    assert_eq!(bytes, expected);
+    // Kh8 Qb2 against Ka1: the only move takes
+    bytes.fill(DIRT);
+    assert_eq!(moves([0, 1, 63, 9, 0], &mut bytes), 1 << 8);
+    let mut expected = [0; MOVES_BYTES];
+    expected[..4].copy_from_slice(&[0, 9, 1, 0]);
     assert_eq!(bytes, expected);
     bytes.fill(DIRT);
     assert_eq!(moves([0, 0, 17, 9, 0], &mut bytes), 6);
-    assert_eq!(bytes, [0; 70]);
+    assert_eq!(bytes, [0; MOVES_BYTES]);
 }
 
 fn answer_line(line: &[u8], held: u8, table: &mut [u8], slip: &mut [u8]) -> u32 {

@@ -47,6 +47,9 @@ fn value_after(table: &Table, position: Position, chosen: Move) -> Value {
 fn judge(table: &Table, position: Position, answer: Answer) {
     let moves = position.moves().unwrap();
     assert_eq!(position.count(), Ok(moves.len() as u8), "{position}");
+    for &chosen in &moves {
+        assert_eq!(chosen.takes, played(position, chosen).is_none(), "{position} {chosen}");
+    }
     let wanted = match answer.value() {
         Value::Win(depth) => Some(Value::Loss(depth - 1)),
         Value::Loss(depth) => depth.checked_sub(1).map(Value::Win),

@@ -3,11 +3,11 @@
 use second::number::{back, number as second_number};
 use second::position::{Keyed as SecondKeyed, Refused};
 use second::rule::Value as SecondValue;
-use second::rules::{legal_position, moves as second_moves, Move as SecondMove};
+use second::rules::{legal_position, moves as second_moves};
 use second::table::{check as second_check, look_up as second_look_up, Checked as SecondChecked};
 use second::{desk as second_desk, fill_back};
-use sledgewren::{entry, ffi, Answer, Checked, Desk, Keyed, Move, Refusal};
-use sledgewren::{MOST_MOVES, TABLE_BYTES};
+use sledgewren::{entry, ffi, Answer, Checked, Desk, Keyed, Refusal};
+use sledgewren::{MOVES_BYTES, TABLE_BYTES};
 
 use crate::lines::{Input, SHORT};
 use crate::sequence::Sequence;
@@ -53,10 +53,11 @@ pub(crate) fn ours<T>(answer: Result<T, Refusal>) -> Result<T, u8> {
     answer.map_err(Refusal::code)
 }
 
-type Found = (u8, u8, Option<(u8, u8)>);
+/// Value, depth, and the move's squares and mark.
+type Found = (u8, u8, Option<(u8, u8, bool)>);
 
 fn our_answer(answer: Answer) -> Found {
-    let best = answer.best().map(|Move { from, to }| (from.code(), to.code()));
+    let best = answer.best().map(|chosen| (chosen.from.code(), chosen.to.code(), chosen.takes));
     match answer {
         Answer::Win { depth, .. } => (1, depth, best),
         Answer::Loss { depth, .. } => (2, depth, best),
@@ -66,7 +67,7 @@ fn our_answer(answer: Answer) -> Found {
 
 fn their_look_up(table: &[u8], keyed: [u8; 5]) -> Result<Found, u8> {
     let answer = refused(second_look_up(table, &second(keyed)))?;
-    let best = answer.best.map(|SecondMove { from, to }| (from, to));
+    let best = answer.best.map(|chosen| (chosen.from, chosen.to, chosen.takes));
     Ok(match answer.value {
         SecondValue::Win(depth) => (1, depth, best),
         SecondValue::Loss(depth) => (2, depth, best),
@@ -74,17 +75,17 @@ fn their_look_up(table: &[u8], keyed: [u8; 5]) -> Result<Found, u8> {
     })
 }
 
-/// A list as the C function writes it: 35 pairs and the answer.
-type List = ([u8; 2 * MOST_MOVES], u32);
+/// A list as the C function writes it: 62 places of four bytes, and the answer.
+type List = ([u8; MOVES_BYTES], u32);
 
 fn their_moves(keyed: [u8; 5]) -> List {
-    let mut list = [0; 2 * MOST_MOVES];
+    let mut list = [0; MOVES_BYTES];
     match legal_position(&second(keyed)) {
         Err(Refused(code)) => (list, code as u32),
         Ok(position) => {
             let moves = second_moves(&position);
-            for (pair, chosen) in list.chunks_exact_mut(2).zip(moves.as_slice()) {
-                pair.copy_from_slice(&[chosen.from, chosen.to]);
+            for (place, chosen) in list.chunks_exact_mut(4).zip(moves.as_slice()) {
+                place.copy_from_slice(&[chosen.from, chosen.to, chosen.takes as u8, 0]);
             }
             (list, (moves.as_slice().len() as u32) << 8)
         }
@@ -94,7 +95,7 @@ fn their_moves(keyed: [u8; 5]) -> List {
 /// Every byte counts, so the list is lent with 165 in each.
 fn our_moves(keyed: [u8; 5]) -> List {
     let [man, side, white, square, black] = keyed;
-    let mut list = [165; 2 * MOST_MOVES];
+    let mut list = [165; MOVES_BYTES];
     let (start, len) = (list.as_mut_ptr(), list.len());
     // SAFETY: `start` leads to `len` bytes that nothing else refers to.
     let answer = unsafe { ffi::sledgewren_moves(man, side, white, square, black, start, len) };

@@ -22,7 +22,7 @@ pub const RUN_OUTPUT: &str = "\
 win 1 h2g1
 loss 0
 draw
-draw a1b2
+draw a1xb2
 refused 6
 refused 1
 refused 12

@@ -58,8 +58,8 @@ fn in_check(board: &Board, side: Side) -> bool {
     })
 }
 
-/// The legal moves as (from, to), in list order.
-pub fn moves(position: &Position) -> Vec<(Square, Square)> {
+/// The legal moves as (from, to, whether a man stood there), in list order.
+pub fn moves(position: &Position) -> Vec<(Square, Square, bool)> {
     let board = board_of(position);
     let mut list = Vec::new();
     for from in 0..64 {
@@ -74,7 +74,7 @@ pub fn moves(position: &Position) -> Vec<(Square, Square)> {
             let mut after = board;
             after[to as usize] = after[from as usize].take();
             if !in_check(&after, owner) {
-                list.push((from, to));
+                list.push((from, to, board[to as usize].is_some()));
             }
         }
     }

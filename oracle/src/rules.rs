@@ -6,13 +6,15 @@ use crate::position::{Keyed, Man, Position, Refused, Side};
 /// "There are at most 35": 27 queen moves and 8 king moves.
 pub const MOST_MOVES: usize = 35;
 
+/// A move; a taking one has a man of the other side on its target.
 #[derive(Clone, Copy, PartialEq, Eq, Debug, Default)]
 pub struct Move {
     pub from: Square,
     pub to: Square,
+    pub takes: bool,
 }
 
-/// Moves by from-square, then to-square; unused places hold zero.
+/// Moves by from-square, then to-square; unused places hold zero, a plain move from a1 to a1.
 #[derive(Clone, Copy)]
 pub struct MoveList {
     count: usize,
@@ -24,10 +26,10 @@ impl MoveList {
         MoveList { count: 0, moves: [Move::default(); MOST_MOVES] }
     }
 
-    fn add_all(&mut self, from: Square, targets: SquareSet) {
+    fn add_all(&mut self, from: Square, targets: SquareSet, others: SquareSet) {
         for to in Squares(targets) {
             if let Some(place) = self.moves.get_mut(self.count) {
-                *place = Move { from, to };
+                *place = Move { from, to, takes: holds(others, to) };
                 self.count += 1;
             }
         }
@@ -35,6 +37,11 @@ impl MoveList {
 
     pub fn as_slice(&self) -> &[Move] {
         &self.moves[..self.count]
+    }
+
+    /// All 35 places, the unused ones too.
+    pub fn places(&self) -> &[Move; MOST_MOVES] {
+        &self.moves
     }
 }
 
@@ -90,19 +97,28 @@ fn black_king_targets(position: &Position) -> SquareSet {
     king_attack(position.black_king) & !king_attack(position.white_king) & !seen
 }
 
+/// The squares on which a side's men stand, its king included.
+fn men_of(position: &Position, side: Side) -> SquareSet {
+    match side {
+        Side::White => bit(position.white_king) | bit(position.man_square),
+        Side::Black => bit(position.black_king),
+    }
+}
+
 /// The legal moves of a legal position.
 pub fn moves(position: &Position) -> MoveList {
     let mut list = MoveList::new();
+    let others = men_of(position, position.side.other());
     if position.side == Side::Black {
-        list.add_all(position.black_king, black_king_targets(position));
+        list.add_all(position.black_king, black_king_targets(position), others);
         return list;
     }
     if position.white_king < position.man_square {
-        list.add_all(position.white_king, white_king_targets(position));
-        list.add_all(position.man_square, man_targets(position));
+        list.add_all(position.white_king, white_king_targets(position), others);
+        list.add_all(position.man_square, man_targets(position), others);
     } else {
-        list.add_all(position.man_square, man_targets(position));
-        list.add_all(position.white_king, white_king_targets(position));
+        list.add_all(position.man_square, man_targets(position), others);
+        list.add_all(position.white_king, white_king_targets(position), others);
     }
     list
 }
@@ -120,7 +136,8 @@ pub fn play(position: &Position, chosen: Move) -> Option<Position> {
     Some(next)
 }
 
-/// A move as the desk writes it, `h2g1`.
+/// A move as the desk writes it, `h2g1`; with `x` before the target where a man is taken, `a1xb2`.
 pub fn move_name(chosen: Move) -> String {
-    board::name(chosen.from) + &board::name(chosen.to)
+    let taking = if chosen.takes { "x" } else { "" };
+    board::name(chosen.from) + taking + &board::name(chosen.to)
 }

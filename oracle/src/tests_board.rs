@@ -2,8 +2,8 @@
 
 use crate::number::number;
 use crate::plain;
-use crate::position::{Keyed, Position, Refused, MEN};
-use crate::rules::{in_check, legal_position, moves, play, MOST_MOVES};
+use crate::position::{Keyed, Position, Refused, Side, MEN};
+use crate::rules::{in_check, legal_position, moves, play, Move, MOST_MOVES};
 use crate::samples::{self, Sequence};
 use crate::selftest::{every_keyed, expect, Test, Truth, Verdict};
 use crate::symmetry::{mapped, position_mapped};
@@ -11,8 +11,12 @@ use crate::symmetry::{mapped, position_mapped};
 pub const TESTS: &[Test] = &[
     ("the eight maps are eight, and two in turn make one of them", maps_compose),
     ("the lowest refusal counts, on 400,000 raw lines", lowest_refusal),
-    ("legal moves and check are a plain reading's on every legal position", moves_plain),
-    ("there are at most 35 moves, and 35 occur", most_moves),
+    (
+        "legal moves, what they take, and check are a plain reading's on every legal position",
+        moves_plain,
+    ),
+    ("a move takes where the other side's man stands, and leaves one man fewer only then", marks),
+    ("there are at most 35 moves, 35 occur, and unused places hold a plain a1 to a1", most_moves),
     ("a mapped position has the mapped moves, on 20,000 positions", moves_mapped),
     ("a move leads to a position that can be placed and is legal", moves_lead),
     ("the sample lines are 450 or more, distinct, with every refusal", sample_lines),
@@ -73,23 +77,48 @@ fn on_every_legal(mut test: impl FnMut(&Position) -> Verdict) -> Verdict {
     Ok(())
 }
 
+/// A list that can be compared and sorted.
+fn listed(position: &Position) -> Vec<(u8, u8, bool)> {
+    moves(position).as_slice().iter().map(|m| (m.from, m.to, m.takes)).collect()
+}
+
 fn moves_plain(_: &Truth) -> Verdict {
     on_every_legal(|position| {
-        let list = moves(position);
-        let found: Vec<(u8, u8)> = list.as_slice().iter().map(|m| (m.from, m.to)).collect();
-        expect(found == plain::moves(position), || format!("moves of {position:?}"))?;
+        expect(listed(position) == plain::moves(position), || format!("moves of {position:?}"))?;
         let check = plain::side_in_check(position);
         expect(in_check(position) == check, || format!("check in {position:?}"))
     })
 }
 
+/// Only Black's king can take, and only the man: never a king.
+fn marks(_: &Truth) -> Verdict {
+    let mut taking = 0;
+    on_every_legal(|position| {
+        for &chosen in moves(position).as_slice() {
+            let taken = position.side == Side::Black && chosen.to == position.man_square;
+            let fewer = play(position, chosen).is_none();
+            taking += taken as u32;
+            expect(chosen.takes == taken && fewer == taken, || {
+                format!("{chosen:?}, {position:?}")
+            })?;
+            let kings = [position.white_king, position.black_king];
+            expect(!kings.contains(&chosen.to), || format!("{chosen:?} takes a king"))?;
+        }
+        Ok(())
+    })?;
+    expect(taking > 0, || "no move takes".to_string())
+}
+
 fn most_moves(_: &Truth) -> Verdict {
     let mut most = [0; 4];
+    let unused = Move { from: 0, to: 0, takes: false };
     on_every_legal(|position| {
-        let count = moves(position).as_slice().len();
+        let list = moves(position);
+        let count = list.as_slice().len();
         let place = &mut most[position.man as usize];
         *place = count.max(*place);
-        Ok(())
+        let rest = list.places().iter().skip(count).all(|&place| place == unused);
+        expect(rest, || format!("unused places of {position:?}"))
     })?;
     let greatest = most.into_iter().max();
     expect(greatest == Some(MOST_MOVES), || format!("most moves {most:?}"))
@@ -101,15 +130,12 @@ fn moves_mapped(_: &Truth) -> Verdict {
         let Ok(position) = legal_position(&raw_keyed(&mut sequence)) else { continue };
         for map in 0..8 {
             let there = position_mapped(map, &position);
-            let mut carried: Vec<(u8, u8)> = moves(&position)
-                .as_slice()
-                .iter()
-                .map(|m| (mapped(map, m.from), mapped(map, m.to)))
+            let mut carried: Vec<(u8, u8, bool)> = listed(&position)
+                .into_iter()
+                .map(|(from, to, takes)| (mapped(map, from), mapped(map, to), takes))
                 .collect();
             carried.sort();
-            let found: Vec<(u8, u8)> =
-                moves(&there).as_slice().iter().map(|m| (m.from, m.to)).collect();
-            expect(found == carried, || format!("map {map} of {position:?}"))?;
+            expect(listed(&there) == carried, || format!("map {map} of {position:?}"))?;
         }
     }
     Ok(())

@@ -4,7 +4,11 @@ use std::io::{self, Read};
 
 use crate::cases::{answer, CASES, RUN_INPUT, RUN_OUTPUT};
 use crate::desk;
-use crate::selftest::{expect, Test, Truth, Verdict};
+use crate::position::MEN;
+use crate::rule::Value;
+use crate::rules::Move;
+use crate::selftest::{every_keyed, expect, Test, Truth, Verdict};
+use crate::table::{look_up, Answer};
 
 pub const TESTS: &[Test] = &[
     ("every position of 01's bench has its answer", bench),
@@ -12,6 +16,7 @@ pub const TESTS: &[Test] = &[
     ("01's run, read in pieces of every size up to 20 bytes", run_in_pieces),
     ("the desk answers each odd line as 01 and 02 say", odd_lines),
     ("the desk takes lines of any length, and ends each answer in a newline", whole_inputs),
+    ("each slip read back is its answer, `x` and all, on every legal position", slips_read_back),
 ];
 
 fn desk_on(input: impl Read) -> Result<String, String> {
@@ -61,6 +66,12 @@ fn run_in_pieces(_: &Truth) -> Verdict {
 
 /// Lines and answers; a line's shape comes first, then the lowest number.
 const ODD_LINES: &[(&str, &str)] = &[
+    // The man is taken; in the last a plain move stands before the taking one.
+    ("R b h8 b2 a1", "draw a1xb2"),
+    ("Q b a8 h2 h1", "draw h1xh2"),
+    ("R b a8 g1 h1", "draw h1xg1"),
+    ("R b a1 d5 e4", "draw e4xd5"),
+    ("B b a1 e3 e4", "draw e4d3"),
     ("", "refused 12"),
     (" ", "refused 12"),
     ("Q", "refused 12"),
@@ -163,4 +174,51 @@ fn whole_inputs(_: &Truth) -> Verdict {
         expect(output == due, || format!("{} bytes: {output}", input.len()))?;
     }
     Ok(())
+}
+
+fn square_of(name: &[u8]) -> Option<u8> {
+    match name {
+        &[file @ b'a'..=b'h', rank @ b'1'..=b'8'] => Some(8 * (rank - b'1') + (file - b'a')),
+        _ => None,
+    }
+}
+
+/// A move as it stands on a slip: two squares, or two squares with `x` between them.
+fn read_move(text: &str) -> Option<Move> {
+    let (from, to, takes) = match text.as_bytes() {
+        &[ref from @ .., b'x', file, rank] => (from, [file, rank], true),
+        &[ref from @ .., file, rank] => (from, [file, rank], false),
+        _ => return None,
+    };
+    Some(Move { from: square_of(from)?, to: square_of(&to)?, takes })
+}
+
+/// An answer read from its slip, by a reader that knows nothing of the writer.
+fn read_slip(slip: &str) -> Option<Answer> {
+    let mut words = slip.split(' ');
+    let number = |word: Option<&str>| word.and_then(|word| word.parse().ok());
+    let value = match words.next()? {
+        "win" => Value::Win(number(words.next())?),
+        "loss" => Value::Loss(number(words.next())?),
+        "draw" => Value::Draw,
+        _ => return None,
+    };
+    let best = words.next().map(read_move);
+    match (best, words.next()) {
+        (Some(None), _) | (_, Some(_)) => None,
+        (best, None) => Some(Answer { value, best: best.flatten() }),
+    }
+}
+
+fn slips_read_back(truth: &Truth) -> Verdict {
+    let mut taking = 0;
+    for man in MEN {
+        for keyed in every_keyed(man) {
+            let Ok(answer) = look_up(truth.table(man), &keyed) else { continue };
+            let slip = desk::answer_text(&Ok(answer));
+            taking += slip.contains('x') as u32;
+            expect(read_slip(&slip) == Some(answer), || format!("{keyed:?}: {slip}"))?;
+        }
+    }
+    expect(taking > 0, || "no slip takes".to_string())
 }

@@ -12,13 +12,13 @@ use position::own;
 use position::standing_refusal;
 ghost use mathlib.Core.Path.{_≡_};
 ghost use lib.ListN.{length};
-ghost use Rattle.rules.specs.Rules.{canMove, allMoves};
+ghost use Rattle.rules.specs.Rules.{allMoves};
 ghost use Rattle.position.specs.Keyed.{boardOf};
 ghost use Rattle.move_list.specs.Answers.{listed, Counts};
 
 // How many moves there are, bare kings or not.
 pub fn count_of(p: Position) -> u8
-    ensures { λ r. ⌜ r ≡ length (allMoves (canMove (boardOf p))) ⌝ }
+    ensures { λ r. ⌜ r ≡ length (allMoves (boardOf p)) ⌝ }
 {
     let mut count: u32 = 0;
     let mut rest = own(p, p.side);

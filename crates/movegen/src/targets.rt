@@ -1,4 +1,4 @@
-// The legal targets of a piece.
+// The legal targets of a piece, and the squares where a move takes.
 use super::making::make;
 use board::has as has_square;
 use board::lowest;
@@ -20,7 +20,7 @@ ghost use mathlib.Core.Path.{_≡_};
 ghost use mathlib.Core.Bool.{_&&_, not};
 ghost use Prim.Native.Nat.{ℕ, _<_};
 ghost use Rattle.board.specs.Sets.{has, setOf};
-ghost use Rattle.rules.specs.Rules.{inCheck, moved, canMove};
+ghost use Rattle.rules.specs.Rules.{inCheck, moved, canMove, taking};
 ghost use Rattle.position.specs.Keyed.{boardOf};
 ghost use Rattle.position.specs.Over.{goesFrom, goesOver};
 
@@ -85,4 +85,11 @@ pub fn legal_targets(p: Position, from: u8) -> u64
         return tested(p, from, free);
     }
     free
+}
+
+// The squares where a move takes: those of the other side's pieces.
+pub fn taking_set(p: Position) -> u64
+    ensures { λ r. ⌜ r ≡ setOf (taking (boardOf p)) ⌝ }
+{
+    own(p, other(p.side))
 }

@@ -14,8 +14,8 @@ use Rattle.theory.specs.Alike.{Alike, Automorphism}
 use Rattle.theory.specs.laws.Alike.{automorphism-alike, alike-won, alike-lost, alike-byte}
 use Rattle.symmetry.specs.Symmetry.{Symmetry, mapped, inverse}
 use Rattle.rules.specs.declared.Move.{Move}
-use Rattle.rules.specs.Rules.{Board, empty, inCheck, legal, moved, canMove, moveOf, allMoves, moves, mated}
-use Rattle.rules.specs.laws.MoveLists.{in-allMoves, of-allMoves}
+use Rattle.rules.specs.Rules.{Board, empty, inCheck, legal, moved, canMove, moveOn, allMoves, moves, mated}
+use Rattle.rules.specs.laws.MoveLists.{ListedMove, in-allMoves, of-allMoves}
 use Rattle.rules.specs.laws.Legal.{legal-facts}
 use Rattle.rules.specs.laws.CanMove.{can-on}
 use Rattle.rules.specs.laws.Closed.{closed, moved-side}
@@ -61,31 +61,31 @@ chess = record {
 
 -- ---- the moves, one by one
 
-pub in-moves : (b : Board) (from to : ℕ) → empty (b .men) ≡ false → T (canMove b from to) → moveOf from to ∈ moves b
+pub in-moves : (b : Board) (from to : ℕ) → empty (b .men) ≡ false → T (canMove b from to) → moveOn b from to ∈ moves b
 unfolding moves
-in-moves b from to e t = let h = can-on b from to t in rw e (in-allMoves (canMove b) from to (h .0) (h .1) t)
+in-moves b from to e t = let h = can-on b from to t in rw e (in-allMoves b from to (h .0) (h .1) t)
 
-pub of-moves : (b : Board) (m : Move) → m ∈ moves b → (empty (b .men) ≡ false) × T (canMove b (m .from) (m .to))
+pub of-moves : (b : Board) (m : Move) → m ∈ moves b → (empty (b .men) ≡ false) × ListedMove b m
 unfolding moves
 of-moves b m h = go (empty (b .men)) refl h
   where
-    go : (x : Bool) → empty (b .men) ≡ x → m ∈ cond x [] (allMoves (canMove b)) → (empty (b .men) ≡ false) × T (canMove b (m .from) (m .to))
+    go : (x : Bool) → empty (b .men) ≡ x → m ∈ cond x [] (allMoves b) → (empty (b .men) ≡ false) × ListedMove b m
     go true e h = absurd (List·Memᴰ·not-nil h)
-    go false e h = (e, of-allMoves (canMove b) m h .2)
+    go false e h = (e, of-allMoves b m h)
 
 pub next-legal : (b q : Board) → T (legal b) → q ∈ next chess b → T (legal q)
 next-legal b q l h =
     let w = map-out (played b) q (moves b) h in
     let c = of-moves b (w .0) (w .1) in
-    subst (λ (z : Board). T (legal z)) (sym (w .2)) (closed b (w .0 .from) (w .0 .to) l (c .1))
+    subst (λ (z : Board). T (legal z)) (sym (w .2)) (closed b (w .0 .from) (w .0 .to) l (c .1 .can))
 
 -- ---- symmetry
 
 module _ (m : Symmetry) (x : Bool) (b : Board) (l : T (legal b)) where
-  move-forth : (v : Move) → v ∈ moves b → moveOf (mapped m (v .from)) (mapped m (v .to)) ∈ moves (changed m x b)
+  move-forth : (v : Move) → v ∈ moves b → moveOn (changed m x b) (mapped m (v .from)) (mapped m (v .to)) ∈ moves (changed m x b)
   move-forth v h =
       let c = of-moves b v h in
-      in-moves (changed m x b) (mapped m (v .from)) (mapped m (v .to)) (bare-changed m x b ∙ c .0) (rw (canMove-changed m x b (v .from) (v .to) (legal-facts b l .side)) (c .1))
+      in-moves (changed m x b) (mapped m (v .from)) (mapped m (v .to)) (bare-changed m x b ∙ c .0) (rw (canMove-changed m x b (v .from) (v .to) (legal-facts b l .side)) (c .1 .can))
 
   next-forth : (q : Board) → q ∈ next chess b → changed m x q ∈ next chess (changed m x b)
   next-forth q h =
@@ -94,7 +94,7 @@ module _ (m : Symmetry) (x : Bool) (b : Board) (l : T (legal b)) where
       rw e (map-in (played (changed m x b)) (move-forth (w .0) (w .1)))
 
   stuck-back : T (empty (moves (changed m x b))) → T (empty (moves b))
-  stuck-back t = empty-if (moves b) (λ v h. empty-out (moves (changed m x b)) (moveOf (mapped m (v .from)) (mapped m (v .to))) (move-forth v h) t)
+  stuck-back t = empty-if (moves b) (λ v h. empty-out (moves (changed m x b)) (moveOn (changed m x b) (mapped m (v .from)) (mapped m (v .to))) (move-forth v h) t)
 
 stuck-same : (m : Symmetry) (x : Bool) (b : Board) → T (legal b) → empty (moves (changed m x b)) ≡ empty (moves b)
 stuck-same m x b l =

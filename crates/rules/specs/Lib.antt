@@ -2,4 +2,5 @@ pub mod Rules
 pub mod Changed
 pub mod Chess
 pub mod Reordered
+pub mod Taking
 pub mod laws

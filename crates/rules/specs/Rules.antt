@@ -114,32 +114,41 @@ moved b from to = record {
 unfoldable pub canMove : Board → ℕ → ℕ → Bool
 canMove b from to = goes b from to && not (stands b (b .side) to) && not (inCheck (moved b from to) (b .side))
 
-abbrev pub moveOf : ℕ → ℕ → Move
-moveOf from to = record { from = from; to = to }
+-- the maker of moves: the squares, and whether a piece is taken
+abbrev pub moveOf : ℕ → ℕ → Bool → Move
+moveOf from to takes = record { from = from; to = to; takes = takes }
 
--- what an unused place of a list holds
+-- what an unused place of a list holds: a plain move from 0 to 0
 abbrev pub zeroMove : Move
-zeroMove = moveOf 0 0
+zeroMove = moveOf 0 0 false
+
+-- "when a man is taken" (02, P6): a move to this square takes exactly when a piece of the other side stands there
+unfoldable pub taking : Board → ℕ → Bool
+taking b to = stands b (1 - b .side) to
+
+-- the move of a board from a square to a target, which says whether it takes
+abbrev pub moveOn : Board → ℕ → ℕ → Move
+moveOn b from to = moveOf from to (taking b to)
 
 -- the moves from a square to a target: one
-abbrev pub movesTo : ℕ → ℕ → List Move
-movesTo from to = moveOf from to ∷ []
+abbrev pub movesTo : Board → ℕ → ℕ → List Move
+movesTo b from to = moveOn b from to ∷ []
 
 -- the moves from a square to each of some targets
-unfoldable pub movesOnto : ℕ → List ℕ → List Move
-movesOnto from targets = flatMap (movesTo from) targets
+unfoldable pub movesOnto : Board → ℕ → List ℕ → List Move
+movesOnto b from targets = flatMap (movesTo b from) targets
 
 -- the legal moves from a square, by target
-unfoldable pub movesFrom : (ℕ → ℕ → Bool) → ℕ → List Move
-movesFrom can from = movesOnto from (filter (can from) squares)
+unfoldable pub movesFrom : Board → ℕ → List Move
+movesFrom b from = movesOnto b from (filter (canMove b from) squares)
 
 -- "Moves are listed by from-square, then to-square" (01)
-unfoldable pub allMoves : (ℕ → ℕ → Bool) → List Move
-allMoves can = flatMap (movesFrom can) squares
+unfoldable pub allMoves : Board → List Move
+allMoves b = flatMap (movesFrom b) squares
 
 -- the legal moves; with bare kings the game is over (01, "Games")
 unfoldable pub moves : Board → List Move
-moves b = cond (empty (b .men)) [] (allMoves (canMove b))
+moves b = cond (empty (b .men)) [] (allMoves b)
 
 unfoldable pub mated : Board → Bool
 mated b = inCheck b (b .side) && empty (moves b)

@@ -6,3 +6,4 @@ pub mod Taken
 pub mod Changed
 pub mod ChangedRules
 pub mod ReorderedLaws
+pub mod Marks

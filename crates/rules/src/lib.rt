@@ -8,18 +8,23 @@ pub struct Piece {
     pub square: u8,
 }
 
-// A move of the piece on a square to another square.
+// A move of the piece on a square to another square, and whether it takes a piece there.
 pub struct Move {
     pub from: u8,
     pub to: u8,
+    pub takes: bool,
 }
 
 // What an unused place of a list holds.
-pub const ZERO_MOVE: Move = Move { from: 0, to: 0 };
+pub const ZERO_MOVE: Move = Move {
+    from: 0,
+    to: 0,
+    takes: false,
+};
 
 // The maker of moves.
-pub fn move_of(from: u8, to: u8) -> Move
-    ensures { λ r. ⌜ r ≡ moveOf from to ⌝ }
+pub fn move_of(from: u8, to: u8, takes: bool) -> Move
+    ensures { λ r. ⌜ r ≡ moveOf from to takes ⌝ }
 {
-    Move { from, to }
+    Move { from, to, takes }
 }

@@ -20,11 +20,11 @@ moversOf b = cond (empty (b .men)) 0 (setOf (stands b (b .side)))
 
 -- the moves that start on the squares of a set
 unfoldable pub movesOn : Board → ℕ → List Move
-movesOn b rest = flatMap (movesFrom (canMove b)) (members rest)
+movesOn b rest = flatMap (movesFrom b) (members rest)
 
 -- the moves from a square to those targets that are left, and then those of the movers that are left
 unfoldable pub movesLeft : Board → ℕ → ℕ → ℕ → List Move
-movesLeft b from targets rest = movesOnto from (members targets) ++ movesOn b rest
+movesLeft b from targets rest = movesOnto b from (members targets) ++ movesOn b rest
 
 -- a move leaves the other side lost, or won, within k - 1
 abbrev pub losing : ℕ → Board → Move → Bool

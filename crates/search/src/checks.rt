@@ -81,7 +81,7 @@ fn checking(s: Position, from: u8) -> u64
 
 // The targets to try from a square for a win within k plies.
 pub fn tried(s: Position, from: u8, k: u8) -> u64
-    ensures { λ r. ⌜ any (losing k (boardOf s)) (movesOnto from (members r)) ≡ any (losing k (boardOf s)) (movesOnto from (members (setOf (canMove (boardOf s) from)))) ⌝ }
+    ensures { λ r. ⌜ any (losing k (boardOf s)) (movesOnto (boardOf s) from (members r)) ≡ any (losing k (boardOf s)) (movesOnto (boardOf s) from (members (setOf (canMove (boardOf s) from)))) ⌝ }
 {
     let targets = legal_targets(s, from);
     if k != 1 {

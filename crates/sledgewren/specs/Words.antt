@@ -2,27 +2,31 @@
 -- crate words. Definitions only.
 use mathlib.Core.Path.{_≡_}
 use mathlib.Core.Bool.{cond}
-use mathlib.Core.List.{List, [], _∷_, flatMap}
-use Prim.Native.Nat.{ℕ, _+_, _*_, _^_}
+use mathlib.Core.List.{List, [], _∷_, _++_, flatMap}
+use Prim.Native.Nat.{ℕ, _+_, _-_, _*_, _^_}
 use lib.Dec.{eqb}
-use lib.ListN.{length}
+use lib.ListN.{length, replicate}
 use Rattle.rules.specs.declared.Move.{Move}
 use Rattle.position.specs.declared.Position.{Position}
-use Rattle.move_list.specs.declared.MoveList.{MoveList}
-use Rattle.move_list.specs.Answers.{listed, countAnswer}
+use Rattle.move_list.specs.Answers.{movesOf, countAnswer}
 use Rattle.slips.specs.Slip.{padded}
 use Rattle.adjudication.specs.Reply.{LineOutcome, replyOf}
+use Rattle.words.specs.Words.{flagOf}
 pub use Rattle.words.specs.Words.{numberWord, placedWord, countWord, filledWord, checkedWord, answerWord}
 
 -- ---- the move list, over a lent list of bytes
 
--- each move's from-square and to-square
-abbrev pub pairBytes : Move → List ℕ
-pairBytes m = m .from ∷ m .to ∷ []
+-- from-square, to-square, 1 where the move takes and 0 where not, and 0
+abbrev pub moveBytes : Move → List ℕ
+moveBytes m = m .from ∷ m .to ∷ flagOf (m .takes) ∷ 0 ∷ []
 
--- 35 pairs
-unfoldable pub moveBytes : MoveList → List ℕ
-moveBytes l = flatMap pairBytes (l .moves)
+-- 62 places of four bytes
+abbrev pub listSize : ℕ
+listSize = 248
+
+-- the moves; the places after them hold 0
+unfoldable pub listBytes : List Move → List ℕ
+listBytes ms = flatMap moveBytes ms ++ replicate (listSize - 4 * length ms) 0
 
 pub record Listing : Type 0 where
   pub word : ℕ
@@ -36,8 +40,8 @@ pub record WroteList (o : Listing) (r : ℕ) (out : List ℕ) : Type 0 where
 -- with any other length nothing is written
 unfoldable pub listingOf : Position → List ℕ → Listing
 listingOf p bytes =
-    cond (eqb (length bytes) 70)
-    (record { word = countWord (countAnswer p); bytes = moveBytes (listed p .list) })
+    cond (eqb (length bytes) listSize)
+    (record { word = countWord (countAnswer p); bytes = listBytes (movesOf p) })
     (record { word = 255; bytes = bytes })
 
 -- ---- one line of the desk, over a lent table and a lent slip

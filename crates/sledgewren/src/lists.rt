@@ -1,35 +1,42 @@
 // The move list, written to lent bytes.
+use filling::clear;
 use move_list::MoveList;
-use move_list::ROOM;
 use move_list::legal_moves;
 use position::lone;
+use words::flag;
 ghost use mathlib.Core.Path.{_≡_};
-ghost use lib.ListN.{length};
+ghost use Prim.Native.Nat.{_≤_};
+ghost use lib.ListN.{length, take};
+ghost use Rattle.move_list.specs.Lists.{room};
 ghost use Rattle.position.specs.Keyed.{lone as loneOf};
-ghost use Rattle.sledgewren.specs.Words.{moveBytes, WroteList, listingOf};
+ghost use Rattle.sledgewren.specs.Words.{listSize, listBytes, WroteList, listingOf};
 
-// From-square and to-square of each move.
-const LIST_BYTES: usize = 2 * ROOM;
+// A lent list has room for the moves of two men besides the kings, which are four bytes each.
+const LIST_BYTES: usize = 4 * 62;
 
 // The answer where another length is lent.
 const NO_LIST: u32 = 255;
 
-// Writes each move's from-square and to-square.
+// Writes each move's from-square, to-square, and whether it takes; all else is 0.
 fn write_moves(list: MoveList, bytes: &mut [u8])
-    requires { ⌜ length (now bytes) ≡ 70 ⌝ }
-    ensures { λ r. ⌜ now (bytes .exit) ≡ moveBytes list ⌝ }
+    requires { ⌜ (length (now bytes) ≡ listSize) × (list .count ≤ room) ⌝ }
+    ensures { λ r. ⌜ now (bytes .exit) ≡ listBytes (take (list .count) (list .moves)) ⌝ }
 {
+    clear(&mut *bytes);
     let moves = list.moves;
+    let count = list.count as usize;
     let mut i: usize = 0;
-    while i < ROOM {
+    while i < count {
         let m = moves[i];
-        bytes[2 * i] = m.from;
-        bytes[2 * i + 1] = m.to;
+        bytes[4 * i] = m.from;
+        bytes[4 * i + 1] = m.to;
+        bytes[4 * i + 2] = flag(m.takes);
+        bytes[4 * i + 3] = 0;
         i += 1;
     }
 }
 
-// Refusals 1 to 6 leave all bytes zero; with another length than 70 nothing is written.
+// Refusals 1 to 6 leave all bytes zero; with another length than 248 nothing is written.
 #[no_mangle]
 pub extern "C" fn sledgewren_moves(
     kind: u8,

@@ -1,3 +1,4 @@
 pub mod Slip
+pub mod Fits
 pub mod Appending
 pub mod laws

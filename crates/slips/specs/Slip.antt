@@ -1,5 +1,5 @@
 -- The bytes of an answer's slip (01, "The desk program"). Definitions only.
-use mathlib.Core.Bool.{cond}
+use mathlib.Core.Bool.{Bool, cond}
 use mathlib.Core.List.{List, [], _∷_, _++_}
 use Prim.Native.Nat.{ℕ, _+_, _-_, _/_, _%_}
 use Prim.Native.Char.{code}
@@ -39,12 +39,16 @@ wordAndNumber word n = word ++ decimal n
 unfoldable pub gapped : ℕ → List ℕ
 gapped s = bytes " " ++ squareName s
 
--- an answer's move, from-square and to-square, after a space; nothing where there is none
+-- "`x` before the target when a man is taken" (02, P6)
+unfoldable pub markText : Bool → List ℕ
+markText takes = cond takes (bytes "x") []
+
+-- an answer's move, from-square, mark and to-square, after a space; nothing where there is none
 unfoldable pub adviceText : BestMove → List ℕ
-adviceText (Play m) = gapped (m .from) ++ squareName (m .to)
+adviceText (Play m) = gapped (m .from) ++ markText (m .takes) ++ squareName (m .to)
 adviceText NoMove = []
 
--- `win 1 h2g1`, `loss 0`, `draw`, `draw a1b2`, `refused 6`
+-- `win 1 h2g1`, `loss 0`, `draw`, `draw a1xb2`, `refused 6`
 unfoldable pub answerText : Answer → List ℕ
 answerText (Answer.Win n a) = wordAndNumber (bytes "win ") n ++ adviceText a
 answerText (Answer.Loss n a) = wordAndNumber (bytes "loss ") n ++ adviceText a

@@ -13,7 +13,7 @@ use writing::with_square;
 use writing::with_text;
 ghost use mathlib.Core.Path.{_≡_};
 ghost use mathlib.Core.List.{[]};
-ghost use Rattle.slips.specs.Slip.{wordAndNumber, adviceText, sideLetter, gapped, padded, slipOf, placedSlip, refusedSlip};
+ghost use Rattle.slips.specs.Slip.{wordAndNumber, markText, adviceText, sideLetter, gapped, padded, slipOf, placedSlip, refusedSlip};
 ghost use Rattle.slips.specs.Appending.{appended};
 
 // The line is the first `len` bytes; the rest are zero.
@@ -75,9 +75,16 @@ fn with_advice(s: Slip, a: BestMove) -> Slip
     ensures { λ r. ⌜ r ≡ appended s (adviceText a) ⌝ }
 {
     match a {
-        BestMove::Play(m) => with_square(with_gap(s, m.from), m.to),
+        BestMove::Play(m) => with_square(with_mark(with_gap(s, m.from), m.takes), m.to),
         BestMove::NoMove => s,
     }
+}
+
+// An `x` where a move takes.
+fn with_mark(s: Slip, takes: bool) -> Slip
+    ensures { λ r. ⌜ r ≡ appended s (markText takes) ⌝ }
+{
+    if takes { with_byte(s, b'x') } else { s }
 }
 
 // A space and a square.

@@ -10,14 +10,14 @@ use Rattle.theory.specs.Required.{requiredAt}
 use Rattle.theory.specs.Play.{suits}
 use Rattle.theory.specs.Judge.{judge}
 use Rattle.rules.specs.declared.Move.{Move}
-use Rattle.rules.specs.Rules.{Board, empty, inCheck, moves}
+use Rattle.rules.specs.Rules.{Board, empty, inCheck, moveOn, moves}
 use Rattle.rules.specs.Chess.{chess, played}
-use Rattle.answers.specs.declared.BestMove.{BestMove}
 use Rattle.index.specs.Frames.{numberBy}
 use Rattle.index.specs.Answers.{positionAt}
 use Rattle.endings.specs.Ending.{legalNumber}
 use Rattle.endings.specs.Answers.{adviceOf}
 use Rattle.successors.specs.declared.Standing.{Standing}
+use Rattle.successors.specs.declared.Seen.{Seen}
 use Rattle.successors.specs.declared.Judged.{Judged}
 use Rattle.successors.specs.declared.Verdict.{Verdict}
 
@@ -33,14 +33,14 @@ standingAt kind n = cond (legalNumber kind n) (Standing.Legal (positionAt kind n
 abbrev pub kingMoves : ℕ → ℕ → ℕ → Bool
 kingMoves white black from = eqb white from || eqb black from
 
--- the move in an answer, back from `adviceOf`
-abbrev pub moveFound : BestMove → Option Move
-moveFound BestMove.NoMove = none
-moveFound (BestMove.Play m) = some m
+-- the move that was found, on its board
+abbrev pub moveFound : Board → Seen → Option Move
+moveFound b Seen.Nothing = none
+moveFound b (Seen.FromTo from to) = some (moveOn b from to)
 
-abbrev pub judgedOf : Option (Option Move) → Judged
-judgedOf none = Judged.Refuted
-judgedOf (some found) = Judged.Found (adviceOf found)
+abbrev pub judgedIn : Board → Judged → Option (Option Move)
+judgedIn b Judged.Refuted = none
+judgedIn b (Judged.Found found) = some (moveFound b found)
 
 -- byte c compared with some moves of a board, from what is found so far
 abbrev pub judgedFrom : (Board → ℕ) → ℕ → Board → Option Move → List Move → Option (Option Move)

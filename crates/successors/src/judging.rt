@@ -1,8 +1,8 @@
 // A byte compared with a position's successors in one pass, which stops at the first that refutes it.
 use super::Judged;
+use super::Seen;
 use super::after::byte_after;
 use super::after::frame_for;
-use answers::BestMove;
 use board::lowest;
 use board::without;
 use byte_rule::refutes;
@@ -11,7 +11,6 @@ use movegen::legal_targets;
 use pairs::PairList;
 use position::lone;
 use position::own;
-use rules::move_of;
 ghost use mathlib.Core.Path.{_≡_};
 ghost use mathlib.Core.Bool.{cond};
 ghost use Prim.Native.Nat.{ℕ};
@@ -19,22 +18,21 @@ ghost use mathlib.Core.Option.{none, some};
 ghost use Rattle.theory.specs.Play.{suits as suitsOf};
 ghost use Rattle.theory.specs.Judge.{firstOf};
 ghost use Rattle.board.specs.Sets.{members};
-ghost use Rattle.rules.specs.Rules.{moveOf, movesOnto, moves};
+ghost use Rattle.rules.specs.Rules.{Board, moveOn, movesOnto, moves};
 ghost use Rattle.position.specs.Keyed.{boardOf, lone as loneOf};
-ghost use Rattle.endings.specs.Answers.{adviceOf};
-ghost use Rattle.successors.specs.Successors.{byteBy, moveFound, judgedOf, judgedFrom};
+ghost use Rattle.successors.specs.Successors.{byteBy, moveFound, judgedIn, judgedFrom};
 
 // What is found with one more move, to byte c: the first that suits stays.
-fn first_of(found: BestMove, byte: u16, c: u8, from: u8, to: u8) -> BestMove
-    ensures { λ r. ⌜ r ≡ adviceOf (firstOf (moveFound found) (cond (suitsOf byte c) (some (moveOf from to)) none)) ⌝ }
+fn first_of(found: Seen, byte: u16, c: u8, from: u8, to: u8) -> Seen
+    ensures { λ r. ⌜ ((b : Board) → moveFound b r ≡ firstOf (moveFound b found) (cond (suitsOf byte c) (some (moveOn b from to)) none)) ⌝ }
 {
     match found {
-        BestMove::Play(m) => BestMove::Play(m),
-        BestMove::NoMove => {
+        Seen::FromTo(_, _) => found,
+        Seen::Nothing => {
             if suits(byte, c) {
-                return BestMove::Play(move_of(from, to));
+                return Seen::FromTo(from, to);
             }
-            BestMove::NoMove
+            Seen::Nothing
         },
     }
 }
@@ -50,9 +48,9 @@ fn judge_targets(
     from: u8,
     targets: u64,
     byte: u16,
-    before: BestMove,
+    before: Seen,
 ) -> Judged
-    ensures { λ r. ⌜ ((kind : ℕ) → r ≡ judgedOf (judgedFrom (byteBy (now (list .entry)) (now (table .entry))) byte (boardOf (loneOf kind side white square black)) (moveFound before) (movesOnto from (members targets)))) ⌝ }
+    ensures { λ r. ⌜ ((kind : ℕ) → judgedIn (boardOf (loneOf kind side white square black)) r ≡ judgedFrom (byteBy (now (list .entry)) (now (table .entry))) byte (boardOf (loneOf kind side white square black)) (moveFound (boardOf (loneOf kind side white square black)) before) (movesOnto (boardOf (loneOf kind side white square black)) from (members targets))) ⌝ }
 {
     let f = frame_for(list, side, white, black, from);
     let mut found = before;
@@ -80,10 +78,10 @@ pub fn judge(
     black: u8,
     byte: u16,
 ) -> Judged
-    ensures { λ r. ⌜ r ≡ judgedOf (judgedFrom (byteBy (now (list .entry)) (now (table .entry))) byte (boardOf (loneOf kind side white square black)) none (moves (boardOf (loneOf kind side white square black)))) ⌝ }
+    ensures { λ r. ⌜ judgedIn (boardOf (loneOf kind side white square black)) r ≡ judgedFrom (byteBy (now (list .entry)) (now (table .entry))) byte (boardOf (loneOf kind side white square black)) none (moves (boardOf (loneOf kind side white square black))) ⌝ }
 {
     let p = lone(kind, side, white, square, black);
-    let mut found = BestMove::NoMove;
+    let mut found = Seen::Nothing;
     let mut rest = own(p, side);
     while rest != 0 {
         let from = lowest(rest);
@@ -103,8 +101,8 @@ pub fn judge(
             Judged::Refuted => {
                 return Judged::Refuted;
             },
-            Judged::Found(advice) => {
-                found = advice;
+            Judged::Found(seen) => {
+                found = seen;
             },
         }
         rest = without(rest, from);

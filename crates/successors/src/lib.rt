@@ -5,6 +5,7 @@ use position::Position;
 mod after;
 mod judging;
 mod numbers;
+mod taking;
 mod verdicts;
 
 pub use after::byte_of;
@@ -19,10 +20,16 @@ pub enum Standing {
     Nothing,
 }
 
-// A byte compared with some successors: one refutes it, or the first move found that suits.
+// The first move found that suits, by its squares: whether it takes is asked once, of the one that is given.
+pub enum Seen {
+    Nothing,
+    FromTo(u8, u8),
+}
+
+// A byte compared with some successors: one refutes it, or what is found.
 pub enum Judged {
     Refuted,
-    Found(BestMove),
+    Found(Seen),
 }
 
 // The verdict on a byte: it is not the one required; or it is, with the move that it advises.

@@ -1,13 +1,16 @@
 // Whether a byte, or a depth, is the one required.
 use super::Judged;
+use super::Seen;
 use super::Verdict;
 use super::judging::judge;
+use super::taking::is_taking;
 use answers::BestMove;
 use move_list::count_of;
 use pairs::PairList;
 use position::Position;
 use position::in_check;
 use position::lone;
+use rules::move_of;
 ghost use mathlib.Core.Path.{_≡_};
 ghost use mathlib.Core.Bool.{false};
 ghost use Prim.Native.Nat.{_+_};
@@ -52,8 +55,11 @@ pub fn verdict_on(
     match judged {
         Judged::Refuted => Verdict::Wrong,
         Judged::Found(found) => match found {
-            BestMove::Play(m) => Verdict::Right(BestMove::Play(m)),
-            BestMove::NoMove => {
+            Seen::FromTo(from, to) => {
+                let takes = is_taking(side, white, square, black, to);
+                Verdict::Right(BestMove::Play(move_of(from, to, takes)))
+            },
+            Seen::Nothing => {
                 if is_over_with(lone(kind, side, white, square, black), byte) {
                     return Verdict::Right(BestMove::NoMove);
                 }
@@ -94,8 +100,8 @@ pub fn requires_depth(
     match judged {
         Judged::Refuted => false,
         Judged::Found(found) => match found {
-            BestMove::Play(_) => true,
-            BestMove::NoMove => false,
+            Seen::FromTo(_, _) => true,
+            Seen::Nothing => false,
         },
     }
 }

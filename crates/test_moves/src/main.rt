@@ -4,6 +4,7 @@ use move_list::MoveList;
 use move_list::ROOM;
 use position::Position;
 use position::lone;
+use rules::Move;
 
 // The numbers of a line so far, and which of them comes next.
 struct Line {
@@ -42,6 +43,14 @@ fn show_square(s: u8) {
     io::write_all(1, &[b'a' + s % 8, b'1' + s / 8]);
 }
 
+fn show_move(m: Move) {
+    show_square(m.from);
+    if m.takes {
+        io::write_all(1, b"x");
+    }
+    show_square(m.to);
+}
+
 fn show_list(list: MoveList) {
     let moves = list.moves;
     let count = list.count;
@@ -49,8 +58,7 @@ fn show_list(list: MoveList) {
     while i < count && (i as usize) < ROOM {
         let m = moves[i as usize];
         io::write_all(1, b" ");
-        show_square(m.from);
-        show_square(m.to);
+        show_move(m);
         i += 1;
     }
 }

@@ -46,9 +46,9 @@ filledRead word = unlessRefused (cond (eqb (bits 8 1 word) 1) (Filled.Greatest (
 abbrev pub checkedRead : ℕ → Checked
 checkedRead word = unlessRefused (cond (eqb (bits 8 1 word) 1) (Checked.Wrong (bits 32 32 word)) Checked.Accepted) Checked.Refused word
 
--- "bit 24 a move is given, 32-39 from, 40-47 to"
+-- "bit 24 a move is given, 32-39 from, 40-47 to, bit 48 it takes"
 abbrev pub adviceRead : ℕ → BestMove
-adviceRead word = cond (eqb (bits 24 1 word) 1) (BestMove.Play (moveOf (bits 32 8 word) (bits 40 8 word))) BestMove.NoMove
+adviceRead word = cond (eqb (bits 24 1 word) 1) (BestMove.Play (moveOf (bits 32 8 word) (bits 40 8 word) (eqb (bits 48 1 word) 1))) BestMove.NoMove
 
 -- win 1, loss 2, draw 3, with a depth
 abbrev pub valueRead : ℕ → ℕ → BestMove → Answer

@@ -1,4 +1,5 @@
 -- The word of each answer (include/sledgewren.h): which bits hold its refusal and its values. Definitions only.
+use mathlib.Core.Bool.{Bool, true, false}
 use Prim.Native.Nat.{ℕ, _+_, _*_, _^_}
 use Rattle.answers.specs.declared.BestMove.{BestMove}
 use Rattle.answers.specs.declared.BestMove.the-variants.{Play, NoMove}
@@ -37,9 +38,14 @@ checkedWord Checked.Accepted = 0
 checkedWord (Checked.Wrong n) = 2 ^ 8 + n * 2 ^ 32
 checkedWord (Checked.Refused k) = k
 
--- bit 24 a move is given, 32-39 from, 40-47 to
+-- 1 for yes, 0 for no
+abbrev pub flagOf : Bool → ℕ
+flagOf true = 1
+flagOf false = 0
+
+-- bit 24 a move is given, 32-39 from, 40-47 to, bit 48 it takes
 abbrev pub adviceWord : BestMove → ℕ
-adviceWord (Play m) = 2 ^ 24 + m .from * 2 ^ 32 + m .to * 2 ^ 40
+adviceWord (Play m) = 2 ^ 24 + m .from * 2 ^ 32 + m .to * 2 ^ 40 + flagOf (m .takes) * 2 ^ 48
 adviceWord NoMove = 0
 
 -- bits 0-7 refusal, 8-15 value (win 1, loss 2, draw 3), 16-23 depth, and the move's

@@ -11,7 +11,7 @@ use position::man_in;
 use rules::Move;
 ghost use mathlib.Core.Path.{_≡_};
 ghost use Prim.Native.Nat.{_+_, _*_, _^_, _≤_, _<_};
-ghost use Rattle.words.specs.Words.{numberWord, placedWord, countWord, filledWord, checkedWord, adviceWord, answerWord};
+ghost use Rattle.words.specs.Words.{numberWord, placedWord, countWord, filledWord, checkedWord, flagOf, adviceWord, answerWord};
 
 pub fn number_word(n: NumberAnswer) -> u32
     ensures { λ r. ⌜ r ≡ numberWord n ⌝ }
@@ -71,14 +71,24 @@ pub fn checked_word(c: Checked) -> u64
     }
 }
 
-fn move_word(m: Move) -> u64
-    ensures { λ r. ⌜ (r ≡ adviceWord (BestMove.Play m)) × (r < 2 ^ 48) ⌝ }
+// Whether a move takes: 1 for yes, 0 for no.
+pub fn flag(takes: bool) -> u8
+    ensures { λ r. ⌜ (r ≡ flagOf takes) × (r < 2) ⌝ }
 {
-    0x100_0000 + m.from as u64 * 0x1_0000_0000 + m.to as u64 * 0x100_0000_0000
+    if takes { 1 } else { 0 }
+}
+
+fn move_word(m: Move) -> u64
+    ensures { λ r. ⌜ (r ≡ adviceWord (BestMove.Play m)) × (r < 2 ^ 49) ⌝ }
+{
+    0x100_0000
+        + m.from as u64 * 0x1_0000_0000
+        + m.to as u64 * 0x100_0000_0000
+        + flag(m.takes) as u64 * 0x1_0000_0000_0000
 }
 
 fn advice_word(a: BestMove) -> u64
-    ensures { λ r. ⌜ (r ≡ adviceWord a) × (r < 2 ^ 48) ⌝ }
+    ensures { λ r. ⌜ (r ≡ adviceWord a) × (r < 2 ^ 49) ⌝ }
 {
     match a {
         BestMove::Play(m) => move_word(m),

@@ -71,7 +71,7 @@ can-goes b x t h =
     (and-left (goes b x t && not (stands b (b .side) t)) (not (inCheck (moved b x t) (b .side))) h)
 
 from-most : (b : Board) (x : ℕ)
-    → length (movesFrom (canMove b) x) ≤ total (λ m. only (m .square) (share (b .side) m) x) (pieces b)
+    → length (movesFrom b x) ≤ total (λ m. only (m .square) (share (b .side) m) x) (pieces b)
 unfolding movesFrom goes
 from-most b x =
     simp onto-length
@@ -80,13 +80,13 @@ from-most b x =
     (λ m. only (m .square) (share (b .side) m) x) (pieces b)
     (λ m. goes-most (b .side) (occupied b) m x)))
 
-pub moves-most : (b : Board) → length (allMoves (canMove b)) ≤ 8 + 27 * length (b .men)
+pub moves-most : (b : Board) → length (allMoves b) ≤ 8 + 27 * length (b .men)
 unfolding allMoves
 moves-most b =
-    le-trans (length-flatMap (movesFrom (canMove b))
-    (λ x. total (λ m. only (m .square) (share (b .side) m) x) (pieces b)) squares (from-most b))
+    le-trans (length-flatMap (movesFrom b) (λ x. total (λ m. only (m .square) (share (b .side) m) x) (pieces b))
+    squares (from-most b))
     (le-trans (total-pieces (b .side) (pieces b)) (total-kings (b .side) (b .white) (b .black) (b .men)))
 
 -- "There are at most 35" (01)
-pub moves-35 : (b : Board) (m : Piece) → b .men ≡ m ∷ [] → length (allMoves (canMove b)) ≤ 35
+pub moves-35 : (b : Board) (m : Piece) → b .men ≡ m ∷ [] → length (allMoves b) ≤ 35
 moves-35 b m e = let h = moves-most b in let k : length (b .men) ≡ 1 = rw e in omega arith

@@ -6,7 +6,7 @@ use Prim.Native.Nat.{ℕ}
 use lib.Dec.{eqb}
 use lib.ListN.{length}
 use borrow.Author.Tests.{eq-eqb, ne-eqb}
-use Rattle.rules.specs.Rules.{canMove, allMoves}
+use Rattle.rules.specs.Rules.{allMoves}
 use Rattle.position.specs.declared.Position.{Position}
 use Rattle.position.specs.Keyed.{boardOf}
 use Rattle.position.specs.Refusals.{standingRefusal}
@@ -43,16 +43,16 @@ module _ (p : Position) (r : ℕ) (e : r ≡ standingRefusal p) where
     no-refusal : eqb (standingRefusal p) 0 ≡ true
     no-refusal = eq-eqb (standingRefusal p) 0 (sym e ∙ z)
 
-    all-moves : movesOf p ≡ allMoves (canMove (boardOf p))
+    all-moves : movesOf p ≡ allMoves (boardOf p)
     unfolding movesOf
     all-moves = rw no-refusal (served-moves p (sym e ∙ z))
 
-    pub given-list : (l : MoveList) → l ≡ listOf (allMoves (canMove (boardOf p)))
+    pub given-list : (l : MoveList) → l ≡ listOf (allMoves (boardOf p))
         → _≡_ {A = Listed} (record { refusal = r; list = l }) (listed p)
     unfolding listed
     given-list l q = listed-eq e (q ∙ ap listOf (sym all-moves))
 
-    pub given-count : (n : ℕ) → n ≡ length (allMoves (canMove (boardOf p))) → Counts p (Count n)
+    pub given-count : (n : ℕ) → n ≡ length (allMoves (boardOf p)) → Counts p (Count n)
     unfolding countAnswer
     given-count n q =
         record {

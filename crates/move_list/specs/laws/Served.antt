@@ -4,7 +4,7 @@ use mathlib.Core.List.{[], _∷_, _++_}
 use Prim.Native.Nat.{_≤_}
 use native.Mathlib.Omega.{arith}
 use lib.ListN.{length}
-use Rattle.rules.specs.Rules.{pieceOf, canMove, allMoves, moves}
+use Rattle.rules.specs.Rules.{pieceOf, allMoves, moves}
 use Rattle.limit.specs.laws.Limit.{moves-most, moves-35}
 use Rattle.position.specs.declared.Slot.{Slot}
 use Rattle.position.specs.declared.Slot.the-variants.{Absent, Present}
@@ -21,7 +21,7 @@ two-men Absent (Present n) = omega arith
 two-men (Present m) Absent = omega arith
 two-men (Present m) (Present n) = omega arith
 
-pub few-moves : (p : Position) → length (allMoves (canMove (boardOf p))) ≤ 62
+pub few-moves : (p : Position) → length (allMoves (boardOf p)) ≤ 62
 unfolding boardOf
 few-moves p = omega (arith, moves-most (boardOf p), two-men (p .first) (p .second))
 
@@ -30,9 +30,9 @@ module _ (p : Position) (z : standingRefusal p ≡ 0) where
   men : boardOf p .men ≡ pieceOf (manKind p) 0 (manSquare p) ∷ []
   men = alone-men p (standing-facts p z .0)
 
-  pub served-moves : moves (boardOf p) ≡ allMoves (canMove (boardOf p))
+  pub served-moves : moves (boardOf p) ≡ allMoves (boardOf p)
   unfolding moves
   served-moves = rw men
 
-  pub served-room : length (allMoves (canMove (boardOf p))) ≤ room
+  pub served-room : length (allMoves (boardOf p)) ≤ room
   served-room = moves-35 (boardOf p) (pieceOf (manKind p) 0 (manSquare p)) men

@@ -1,6 +1,5 @@
 -- Membership in the list of all moves.
 use mathlib.Core.Path.{_≡_, refl, sym, ap, subst}
-use mathlib.Core.Bool.{Bool}
 use mathlib.Core.Logic.{_⊎_, inl, inr, ⊎-elim}
 use mathlib.Core.List.{List, [], _∷_, flatMap, List·Memᴰ·head, List·Memᴰ·tail, List·Memᴰ·append-cases, List·Memᴰ·cases-cons, List·Memᴰ·not-nil, Memᴰ·append-left, Memᴰ·append-right}
 use Prim.Native.Nat.{ℕ, suc, _<_}
@@ -11,7 +10,7 @@ use Rattle.finite.specs.Filter.{filter, filter-in, filter-out}
 use Rattle.board.specs.Sets.{squares}
 use Rattle.board.specs.laws.SetLaws.{squares-in, squares-out}
 use Rattle.rules.specs.declared.Move.{Move}
-use Rattle.rules.specs.Rules.{moveOf, movesTo, movesOnto, movesFrom, allMoves}
+use Rattle.rules.specs.Rules.{Board, canMove, taking, moveOn, movesTo, movesOnto, movesFrom, allMoves}
 
 module _ {A B : Type 0} (f : A → List B) where
   flatMap-in : {x : A} {l : List A} (y : B) → x ∈ l → y ∈ f x → y ∈ flatMap f l
@@ -32,35 +31,42 @@ module _ {A B : Type 0} (f : A → List B) where
 only-in : {A : Type 0} {x y : A} → y ∈ x ∷ [] → y ≡ x
 only-in m = ⊎-elim (λ e. e) (λ n. absurd (List·Memᴰ·not-nil n)) (List·Memᴰ·cases-cons m)
 
--- A move is among all moves exactly when its squares are on the board and it can be made.
-pub in-allMoves : (can : ℕ → ℕ → Bool) (from to : ℕ) → from < 64 → to < 64 → T (can from to)
-    → moveOf from to ∈ allMoves can
+-- A move is among all moves exactly when its squares are on the board, it can be made, and it says whether it takes.
+pub in-allMoves : (b : Board) (from to : ℕ) → from < 64 → to < 64 → T (canMove b from to)
+    → moveOn b from to ∈ allMoves b
 unfolding allMoves movesFrom movesOnto
-in-allMoves can from to h k t =
-    flatMap-in (movesFrom can) (moveOf from to) (squares-in from h)
-    (flatMap-in (movesTo from) (moveOf from to) (filter-in (can from) (squares-in to k) t) (List·Memᴰ·head refl))
+in-allMoves b from to h k t =
+    flatMap-in (movesFrom b) (moveOn b from to) (squares-in from h)
+    (flatMap-in (movesTo b from) (moveOn b from to) (filter-in (canMove b from) (squares-in to k) t)
+    (List·Memᴰ·head refl))
 
-pub of-allMoves : (can : ℕ → ℕ → Bool) (m : Move) → m ∈ allMoves can
-    → (m .from < 64) × (m .to < 64) × T (can (m .from) (m .to))
+pub record ListedMove (b : Board) (m : Move) : Type 0 where
+  pub from-on : m .from < 64
+  pub to-on : m .to < 64
+  pub can : T (canMove b (m .from) (m .to))
+  pub mark : m .takes ≡ taking b (m .to)
+
+pub of-allMoves : (b : Board) (m : Move) → m ∈ allMoves b → ListedMove b m
 unfolding allMoves movesFrom movesOnto
-of-allMoves can m h =
-    let f = flatMap-out (movesFrom can) m squares h in
-    let g = flatMap-out (movesTo (f .0)) m (filter (can (f .0)) squares) (f .2) in
-    let q = filter-out (can (f .0)) (g .0) squares (g .1) in
-    subst (λ (v : Move). (v .from < 64) × (v .to < 64) × T (can (v .from) (v .to))) (sym (only-in (g .2)))
-    (squares-out (f .0) (f .1), squares-out (g .0) (q .0), q .1)
+of-allMoves b m h =
+    let f = flatMap-out (movesFrom b) m squares h in
+    let g = flatMap-out (movesTo b (f .0)) m (filter (canMove b (f .0)) squares) (f .2) in
+    let q = filter-out (canMove b (f .0)) (g .0) squares (g .1) in
+    subst (ListedMove b) (sym (only-in (g .2)))
+    (record { from-on = squares-out (f .0) (f .1); to-on = squares-out (g .0) (q .0); can = q .1; mark = refl })
 
 -- ---- moves to some targets
 
-pub onto-none : (from : ℕ) → movesOnto from [] ≡ []
-unfolding movesOnto flatMap
-onto-none from = refl
+module _ (b : Board) (from : ℕ) where
+  pub onto-none : movesOnto b from [] ≡ []
+  unfolding movesOnto flatMap
+  onto-none = refl
 
-pub onto-more : (from t : ℕ) (ts : List ℕ) → movesOnto from (t ∷ ts) ≡ moveOf from t ∷ movesOnto from ts
-unfolding movesOnto flatMap
-onto-more from t ts = refl
+  pub onto-more : (t : ℕ) (ts : List ℕ) → movesOnto b from (t ∷ ts) ≡ moveOn b from t ∷ movesOnto b from ts
+  unfolding movesOnto flatMap
+  onto-more t ts = refl
 
-pub onto-length : (from : ℕ) (ts : List ℕ) → length (movesOnto from ts) ≡ length ts
-unfolding movesOnto flatMap
-onto-length from [] = refl
-onto-length from (t ∷ ts) = ap suc (onto-length from ts)
+  pub onto-length : (ts : List ℕ) → length (movesOnto b from ts) ≡ length ts
+  unfolding movesOnto flatMap
+  onto-length [] = refl
+  onto-length (t ∷ ts) = ap suc (onto-length ts)

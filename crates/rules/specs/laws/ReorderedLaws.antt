@@ -2,17 +2,18 @@
 -- legal.
 use mathlib.Core.Path.{_≡_, refl, sym, ap, ap₂, subst, subst⁻¹, _∙_}
 use mathlib.Core.Bool.{Bool, true, false, cond, not, _&&_, _||_}
-use mathlib.Core.List.{List, [], _∷_, map}
+use mathlib.Core.List.{List, [], _∷_, map, flatMap}
 use Prim.Native.Nat.{ℕ, _-_}
 use lib.Dec.{T, eqb, ltb}
 use Rattle.finite.specs.Members.{_∈_, any, all, map-in, map-out}
 use Rattle.finite.specs.Filter.{filter, keep}
 use Rattle.finite.specs.Truth.{eqb-sym}
+use Rattle.board.specs.Sets.{squares}
 use Rattle.theory.specs.Game.{next}
 use Rattle.theory.specs.Alike.{Automorphism}
 use Rattle.rules.specs.declared.Piece.{Piece}
 use Rattle.rules.specs.declared.Move.{Move}
-use Rattle.rules.specs.Rules.{Board, pieceOf, pieces, empty, occupied, attacks, attacked, king, inCheck, known, apart, touching, legal, stands, goes, goesTo, carriedPiece, left, moved, canMove, allMoves, moves, mated}
+use Rattle.rules.specs.Rules.{Board, pieceOf, pieces, empty, occupied, attacks, attacked, king, inCheck, known, apart, touching, legal, stands, goes, goesTo, carriedPiece, left, moved, canMove, moveOf, taking, movesOnto, movesFrom, allMoves, moves, mated}
 use Rattle.rules.specs.laws.Changed.{board-eq}
 use Rattle.rules.specs.Chess.{chess, played, next-legal}
 use Rattle.rules.specs.Reordered.{crossed, reordered, Few}
@@ -165,11 +166,20 @@ module _ (e : Bool) (b : Board) (f : Few (b .men)) where
           (ap not (ap (λ (c : Board). inCheck c (b .side)) (moved-reordered from to)
           ∙ check-reordered e (moved b from to) (b .side)))
 
+  taking-reordered : taking (reordered e b) ≡ taking b
+  unfolding taking stands
+  taking-reordered = λ i to. any-reordered e b (λ m. eqb (m .colour) (1 - b .side) && eqb (m .square) to) i
+
+  all-reordered : allMoves (reordered e b) ≡ allMoves b
+  unfolding allMoves movesFrom movesOnto
+  all-reordered =
+      ap₂ (λ (can : ℕ → ℕ → Bool) (takes : ℕ → Bool). flatMap
+      (λ from. flatMap (λ to. moveOf from to (takes to) ∷ []) (filter (can from) squares)) squares)
+      can-reordered taking-reordered
+
   pub moves-reordered : moves (reordered e b) ≡ moves b
   unfolding moves
-  moves-reordered =
-      ap₂ (λ (x : Bool) (can : ℕ → ℕ → Bool). cond {A = List Move} x [] (allMoves can)) (empty-crossed e b)
-      can-reordered
+  moves-reordered = ap₂ (λ (x : Bool) (l : List Move). cond x [] l) (empty-crossed e b) all-reordered
 
   pub mated-reordered : mated (reordered e b) ≡ mated b
   unfolding mated

@@ -3,7 +3,7 @@ use mathlib.Core.Path.{_≡_, refl, sym, subst}
 use mathlib.Core.Bool.{Bool, true, false, not, _&&_, _||_}
 use mathlib.Core.Logic.{_⊎_, inl, inr}
 use mathlib.Core.List.{List, [], _∷_, map, List·Memᴰ·tail}
-use Prim.Native.Nat.{ℕ, zero, suc, _≤_, _<_}
+use Prim.Native.Nat.{ℕ, zero, suc, _+_, _<_}
 use native.Mathlib.Omega.{arith}
 use lib.Dec.{T, eqb}
 use lib.ListN.{length}
@@ -12,6 +12,7 @@ use Rattle.finite.specs.Truth.{and-left, and-right, false-of, fails, refuted}
 use Rattle.finite.specs.Members.{_∈_, any, any-in, map-twice}
 use Rattle.finite.specs.Filter.{filter, keep}
 use Rattle.board.specs.Reach.{reaches}
+use Rattle.board.specs.Sets.{digit}
 use Rattle.board.specs.laws.ReachLaws.{king-reaches}
 use Rattle.symmetry.specs.laws.Opposite.{reaches-sym}
 use Rattle.rules.specs.declared.Piece.{Piece}
@@ -37,15 +38,17 @@ left-all s (a ∷ l) e = go (eqb s (a .square)) refl e (left-all s l)
     go true h e r = absurd (refuted e tt)
     go false h e r = rw (ne-eqb (a .square) s (λ q. eqb-false s (a .square) h (sym q)), r e)
 
-pub one-taken : (to : ℕ) (l : List Piece) → T (apart l) → length l ≤ suc (length (left to l))
-unfolding apart filter
-one-taken to [] t = omega arith
+-- one is taken where one stands on the target, and none where none does
+pub one-taken : (to : ℕ) (l : List Piece) → T (apart l)
+    → length l ≡ digit (any (λ y. eqb (y .square) to) l) + length (left to l)
+unfolding any apart filter
+one-taken to [] t = refl
 one-taken to (a ∷ l) t =
     go (eqb (a .square) to) refl
     (one-taken to l (and-right (not (any (λ y. eqb (a .square) (y .square)) l)) (apart l) t))
   where
-    go : (x : Bool) → eqb (a .square) to ≡ x → length l ≤ suc (length (left to l))
-        → suc (length l) ≤ suc (length (keep (not x) a (left to l)))
+    go : (x : Bool) → eqb (a .square) to ≡ x → length l ≡ digit (any (λ y. eqb (y .square) to) l) + length (left to l)
+        → suc (length l) ≡ digit (x || any (λ y. eqb (y .square) to) l) + length (keep (not x) a (left to l))
     go true e r =
         rw (
           ← eqb-true (a .square) to e,

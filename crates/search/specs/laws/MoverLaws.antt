@@ -7,7 +7,7 @@ use Rattle.board.specs.Sets.{members, setOf}
 use Rattle.board.specs.laws.SetLaws.{members-none}
 use Rattle.board.specs.laws.LowestLaws.{Lowest, lowest-of}
 use Rattle.rules.specs.declared.Piece.{Piece}
-use Rattle.rules.specs.Rules.{Board, empty, stands, moveOf, movesFrom, allMoves, canMove, moves}
+use Rattle.rules.specs.Rules.{Board, empty, stands, canMove, moveOn, movesFrom, allMoves, moves}
 use Rattle.position.specs.declared.Slot.the-variants.{Absent, Present}
 use Rattle.position.specs.declared.Position.{Position}
 use Rattle.position.specs.Keyed.{boardOf}
@@ -22,7 +22,7 @@ module _ (b : Board) where
   on-movers own e = go (empty (b .men)) e
     where
       go : (bare : Bool) → own ≡ cond bare 0 (setOf (stands b (b .side)))
-          → flatMap (movesFrom (canMove b)) (members own) ≡ cond bare [] (allMoves (canMove b))
+          → flatMap (movesFrom b) (members own) ≡ cond bare [] (allMoves b)
       go true q = rw (q, members-none)
       go false q = sym (by-movers b own q)
 
@@ -34,11 +34,11 @@ module _ (b : Board) where
   pub on-turn : (rest from others targets : ℕ) → Lowest rest from others → targets ≡ setOf (canMove b from)
       → movesOn b rest ≡ movesLeft b from targets others
   unfolding movesOn movesLeft
-  on-turn rest from others targets low e = turn-split (canMove b) rest from others targets low e
+  on-turn rest from others targets low e = turn-split b rest from others targets low e
 
   -- one turn of the loop over the targets
   pub left-turn : (from targets to others rest : ℕ) → Lowest targets to others
-      → movesLeft b from targets rest ≡ moveOf from to ∷ movesLeft b from others rest
+      → movesLeft b from targets rest ≡ moveOn b from to ∷ movesLeft b from others rest
   unfolding movesLeft
   left-turn from targets to others rest low = rw (low .first, onto-more)
 

@@ -15,7 +15,7 @@ use Rattle.board.specs.Reach.{reaches}
 use Rattle.board.specs.Sets.{has, squares, members, setOf}
 use Rattle.board.specs.laws.SetLaws.{has-or, has-and, set-has, squares-out, members-setOf}
 use Rattle.rules.specs.declared.Piece.{Piece}
-use Rattle.rules.specs.Rules.{Board, pieceOf, pieces, inCheck, empty, moved, moveOf, movesOnto, canMove, moves, mated}
+use Rattle.rules.specs.Rules.{Board, pieceOf, pieces, inCheck, empty, moved, canMove, moveOn, movesOnto, moves, mated}
 use Rattle.rules.specs.declared.Move.{Move}
 use Rattle.rules.specs.laws.MoveLists.{onto-none, onto-more}
 use Rattle.rules.specs.laws.Closed.{moved-side}
@@ -64,22 +64,23 @@ module _ (occ : ℕ → Bool) (from at t : ℕ) where
 
 -- ---- the targets to try
 
-any-onto : (f : Move → Bool) (from : ℕ) (ts : List ℕ) → any f (movesOnto from ts) ≡ any (λ t. f (moveOf from t)) ts
+any-onto : (f : Move → Bool) (b : Board) (from : ℕ) (ts : List ℕ)
+    → any f (movesOnto b from ts) ≡ any (λ t. f (moveOn b from t)) ts
 unfolding any
-any-onto f from [] = ap (any f) (onto-none from)
-any-onto f from (t ∷ ts) =
-    ap (any f) (onto-more from t ts) ∙ ap (λ (x : Bool). f (moveOf from t) || x) (any-onto f from ts)
+any-onto f b from [] = ap (any f) (onto-none b from)
+any-onto f b from (t ∷ ts) =
+    ap (any f) (onto-more b from t ts) ∙ ap (λ (x : Bool). f (moveOn b from t) || x) (any-onto f b from ts)
 
 module _ (s : Position) (from k targets : ℕ) (e : targets ≡ setOf (canMove (boardOf s) from)) where
   abbrev b : Board
   b = boardOf s
 
-  pub tried-every : any (losing k b) (movesOnto from (members targets)) ≡ any (losing k b) (movesOnto from
+  pub tried-every : any (losing k b) (movesOnto b from (members targets)) ≡ any (losing k b) (movesOnto b from
       (members (setOf (canMove b from))))
-  tried-every = ap (λ (z : ℕ). any (losing k b) (movesOnto from (members z))) e
+  tried-every = ap (λ (z : ℕ). any (losing k b) (movesOnto b from (members z))) e
 
   -- with one ply left a move must mate, and mate is check
-  mates-check : k ≡ 1 → (t : ℕ) → T (losing k b (moveOf from t)) → T (inCheck (moved b from t) (1 - s .side))
+  mates-check : k ≡ 1 → (t : ℕ) → T (losing k b (moveOn b from t)) → T (inCheck (moved b from t) (1 - s .side))
   unfolding lost mated boardOf
   mates-check z t h =
       let q = moved b from t in
@@ -87,17 +88,17 @@ module _ (s : Position) (from k targets : ℕ) (e : targets ≡ setOf (canMove (
       subst (λ (x : ℕ). T (inCheck q x)) (moved-side b from t) (and-left (inCheck q (q .side)) (empty (moves q)) m)
 
   pub tried-checks : k ≡ 1 → (r : ℕ) → HoldsChecks s from r
-      → any (losing k b) (movesOnto from (members (bitAnd targets r)))
-      ≡ any (losing k b) (movesOnto from (members (setOf (canMove b from))))
+      → any (losing k b) (movesOnto b from (members (bitAnd targets r)))
+      ≡ any (losing k b) (movesOnto b from (members (setOf (canMove b from))))
   unfolding members
   tried-checks z r h =
-      any-onto (losing k b) from (members (bitAnd targets r))
+      any-onto (losing k b) b from (members (bitAnd targets r))
       ∙ ap (any wins)
       (filter-same (has (bitAnd targets r)) (λ t. canMove b from t && has r t) squares
       (λ t m. has-and targets r t ∙ ap (λ (x : Bool). x && has r t) (set-has _ e t (squares-out t m))))
       ∙ any-kept wins (canMove b from) (has r) squares (λ t m c l. h t c (mates-check z t l))
       ∙ ap (any wins) (sym (members-setOf (canMove b from)))
-      ∙ sym (any-onto (losing k b) from (members (setOf (canMove b from))))
+      ∙ sym (any-onto (losing k b) b from (members (setOf (canMove b from))))
     where
       wins : ℕ → Bool
-      wins t = losing k b (moveOf from t)
+      wins t = losing k b (moveOn b from t)

@@ -11,7 +11,7 @@ use Rattle.theory.specs.Value.{won, lost}
 use Rattle.board.specs.Sets.{members, setOf}
 use Rattle.board.specs.laws.LowestLaws.{Lowest}
 use Rattle.rules.specs.declared.Move.{Move}
-use Rattle.rules.specs.Rules.{Board, empty, inCheck, moveOf, movesOnto, canMove, moves, mated}
+use Rattle.rules.specs.Rules.{Board, empty, inCheck, canMove, moveOn, movesOnto, moves, mated}
 use Rattle.rules.specs.Chess.{chess, played}
 use Rattle.position.specs.declared.Position.{Position}
 use Rattle.position.specs.Keyed.{boardOf}
@@ -116,14 +116,14 @@ module _ (k : ℕ) (b : Board) (can : Bool) (c : can ≡ not (empty (moves b))) 
 module _ (f : Move → Bool) (total : Bool) (b : Board) where
   module _ (rest from others targets : ℕ) (low : Lowest rest from others) where
     -- whichever targets are tried, where the test passes of one of them if of any
-    pub any-piece : any f (movesOnto from (members targets)) ≡ any f (movesOnto from
+    pub any-piece : any f (movesOnto b from (members targets)) ≡ any f (movesOnto b from
         (members (setOf (canMove b from)))) → any f (movesOn b rest) ≡ total
         → any f (movesLeft b from targets others) ≡ total
     unfolding movesLeft
     any-piece e w =
-        any-append f (movesOnto from (members targets)) (movesOn b others)
+        any-append f (movesOnto b from (members targets)) (movesOn b others)
         ∙ rw e
-        (sym (any-append f (movesOnto from (members (setOf (canMove b from)))) (movesOn b others))
+        (sym (any-append f (movesOnto b from (members (setOf (canMove b from)))) (movesOn b others))
         ∙ sym (ap (any f) (on-turn b rest from others (setOf (canMove b from)) low refl))
         ∙ w)
 
@@ -153,15 +153,15 @@ module _ (k : ℕ) (s q : Position) (total found : Bool) (from targets to others
   abbrev b : Board
   b = boardOf s
 
-  turn : movesLeft b from targets rest ≡ moveOf from to ∷ movesLeft b from others rest
+  turn : movesLeft b from targets rest ≡ moveOn b from to ∷ movesLeft b from others rest
   turn = left-turn b from targets to others rest low
 
-  board : boardOf q ≡ played b (moveOf from to)
+  board : boardOf q ≡ played b (moveOn b from to)
   board = ap boardOf made ∙ after-moved from to s
 
   module _ (h : found ≡ lost chess (k - 1) (boardOf q)) (w : any (losing k b) (movesLeft b from targets rest) ≡ total)
     where
-      same : losing k b (moveOf from to) ≡ found
+      same : losing k b (moveOn b from to) ≡ found
       same = sym (h ∙ ap (lost chess (k - 1)) board)
 
       pub won-hit : found ≡ true → true ≡ total
@@ -172,7 +172,7 @@ module _ (k : ℕ) (s q : Position) (total found : Bool) (from targets to others
 
   module _ (h : found ≡ won chess (k - 1) (boardOf q)) (w : all (winning k b) (movesLeft b from targets rest) ≡ total)
     where
-      same-won : winning k b (moveOf from to) ≡ found
+      same-won : winning k b (moveOn b from to) ≡ found
       same-won = sym (h ∙ ap (won chess (k - 1)) board)
 
       pub lost-miss : found ≡ false → false ≡ total

@@ -15,7 +15,7 @@ use Rattle.move_list.specs.declared.Counted.{Counted}
 use Rattle.move_list.specs.Answers.{countAnswer}
 use Rattle.adjudication.specs.laws.Short.{reply-short}
 use Rattle.position.specs.laws.PlacedLaws.{standing-most}
-use Rattle.sledgewren.specs.Words.{countWord, listingOf, replied, lineAnswer}
+use Rattle.sledgewren.specs.Words.{countWord, listSize, listingOf, replied, lineAnswer}
 
 not-255 : (p : Position) → countWord (countAnswer p) ≡ 255 → ⊥
 unfolding countAnswer
@@ -27,10 +27,10 @@ not-255 p = go (eqb (standingRefusal p) 0) (standing-most p)
     go true h e = omega arith
     go false h e = omega arith
 
--- `sledgewren_moves` answers SLEDGEWREN_MOVES_LENGTH only for another length than 70
-pub list-length-told : (p : Position) (bytes : List ℕ) → listingOf p bytes .word ≡ 255 → length bytes ≡ 70 → ⊥
+-- `sledgewren_moves` answers SLEDGEWREN_MOVES_LENGTH only for another length than 248
+pub list-length-told : (p : Position) (bytes : List ℕ) → listingOf p bytes .word ≡ 255 → length bytes ≡ listSize → ⊥
 unfolding listingOf
-list-length-told p bytes e h = not-255 p (rw (eq-eqb (length bytes) 70 h) at e)
+list-length-told p bytes e h = not-255 p (rw (eq-eqb (length bytes) listSize h) at e)
 
 -- `sledgewren_answer_line` answers SLEDGEWREN_SLIP_LENGTH only for another length than 16
 pub slip-length-told : (line : List ℕ) (held : ℕ) (t s : List ℕ) → lineAnswer line held t s .word ≡ 65535

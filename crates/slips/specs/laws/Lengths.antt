@@ -1,7 +1,7 @@
 -- Every slip is one line of 2 to 16 bytes that ends in a newline.
 use mathlib.Core.Path.{_≡_, refl}
 use mathlib.Core.Bool.{Bool, true, false, cond}
-use mathlib.Core.List.{List, [], _∷_}
+use mathlib.Core.List.{List, [], _∷_, _++_}
 use Prim.Native.Nat.{ℕ, _+_, _≤_}
 use native.Mathlib.Omega.{arith}
 use lib.Dec.{ltb}
@@ -11,7 +11,7 @@ use Rattle.answers.specs.declared.BestMove.{BestMove}
 use Rattle.answers.specs.declared.BestMove.the-variants.{Play, NoMove}
 use Rattle.answers.specs.declared.Answer.{Answer}
 use Rattle.ascii.specs.Bytes.{bytes}
-use Rattle.slips.specs.Slip.{decimal, squareName, wordAndNumber, gapped, adviceText, answerText, placedText, withNewline, slipOf, placedSlip, refusedSlip}
+use Rattle.slips.specs.Slip.{decimal, squareName, wordAndNumber, gapped, markText, adviceText, answerText, placedText, withNewline, slipOf, placedSlip, refusedSlip}
 
 -- a line of output: a text and its newline
 pub record Line (bs : List ℕ) : Type 0 where
@@ -36,12 +36,16 @@ counted-length : (word : List ℕ) (n : ℕ) → Between (length word + 1) (leng
 unfolding wordAndNumber
 counted-length word n = let d = decimal-length n in simp length-append (omega arith)
 
-advice-length : (a : BestMove) → length (adviceText a) ≤ 5
-unfolding adviceText gapped squareName
-advice-length (Play m) = omega arith
+advice-length : (a : BestMove) → length (adviceText a) ≤ 6
+unfolding adviceText gapped squareName markText
+advice-length (Play m) = go (m .takes)
+  where
+    go : (x : Bool) → length (gapped (m .from) ++ markText x ++ squareName (m .to)) ≤ 6
+    go true = omega arith
+    go false = omega arith
 advice-length NoMove = omega arith
 
-answer-length : (a : Answer) → Between 4 13 (answerText a)
+answer-length : (a : Answer) → Between 4 14 (answerText a)
 unfolding answerText
 answer-length (Answer.Win n a) =
     let w = counted-length (bytes "win ") n in let d = advice-length a in simp length-append (omega arith)
@@ -62,7 +66,7 @@ line least most bs h l m =
 
 pub answer-line : (a : Answer) → Line (slipOf a)
 unfolding slipOf
-answer-line a = line 4 13 (answerText a) (answer-length a) (omega arith) (omega arith)
+answer-line a = line 4 14 (answerText a) (answer-length a) (omega arith) (omega arith)
 
 pub placed-line : (p : Placed) → Line (placedSlip p)
 unfolding placedSlip

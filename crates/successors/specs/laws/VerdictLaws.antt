@@ -15,7 +15,7 @@ use Rattle.theory.specs.laws.Step.{required-moves}
 use Rattle.theory.specs.Judge.{judge}
 use Rattle.theory.specs.laws.Judge.{judge-accepts, judge-refuses, judge-nothing, judge-nothing-over}
 use Rattle.rules.specs.declared.Move.{Move}
-use Rattle.rules.specs.Rules.{Board, empty, inCheck, canMove, allMoves, moves, mated}
+use Rattle.rules.specs.Rules.{Board, empty, inCheck, allMoves, moves, mated}
 use Rattle.rules.specs.Chess.{chess, played}
 use Rattle.position.specs.declared.Position.{Position}
 use Rattle.position.specs.Keyed.{boardOf, lone}
@@ -182,10 +182,10 @@ counted : (l : List Move) (n : ℕ) → n ≡ length l → empty l ≡ eqb n 0
 counted [] n q = sym (eq-eqb n 0 q)
 counted (m ∷ l) n q = sym (ne-eqb n 0 (λ z. omega arith))
 
-module _ (b : Board) (n : ℕ) (m : empty (b .men) ≡ false) (e : n ≡ length (allMoves (canMove b))) where
+module _ (b : Board) (n : ℕ) (m : empty (b .men) ≡ false) (e : n ≡ length (allMoves b)) where
   none-counted : empty (moves b) ≡ eqb n 0
   unfolding moves
-  none-counted = rw m (counted (allMoves (canMove b)) n e)
+  none-counted = rw m (counted (allMoves b) n e)
 
   -- the end of a game with no move left
   pub over-more : (c : ℕ) → (n ≡ 0 → ⊥) → false ≡ overWith c b

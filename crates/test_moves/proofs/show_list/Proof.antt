@@ -32,11 +32,8 @@ slice-aggregate-write-all c = search needs
 write-all-requires : tie.Need-write-all-requires Inv-loop μ-loop
 write-all-requires c κs = search needs
 
-show-square-requires : tie.Need-show-square-requires Inv-loop μ-loop
-show-square-requires c κs = search needs
-
-show-square-requires-2 : tie.Need-show-square-requires-2 Inv-loop μ-loop
-show-square-requires-2 c κs = search needs
+show-move-requires : tie.Need-show-move-requires Inv-loop μ-loop
+show-move-requires c κs = search needs
 
 add-i : tie.Need-add-i Inv-loop μ-loop
 add-i c = search needs
@@ -66,8 +63,7 @@ show-list-spec =
     array-copy-out-m
     slice-aggregate-write-all
     write-all-requires
-    show-square-requires
-    show-square-requires-2
+    show-move-requires
     add-i
     loop-less
     loop-again

@@ -166,7 +166,7 @@ suited-on : (t : List ℕ) (b : Board) (m : Move) → firstSuited chess (byteOf 
 unfolding firstSuited
 suited-on t b m e =
     can-on b (m .from) (m .to)
-    (of-moves b m (first-out (λ v. suits (byteOf t b) (byteOf t (played b v))) (moves b) m e .0) .1)
+    (of-moves b m (first-out (λ v. suits (byteOf t b) (byteOf t (played b v))) (moves b) m e .0) .1 .can)
 
 advice-fits : (o : Option Move) → ((m : Move) → o ≡ some m → (m .from < 64) × (m .to < 64)) → AdviceFits (adviceOf o)
 advice-fits none h = tt

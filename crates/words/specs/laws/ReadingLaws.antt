@@ -1,9 +1,12 @@
 -- Each word is read back by the header's bit ranges, and no two answers have one word.
 use mathlib.Core.Path.{_≡_, refl, sym, ap, _∙_}
+use mathlib.Core.Bool.{Bool, true, false}
 use Prim.Native.Nat.{ℕ, _+_, _*_, _^_, _<_}
 use native.Mathlib.Nat.{zero-add, add-mul-div-right, add-mul-mod-self-right, div-eq-of-lt, mod-eq-of-lt}
 use native.Mathlib.Omega.{arith}
+use lib.Dec.{eqb}
 use borrow.Author.Tests.{ne-eqb}
+use Rattle.rules.specs.declared.Move.{Move}
 use Rattle.answers.specs.declared.BestMove.{BestMove}
 use Rattle.answers.specs.declared.Answer.{Answer}
 use Rattle.answers.specs.declared.Checked.{Checked}
@@ -13,7 +16,7 @@ use Rattle.index.specs.declared.NumberAnswer.{NumberAnswer}
 use Rattle.index.specs.declared.Placed.{Placed}
 use Rattle.move_list.specs.declared.Counted.{Counted}
 use Rattle.endings.specs.GamePromise.{given, moveOfAnswer}
-use Rattle.words.specs.Words.{numberWord, placedWord, countWord, filledWord, checkedWord, adviceWord, answerWord}
+use Rattle.words.specs.Words.{numberWord, placedWord, countWord, filledWord, checkedWord, flagOf, adviceWord, answerWord}
 use Rattle.words.specs.Reading.{bits, unlessRefused, numberRead, placedRead, countRead, filledRead, checkedRead, adviceRead, valueRead, answerRead, Byte, RefusalFits, NumberFits, PlacedFits, CountFits, FilledFits, CheckedFits, AdviceFits, AnswerFits, ReadBack, OneWord}
 
 -- ---- one field of any word
@@ -138,48 +141,80 @@ checks-apart = one-word CheckedFits checkedWord checkedRead checked-read
 
 -- ---- look-up
 
--- the word of a value, a depth and a move, given (1) or not (0)
-abbrev valueWord : ℕ → ℕ → ℕ → ℕ → ℕ → ℕ
-valueWord value depth given from to = value * 2 ^ 8 + depth * 2 ^ 16 + (given * 2 ^ 24 + from * 2 ^ 32 + to * 2 ^ 40)
+-- the word of a value, a depth and a move, given (1) or not (0), that takes (1) or not (0)
+abbrev valueWord : ℕ → ℕ → ℕ → ℕ → ℕ → ℕ → ℕ
+valueWord value depth given from to takes =
+    value * 2 ^ 8 + depth * 2 ^ 16 + (given * 2 ^ 24 + from * 2 ^ 32 + to * 2 ^ 40 + takes * 2 ^ 48)
 
-record ValueBits (value depth given from to word : ℕ) : Type 0 where
+record ValueBits (value depth given from to takes word : ℕ) : Type 0 where
   none : bits 0 8 word ≡ 0
   value-read : bits 8 8 word ≡ value
   depth-read : bits 16 8 word ≡ depth
   given-read : bits 24 1 word ≡ given
   from-read : bits 32 8 word ≡ from
   to-read : bits 40 8 word ≡ to
+  takes-read : bits 48 1 word ≡ takes
 
-value-bits : (v n g f t : ℕ) → Byte v → Byte n → g < 2 → Byte f → Byte t → ValueBits v n g f t (valueWord v n g f t)
-value-bits v n g f t hv hn hg hf ht = record {
-  none = field 0 8 0 0 (v + n * 2 ^ 8 + g * 2 ^ 16 + f * 2 ^ 24 + t * 2 ^ 32) (valueWord v n g f t) (omega arith)
-      (omega arith) (omega arith);
-  value-read =
-      field 8 8 0 v (n + g * 2 ^ 8 + f * 2 ^ 16 + t * 2 ^ 24) (valueWord v n g f t) (omega arith) (omega arith) hv;
-  depth-read =
-      field 16 8 (v * 2 ^ 8) n (g + f * 2 ^ 8 + t * 2 ^ 16) (valueWord v n g f t) (omega arith) (omega arith) hn;
-  given-read =
-      field 24 1 (v * 2 ^ 8 + n * 2 ^ 16) g (f * 2 ^ 7 + t * 2 ^ 15) (valueWord v n g f t) (omega arith) (omega arith)
-      hg;
-  from-read = field 32 8 (v * 2 ^ 8 + n * 2 ^ 16 + g * 2 ^ 24) f t (valueWord v n g f t) (omega arith) (omega arith) hf;
-  to-read = field 40 8 (v * 2 ^ 8 + n * 2 ^ 16 + g * 2 ^ 24 + f * 2 ^ 32) t 0 (valueWord v n g f t) (omega arith)
-      (omega arith) ht;
-}
+value-bits : (v n g f t x : ℕ) → Byte v → Byte n → g < 2 → Byte f → Byte t → x < 2
+    → ValueBits v n g f t x (valueWord v n g f t x)
+value-bits v n g f t x hv hn hg hf ht hx =
+    let word = valueWord v n g f t x in
+    record {
+      none = field 0 8 0 0 (v + n * 2 ^ 8 + g * 2 ^ 16 + f * 2 ^ 24 + t * 2 ^ 32 + x * 2 ^ 40) word (omega arith)
+          (omega arith) (omega arith);
+      value-read =
+          field 8 8 0 v (n + g * 2 ^ 8 + f * 2 ^ 16 + t * 2 ^ 24 + x * 2 ^ 32) word (omega arith) (omega arith) hv;
+      depth-read =
+          field 16 8 (v * 2 ^ 8) n (g + f * 2 ^ 8 + t * 2 ^ 16 + x * 2 ^ 24) word (omega arith) (omega arith) hn;
+      given-read =
+          field 24 1 (v * 2 ^ 8 + n * 2 ^ 16) g (f * 2 ^ 7 + t * 2 ^ 15 + x * 2 ^ 23) word (omega arith) (omega arith)
+          hg;
+      from-read =
+          field 32 8 (v * 2 ^ 8 + n * 2 ^ 16 + g * 2 ^ 24) f (t + x * 2 ^ 8) word (omega arith) (omega arith) hf;
+      to-read = field 40 8 (v * 2 ^ 8 + n * 2 ^ 16 + g * 2 ^ 24 + f * 2 ^ 32) t x word (omega arith) (omega arith) ht;
+      takes-read =
+          field 48 1 (v * 2 ^ 8 + n * 2 ^ 16 + g * 2 ^ 24 + f * 2 ^ 32 + t * 2 ^ 40) x 0 word (omega arith)
+          (omega arith) hx;
+    }
+
+flag-fits : (x : Bool) → flagOf x < 2
+flag-fits true = omega arith
+flag-fits false = omega arith
+
+flag-read : (x : Bool) → eqb (flagOf x) 1 ≡ x
+flag-read true = refl
+flag-read false = refl
+
+play-bits : (v n : ℕ) (m : Move) → Byte v → Byte n → AdviceFits (BestMove.Play m)
+    → ValueBits v n 1 (m .from) (m .to) (flagOf (m .takes)) (v * 2 ^ 8 + n * 2 ^ 16 + adviceWord (BestMove.Play m))
+play-bits v n m hv hn h =
+    value-bits v n 1 (m .from) (m .to) (flagOf (m .takes)) hv hn (omega arith) (h .0) (h .1) (flag-fits (m .takes))
+
+none-bits : (v n : ℕ) → Byte v → Byte n → ValueBits v n 0 0 0 0 (v * 2 ^ 8 + n * 2 ^ 16 + adviceWord BestMove.NoMove)
+none-bits v n hv hn = value-bits v n 0 0 0 0 hv hn (omega arith) (omega arith) (omega arith) (omega arith)
 
 advice-back : (v n : ℕ) (a : BestMove) → Byte v → Byte n → AdviceFits a
     → adviceRead (v * 2 ^ 8 + n * 2 ^ 16 + adviceWord a) ≡ a
-advice-back v n (BestMove.Play m) hv hn h = let b =
-    value-bits v n 1 (m .from) (m .to) hv hn (omega arith) (h .0) (h .1) in rw (b .given-read, b .from-read, b .to-read)
-advice-back v n BestMove.NoMove hv hn h =
-    let b = value-bits v n 0 0 0 hv hn (omega arith) (omega arith) (omega arith) in rw (b .given-read)
+advice-back v n (BestMove.Play m) hv hn h =
+    let b = play-bits v n m hv hn h in rw (b .given-read, b .from-read, b .to-read, b .takes-read, flag-read (m .takes))
+advice-back v n BestMove.NoMove hv hn h = let b = none-bits v n hv hn in rw (b .given-read)
 
 value-back : (v n : ℕ) (a : BestMove) → Byte v → Byte n → AdviceFits a
     → answerRead (v * 2 ^ 8 + n * 2 ^ 16 + adviceWord a) ≡ valueRead v n a
 value-back v n (BestMove.Play m) hv hn h =
-    let b = value-bits v n 1 (m .from) (m .to) hv hn (omega arith) (h .0) (h .1) in
-    rw (b .none, b .value-read, b .depth-read, b .given-read, b .from-read, b .to-read)
+    let b = play-bits v n m hv hn h in
+    rw (
+      b .none,
+      b .value-read,
+      b .depth-read,
+      b .given-read,
+      b .from-read,
+      b .to-read,
+      b .takes-read,
+      flag-read (m .takes),
+    )
 value-back v n BestMove.NoMove hv hn h =
-    let b = value-bits v n 0 0 0 hv hn (omega arith) (omega arith) (omega arith) in
+    let b = none-bits v n hv hn in
     rw (b .none, b .value-read, b .depth-read, b .given-read)
 
 pub answer-read : ReadBack AnswerFits answerWord answerRead

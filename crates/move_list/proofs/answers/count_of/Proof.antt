@@ -2,7 +2,7 @@
 use mathlib.Core.Path.{_≡_, refl, ap}
 use Prim.Native.Nat.{ℕ, _+_, _^_, _<_}
 use Rattle.board.specs.Sets.{has, members, setOf}
-use Rattle.rules.specs.Rules.{canMove, movesFrom, allMoves}
+use Rattle.rules.specs.Rules.{movesFrom, allMoves}
 use Rattle.move_list.specs.laws.Served.{few-moves}
 use mathlib.Core.Bool.{not, _&&_}
 use lib.Dec.{eqb}
@@ -17,9 +17,8 @@ use Rattle.move_list.proofs.answers.count_of.Statement.{statement}
 use Rattle.move_list.proofs.answers.count_of.Tie as tie
 
 abbrev Inv-loop : tie.InvT-loop
-Inv-loop p count₀ rest₀ count rest = (rest < 2 ^ 64)
-    × (count + length (flatMap (movesFrom (canMove (boardOf p))) (members rest))
-    ≡ length (allMoves (canMove (boardOf p))))
+Inv-loop p count₀ rest₀ count rest =
+    (rest < 2 ^ 64) × (count + length (flatMap (movesFrom (boardOf p)) (members rest)) ≡ length (allMoves (boardOf p)))
 
 abbrev μ-loop : tie.MeasureT-loop
 μ-loop p count₀ rest₀ count rest = length (members rest)
@@ -54,8 +53,7 @@ add-count : tie.Need-add-count Inv-loop μ-loop
 add-count c =
     let p = c .before .before .before .before .before .before .args .p in
     let i = c .before .before .before .before .loop .inv in
-    let t = turn-length (canMove (boardOf p)) _ _ _ _ (low (c .before .before) _ refl)
-    (c .before .legal-targets .ensures) in
+    let t = turn-length (boardOf p) _ _ _ _ (low (c .before .before) _ refl) (c .before .legal-targets .ensures) in
     omega (arith, i .1, t, c .size .ensures, few-moves p)
 
 without-requires : tie.Need-without-requires Inv-loop μ-loop
@@ -68,7 +66,7 @@ loop-again : tie.Need-loop-again Inv-loop μ-loop
 loop-again c =
     let p = c .before .before .before .before .before .before .before .args .p in
     let i = c .before .before .before .before .before .loop .inv in
-    let t = turn-length (canMove (boardOf p)) _ _ _ _ (low (c .before .before .before) _ (c .without .ensures))
+    let t = turn-length (boardOf p) _ _ _ _ (low (c .before .before .before) _ (c .without .ensures))
     (c .before .before .legal-targets .ensures) in
     (c .without .ok, omega (arith, i .1, t, c .before .size .ensures))
 

@@ -11,28 +11,32 @@ use native.Mathlib.Omega.{arith}
 use lib.ListN.{length}
 use lib.Seq.{sets}
 use Rattle.board.specs.laws.SetLaws.{members-none}
-use Rattle.rules.specs.Rules.{movesOnto}
+use Rattle.rules.specs.Rules.{Board, taking, movesOnto}
 use Rattle.rules.specs.laws.MoveLists.{onto-none, onto-more, onto-length}
 use Rattle.move_list.specs.Lists.{room}
 use Rattle.move_list.specs.ListLaws.{appended}
-use Rattle.move_list.specs.laws.ListLaws.{list-eq}
+use Rattle.move_list.specs.laws.ListLaws.{list-eq, taking-move}
 use Rattle.move_list.proofs.lists.add_moves.Statement.{statement}
 use Rattle.move_list.proofs.lists.add_moves.Tie as tie
 
 abbrev Inv-loop : tie.InvT-loop
-Inv-loop from targets moves₀ count₀ rest₀ moves count rest =
+Inv-loop foes from targets moves₀ count₀ rest₀ moves count rest =
     (rest < 2 ^ 64)
     × (count + length (members rest) ≡ count₀ + length (members targets))
-    × (sets moves count (movesOnto from (members rest)) ≡ sets moves₀ count₀ (movesOnto from (members targets)))
+    × ((b : Board) → foes ≡ setOf (taking b)
+    → sets moves count (movesOnto b from (members rest)) ≡ sets moves₀ count₀ (movesOnto b from (members targets)))
 
 abbrev μ-loop : tie.MeasureT-loop
-μ-loop from targets moves₀ count₀ rest₀ moves count rest = length (members rest)
+μ-loop foes from targets moves₀ count₀ rest₀ moves count rest = length (members rest)
 
 loop-holds : tie.Need-loop-holds Inv-loop μ-loop
-loop-holds c = (c .before .fits .targets .fits, refl, refl)
+loop-holds c = (c .before .fits .targets .fits, refl, λ b s. refl)
 
 lowest-requires : tie.Need-lowest-requires Inv-loop μ-loop
 lowest-requires c κs = tt
+
+has-requires : tie.Need-has-requires Inv-loop μ-loop
+has-requires c κs = tt
 
 move-of-requires : tie.Need-move-of-requires Inv-loop μ-loop
 move-of-requires c κs = tt
@@ -49,30 +53,36 @@ place : (c : tie.After-lowest Inv-loop μ-loop) → c .before .before .loop .cou
 place c = omega (arith, low c _ refl .fewer, c .before .before .loop .inv .1, c .before .before .before .before .pre)
 
 cast-moves : tie.Need-cast-moves Inv-loop μ-loop
-cast-moves c = omega (arith, place (c .before))
+cast-moves c = omega (arith, place (c .before .before))
 
 mul-moves : tie.Need-mul-moves Inv-loop μ-loop
-mul-moves c = omega (arith, place (c .before))
+mul-moves c = omega (arith, place (c .before .before))
 
 array-set-from-moves : tie.Need-array-set-from-moves Inv-loop μ-loop
-array-set-from-moves c = place (c .before)
+array-set-from-moves c = place (c .before .before)
 
 add-count : tie.Need-add-count Inv-loop μ-loop
-add-count c = omega (arith, place (c .before))
+add-count c = omega (arith, place (c .before .before))
 
 without-requires : tie.Need-without-requires Inv-loop μ-loop
 without-requires c κs = tt
 
 loop-less : tie.Need-loop-less Inv-loop μ-loop
-loop-less c = low (c .before .before) _ (c .without .ensures) .fewer
+loop-less c = low (c .before .before .before) _ (c .without .ensures) .fewer
 
 loop-again : tie.Need-loop-again Inv-loop μ-loop
 loop-again c =
-    let i = c .before .before .before .before .loop .inv in
-    let l = low (c .before .before) _ (c .without .ensures) in (
+    let i = c .before .before .before .before .before .loop .inv in
+    let l = low (c .before .before .before) _ (c .without .ensures) in (
       c .without .ok,
       omega (arith, i .1, ap length (l .first)),
-      rw (add-one, ← i .2, l .first, onto-more, c .before .move-of .ensures),
+      λ b s. rw (
+        add-one,
+        ← i .2 b s,
+        l .first,
+        onto-more,
+        taking-move b _ _ _ _ _ s (l .square) (c .before .before .has .ensures) (c .before .move-of .ensures),
+      ),
     )
 
 returns : tie.Need-returns Inv-loop μ-loop
@@ -80,7 +90,7 @@ unfolding appended
 returns c =
     let i = c .before .loop .inv in
     let none : members (c .before .loop .rest) ≡ [] = rw (c .loop-test .left) members-none in
-    list-eq _ _ _ _ (rw (none, onto-none) at (i .2)) (simp onto-length (omega (arith, i .1, ap length none)))
+    λ b s. list-eq _ _ _ _ (rw (none, onto-none) at (i .2 b s)) (simp onto-length (omega (arith, i .1, ap length none)))
 
 pub add-moves-spec : {M : Type 1} → statement M
 add-moves-spec =
@@ -90,6 +100,7 @@ add-moves-spec =
     μ-loop
     loop-holds
     lowest-requires
+    has-requires
     move-of-requires
     cast-moves
     mul-moves

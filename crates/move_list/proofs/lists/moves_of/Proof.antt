@@ -6,7 +6,7 @@ use native.Mathlib.Omega.{arith}
 use lib.ListN.{length}
 use Rattle.board.specs.Sets.{has, members, setOf}
 use Rattle.board.specs.laws.SetLaws.{members-none}
-use Rattle.rules.specs.Rules.{canMove, movesFrom, allMoves}
+use Rattle.rules.specs.Rules.{movesFrom, allMoves}
 use Rattle.position.specs.Keyed.{boardOf}
 use Rattle.move_list.specs.Lists.{room, listOf}
 use Rattle.move_list.specs.ListLaws.{appended}
@@ -18,14 +18,16 @@ use Rattle.move_list.proofs.lists.moves_of.Statement.{statement}
 use Rattle.move_list.proofs.lists.moves_of.Tie as tie
 
 abbrev Inv-loop : tie.InvT-loop
-Inv-loop p list₀ rest₀ list rest =
+Inv-loop p foes list₀ rest₀ list rest =
     (rest < 2 ^ 64)
-    × (list .count + length (flatMap (movesFrom (canMove (boardOf p))) (members rest)) ≤ room)
-    × (appended list (flatMap (movesFrom (canMove (boardOf p))) (members rest))
-    ≡ listOf (allMoves (canMove (boardOf p))))
+    × (list .count + length (flatMap (movesFrom (boardOf p)) (members rest)) ≤ room)
+    × (appended list (flatMap (movesFrom (boardOf p)) (members rest)) ≡ listOf (allMoves (boardOf p)))
 
 abbrev μ-loop : tie.MeasureT-loop
-μ-loop p list₀ rest₀ list rest = length (members rest)
+μ-loop p foes list₀ rest₀ list rest = length (members rest)
+
+taking-set-requires : tie.Need-taking-set-requires Inv-loop μ-loop
+taking-set-requires c κs = tt
 
 no-moves-requires : tie.Need-no-moves-requires Inv-loop μ-loop
 no-moves-requires c κs = tt
@@ -36,11 +38,10 @@ own-requires c κs = tt
 loop-holds : tie.Need-loop-holds Inv-loop μ-loop
 unfolding listOf boardOf
 loop-holds c =
-    let p = c .before .before .args .p in
+    let p = c .before .before .before .args .p in
     let d = by-movers (boardOf p) (c .own .result) (c .own .ensures) in
-    let few = c .before .before .pre in
-    rw (c .before .no-moves .ensures, ← d)
-    (c .own .ok, omega arith, appended-first (allMoves (canMove (boardOf p))) few)
+    let few = c .before .before .before .pre in
+    rw (c .before .no-moves .ensures, ← d) (c .own .ok, omega arith, appended-first (allMoves (boardOf p)) few)
 
 lowest-requires : tie.Need-lowest-requires Inv-loop μ-loop
 lowest-requires c κs = tt
@@ -57,9 +58,9 @@ low c others e = let i = c .before in
 
 add-moves-requires : tie.Need-add-moves-requires Inv-loop μ-loop
 add-moves-requires c κs =
-    let can = canMove (boardOf (c .before .before .before .before .before .before .args .p)) in
+    let b = boardOf (c .before .before .before .before .before .before .before .args .p) in
     let i = c .before .before .before .loop .inv in
-    omega (arith, i .1, turn-length can _ _ _ _ (low (c .before) _ refl) (c .legal-targets .ensures))
+    omega (arith, i .1, turn-length b _ _ _ _ (low (c .before) _ refl) (c .legal-targets .ensures))
 
 without-requires : tie.Need-without-requires Inv-loop μ-loop
 without-requires c κs = tt
@@ -69,14 +70,15 @@ loop-less c = low (c .before .before .before) _ (c .without .ensures) .fewer
 
 loop-again : tie.Need-loop-again Inv-loop μ-loop
 loop-again c =
-    let can = canMove (boardOf (c .before .before .before .before .before .before .before .before .args .p)) in
+    let b = boardOf (c .before .before .before .before .before .before .before .before .before .args .p) in
     let l = c .before .before .before .before .before .loop in
     let w = low (c .before .before .before) _ (c .without .ensures) in
     let e = c .before .before .legal-targets .ensures in
-    rw (c .before .add-moves .ensures) (
+    let foes = c .before .before .before .before .before .before .before .before .taking-set .ensures in
+    rw (c .before .add-moves .ensures b foes) (
       c .without .ok,
-      omega (arith, l .inv .1, turn-length can _ _ _ _ w e, turn-count can _ _ _ _ w e (l .list)),
-      turn-moves can _ _ _ _ w e (l .list) ∙ l .inv .2,
+      omega (arith, l .inv .1, turn-length b _ _ _ _ w e, turn-count b _ _ _ _ w e (l .list)),
+      turn-moves b _ _ _ _ w e (l .list) ∙ l .inv .2,
     )
 
 returns : tie.Need-returns Inv-loop μ-loop
@@ -92,6 +94,7 @@ moves-of-spec =
     (tie.spec
     Inv-loop
     μ-loop
+    taking-set-requires
     no-moves-requires
     own-requires
     loop-holds

@@ -2,7 +2,7 @@
 use mathlib.Core.Path.{ap, _∙_}
 use Rattle.move_list.specs.Answers.{listed}
 use borrow.Author.Needs.{needs}
-use Rattle.sledgewren.specs.laws.Laws.{not-listed, listed-bytes}
+use Rattle.sledgewren.specs.laws.Laws.{not-listed, listed-few, listed-bytes}
 use Rattle.sledgewren.proofs.lists.sledgewren_moves.Statement.{statement}
 use Rattle.sledgewren.proofs.lists.sledgewren_moves.Tie as tie
 
@@ -16,7 +16,9 @@ legal-moves-requires : tie.Need-legal-moves-requires
 legal-moves-requires c κs = search needs
 
 write-moves-requires : tie.Need-write-moves-requires
-write-moves-requires c κs = search needs
+write-moves-requires c κs =
+    let l = c .before .before in
+    (l .before .before .if1 .left, listed-few _ _ (l .legal-moves .ensures))
 
 cast-result : tie.Need-cast-result
 cast-result c = search needs

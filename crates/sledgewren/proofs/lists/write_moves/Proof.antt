@@ -1,25 +1,35 @@
--- `host::write_moves` meets its contract. The loop's invariant: the pairs left, written behind those written, give what all pairs give.
+-- `host::write_moves` meets its contract. The loop's invariant: the moves left, written behind those written, give what all moves give.
 use mathlib.Core.Path.{_≡_, refl, sym, _∙_}
 use mathlib.Core.List.{flatMap}
 use Prim.Native.Nat.{_*_, _-_, _≤_}
 use native.Mathlib.Omega.{arith}
-use lib.ListN.{length, drop, length-set, length-map}
-use lib.Seq.{sets}
-use Rattle.sledgewren.specs.Words.{pairBytes, moveBytes}
-use Rattle.sledgewren.specs.laws.Laws.{sets-all, pairs-length, pair-turn, pairs-end}
+use lib.ListN.{length, take, drop, length-set, length-map}
+use lib.Seq.{sets, length-take-le}
+use Rattle.sledgewren.specs.Words.{moveBytes, listSize}
+use Rattle.sledgewren.specs.laws.Laws.{move-turn, moves-end, moves-written}
 use Rattle.sledgewren.proofs.lists.write_moves.Statement.{statement}
 use Rattle.sledgewren.proofs.lists.write_moves.Tie as tie
 
 abbrev Inv-loop : tie.InvT-loop
-Inv-loop bytes₀ moves i₀ bytes i =
-    (i ≤ 35) × (length bytes ≡ 70) × (length moves ≡ 35)
-    × (sets bytes (2 * i) (flatMap pairBytes (drop i moves)) ≡ sets bytes₀ 0 (flatMap pairBytes moves))
+Inv-loop bytes₀ moves count i₀ bytes i =
+    (i ≤ count) × (count ≤ 35) × (length bytes ≡ listSize) × (length moves ≡ 35)
+    × (sets bytes (4 * i) (flatMap moveBytes (drop i (take count moves)))
+    ≡ sets bytes₀ 0 (flatMap moveBytes (take count moves)))
 
 abbrev μ-loop : tie.MeasureT-loop
-μ-loop bytes₀ moves i₀ bytes i = 35 - i
+μ-loop bytes₀ moves count i₀ bytes i = count - i
+
+clear-requires : tie.Need-clear-requires Inv-loop μ-loop
+clear-requires c κs = tt
+
+cast-count : tie.Need-cast-count Inv-loop μ-loop
+cast-count c = omega arith
 
 loop-holds : tie.Need-loop-holds Inv-loop μ-loop
-loop-holds c = (omega arith, c .before .pre, simp length-map at (c .before .good .0 .1 .1 .0 .1 .0 .1), refl)
+loop-holds c =
+    let a = c .before .before .before .before in
+    let f = a .before .before .before in
+    (omega arith, f .pre .1, a .clear .kept .0 ∙ f .pre .0, simp length-map at (f .good .0 .1 .1 .0 .1 .0 .1), refl)
 
 mul-m : tie.Need-mul-m Inv-loop μ-loop
 mul-m c = omega arith
@@ -42,6 +52,27 @@ add-bytes c = omega arith
 slice-write-bytes-2 : tie.Need-slice-write-bytes-2 Inv-loop μ-loop
 slice-write-bytes-2 c = simp length-set (omega arith)
 
+flag-requires : tie.Need-flag-requires Inv-loop μ-loop
+flag-requires c κs = tt
+
+mul-bytes-3 : tie.Need-mul-bytes-3 Inv-loop μ-loop
+mul-bytes-3 c = omega arith
+
+add-bytes-2 : tie.Need-add-bytes-2 Inv-loop μ-loop
+add-bytes-2 c = omega arith
+
+slice-write-bytes-3 : tie.Need-slice-write-bytes-3 Inv-loop μ-loop
+slice-write-bytes-3 c = simp length-set (omega arith)
+
+mul-bytes-4 : tie.Need-mul-bytes-4 Inv-loop μ-loop
+mul-bytes-4 c = omega arith
+
+add-bytes-3 : tie.Need-add-bytes-3 Inv-loop μ-loop
+add-bytes-3 c = omega arith
+
+slice-write-bytes-4 : tie.Need-slice-write-bytes-4 Inv-loop μ-loop
+slice-write-bytes-4 c = simp length-set (omega arith)
+
 add-i : tie.Need-add-i Inv-loop μ-loop
 add-i c = omega arith
 
@@ -50,23 +81,29 @@ loop-less c = omega arith
 
 loop-again : tie.Need-loop-again Inv-loop μ-loop
 loop-again c =
-    let l = c .before .before .loop in (
+    let l = c .before .before .before .loop in (
       omega arith,
-      simp length-set (l .inv .1),
-      l .inv .2,
-      sym (pair-turn _ _ (l .i) (omega (arith, l .inv .2))) ∙ l .inv .3,
+      l .inv .1,
+      simp length-set (l .inv .2),
+      l .inv .3,
+      sym (move-turn _ _ _ (l .i) _ (c .before .before .loop-test .taken) (l .inv .1) (l .inv .3)
+          (c .flag .ensures .0)) ∙ l .inv .4,
     )
 
 same-length : tie.Need-same-length Inv-loop μ-loop
-same-length c = c .before .loop .inv .1 ∙ sym (c .before .before .before .pre)
+same-length c =
+    c .before .loop .inv .2 ∙ sym (c .before .before .before .before .before .before .before .before .before .pre .0)
 
 returns : tie.Need-returns Inv-loop μ-loop
-unfolding moveBytes
 returns c =
     let l = c .before .loop in
-    let ms = c .before .before .before .args .list .moves in
-    sym (pairs-end ms (l .bytes) (l .i) (omega (arith, l .inv .0, l .inv .2))) ∙ l .inv .3
-    ∙ sets-all _ _ (omega (arith, pairs-length ms, l .inv .2))
+    let a = c .before .before .before .before .before .before in
+    let f = a .before .before .before in
+    let list = f .args .list in
+    let ms = take (list .count) (list .moves) in
+    let long = length-take-le (list .count) (list .moves) (omega (arith, l .inv .1, l .inv .3)) in
+    sym (moves-end ms (l .bytes) (l .i) (omega (arith, long, l .inv .0))) ∙ l .inv .4
+    ∙ moves-written ms _ _ (f .pre .0) (omega (arith, long, l .inv .1)) (a .clear .ensures)
 
 pub write-moves-spec : {M : Type 1} → statement M
 write-moves-spec =
@@ -74,6 +111,8 @@ write-moves-spec =
     (tie.spec
     Inv-loop
     μ-loop
+    clear-requires
+    cast-count
     loop-holds
     mul-m
     array-copy-out-m
@@ -82,6 +121,13 @@ write-moves-spec =
     mul-bytes-2
     add-bytes
     slice-write-bytes-2
+    flag-requires
+    mul-bytes-3
+    add-bytes-2
+    slice-write-bytes-3
+    mul-bytes-4
+    add-bytes-3
+    slice-write-bytes-4
     add-i
     loop-less
     loop-again

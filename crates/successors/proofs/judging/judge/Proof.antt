@@ -10,11 +10,10 @@ use lib.ListN.{length}
 use borrow.Author.Needs.{needs}
 use Rattle.board.specs.Sets.{has, members, setOf}
 use Rattle.board.specs.laws.LowestLaws.{Lowest, lowest-of}
-use Rattle.rules.specs.Rules.{canMove, movesFrom, moves}
+use Rattle.rules.specs.Rules.{movesFrom, moves}
 use Rattle.position.specs.Keyed.{boardOf, lone}
-use Rattle.successors.specs.declared.Judged.{Judged}
-use Rattle.successors.specs.Successors.{byteBy, moveFound, judgedOf, judgedFrom}
-use Rattle.successors.specs.laws.JudgeLaws.{advice-in, judged-refuted, judged-found, piece-refutes, piece-turn, piece-end, keyed-movers, keyed-targets}
+use Rattle.successors.specs.Successors.{byteBy, moveFound, judgedIn, judgedFrom}
+use Rattle.successors.specs.laws.JudgeLaws.{piece-refutes, piece-turn, piece-end, keyed-movers, keyed-targets}
 use Rattle.successors.specs.laws.VerdictLaws.{made-men}
 use Rattle.successors.proofs.judging.judge.Statement.{statement}
 use Rattle.successors.proofs.judging.judge.Tie as tie
@@ -22,8 +21,9 @@ use Rattle.successors.proofs.judging.judge.Tie as tie
 abbrev Inv-loop : tie.InvT-loop
 Inv-loop list table kind side white square black byte p found₀ rest₀ found rest =
     (rest < 2 ^ 64)
-    × (judgedFrom (byteBy list table) byte (boardOf (lone kind side white square black)) (moveFound found)
-    (flatMap (movesFrom (canMove (boardOf (lone kind side white square black)))) (members rest))
+    × (judgedFrom (byteBy list table) byte (boardOf (lone kind side white square black))
+    (moveFound (boardOf (lone kind side white square black)) found)
+    (flatMap (movesFrom (boardOf (lone kind side white square black))) (members rest))
     ≡ judgedFrom (byteBy list table) byte (boardOf (lone kind side white square black)) none
     (moves (boardOf (lone kind side white square black))))
 
@@ -68,9 +68,9 @@ returns c =
     let d = j .before .before in
     let l = d .before .before .loop in
     let g = d .before .before .before .before .lone in
-    ap judgedOf (piece-refutes _ _ _ _ _ (l .rest) _ _ _ (low d _ refl)
+    piece-refutes _ _ _ _ _ (l .rest) _ _ _ (low d _ refl)
     (keyed-targets _ _ (g .ensures) _ _ (j .before .legal-targets .ensures)) (l .inv .1)
-    (judged-refuted _ (sym (c .enum-told .given .1) ∙ j .judge-targets .ensures _)))
+    (sym (j .judge-targets .ensures _) ∙ ap (judgedIn _) (c .enum-told .given .1))
 
 enum-known-judged : tie.Need-enum-known-judged Inv-loop μ-loop
 enum-known-judged c = search needs
@@ -90,12 +90,11 @@ loop-again c =
       c .without .ok,
       piece-turn _ _ _ _ _ (l .rest) _ _ _ (low d _ (c .without .ensures))
           (keyed-targets _ _ (g .ensures) _ _ (j .before .legal-targets .ensures)) (l .inv .1) _
-          (judged-found _ _ (sym (c .before .before .judged .given .1) ∙ j .judge-targets .ensures _)),
+          (sym (j .judge-targets .ensures _) ∙ ap (judgedIn _) (c .before .before .judged .given .1)),
     )
 
 returns-2 : tie.Need-returns-2 Inv-loop μ-loop
-returns-2 c = let l = c .before .loop in ap Judged.Found (sym (advice-in (l .found)))
-    ∙ ap judgedOf (piece-end _ _ _ _ _ (l .rest) (c .loop-test .left) (l .inv .1))
+returns-2 c = let l = c .before .loop in piece-end _ _ _ _ _ (l .rest) (c .loop-test .left) (l .inv .1)
 
 pub judge-spec : {M : Type 1} → statement M
 judge-spec =

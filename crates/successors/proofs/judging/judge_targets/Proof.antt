@@ -1,6 +1,6 @@
 -- `successors::judge_targets` meets its contract. The loop's invariant: the judgement of what is left, from what is found so far, is the whole
 -- judgement.
-use mathlib.Core.Path.{_≡_, refl, sym, ap, _∙_}
+use mathlib.Core.Path.{_≡_, refl, sym, _∙_}
 use mathlib.Core.Bool.{not, _&&_}
 use Prim.Native.Nat.{ℕ, _^_, _<_}
 use lib.Dec.{eqb}
@@ -9,9 +9,8 @@ use Rattle.board.specs.Sets.{has, members, setOf}
 use Rattle.board.specs.laws.LowestLaws.{Lowest, lowest-of}
 use Rattle.rules.specs.Rules.{movesOnto}
 use Rattle.position.specs.Keyed.{boardOf, lone}
-use Rattle.successors.specs.declared.Judged.{Judged}
-use Rattle.successors.specs.Successors.{byteBy, moveFound, judgedOf, judgedFrom}
-use Rattle.successors.specs.laws.JudgeLaws.{advice-in, move-in, target-refutes, target-turn, target-end}
+use Rattle.successors.specs.Successors.{byteBy, moveFound, judgedFrom}
+use Rattle.successors.specs.laws.JudgeLaws.{target-refutes, target-turn, target-end}
 use Rattle.successors.proofs.judging.judge_targets.Statement.{statement}
 use Rattle.successors.proofs.judging.judge_targets.Tie as tie
 
@@ -19,10 +18,12 @@ abbrev Inv-loop : tie.InvT-loop
 Inv-loop list table side white square black from targets byte f found₀ rest₀ found rest =
     (rest < 2 ^ 64)
     × ((kind : ℕ)
-    → judgedFrom (byteBy list table) byte (boardOf (lone kind side white square black)) (moveFound found)
-    (movesOnto from (members rest))
-    ≡ judgedFrom (byteBy list table) byte (boardOf (lone kind side white square black)) (moveFound found₀)
-    (movesOnto from (members targets)))
+    → judgedFrom (byteBy list table) byte (boardOf (lone kind side white square black))
+    (moveFound (boardOf (lone kind side white square black)) found)
+    (movesOnto (boardOf (lone kind side white square black)) from (members rest))
+    ≡ judgedFrom (byteBy list table) byte (boardOf (lone kind side white square black))
+    (moveFound (boardOf (lone kind side white square black)) found₀)
+    (movesOnto (boardOf (lone kind side white square black)) from (members targets)))
 
 abbrev μ-loop : tie.MeasureT-loop
 μ-loop list table side white square black from targets byte f found₀ rest₀ found rest = length (members rest)
@@ -53,9 +54,8 @@ returns : tie.Need-returns Inv-loop μ-loop
 returns c =
     let d = c .before .before .before in
     let l = d .before .before .loop in
-    λ kind. ap judgedOf
-    (target-refutes _ _ _ _ _ (l .rest) _ _ _ (low d _ refl) (c .before .before .byte-after .ensures kind)
-    (l .inv .1 kind) (sym (c .before .refutes .ensures) ∙ c .if1 .taken))
+    λ kind. target-refutes _ _ _ _ _ _ (l .rest) _ _ _ (low d _ refl) (c .before .before .byte-after .ensures kind)
+    (l .inv .1 kind) (sym (c .before .refutes .ensures) ∙ c .if1 .taken)
 
 first-of-requires : tie.Need-first-of-requires Inv-loop μ-loop
 first-of-requires c κs = tt
@@ -71,15 +71,14 @@ loop-again c =
     let d = c .before .before .before .before .before in
     let l = d .before .before .loop in (
       c .without .ok,
-      λ kind. target-turn _ _ _ _ _ (l .rest) _ _ _ (low d _ (c .without .ensures))
+      λ kind. target-turn _ _ _ _ _ _ (l .rest) _ _ _ (low d _ (c .without .ensures))
           (c .before .before .before .before .byte-after .ensures kind) (l .inv .1 kind) _
           (sym (c .before .before .before .refutes .ensures) ∙ c .before .before .if1 .left)
-          (ap moveFound (c .before .first-of .ensures) ∙ move-in _),
+          (c .before .first-of .ensures _),
     )
 
 returns-2 : tie.Need-returns-2 Inv-loop μ-loop
-returns-2 c = let l = c .before .loop in λ kind. ap Judged.Found (sym (advice-in (l .found)))
-    ∙ ap judgedOf (target-end _ _ _ _ _ (l .rest) (c .loop-test .left) (l .inv .1 kind))
+returns-2 c = let l = c .before .loop in λ kind. target-end _ _ _ _ _ _ (l .rest) (c .loop-test .left) (l .inv .1 kind)
 
 pub judge-targets-spec : {M : Type 1} → statement M
 judge-targets-spec =

@@ -2,9 +2,9 @@
 use mathlib.Core.Path.{sym, ap, _∙_}
 use mathlib.Core.Option.{some}
 use borrow.Author.Needs.{needs}
-use Rattle.answers.specs.declared.BestMove.{BestMove}
-use Rattle.successors.specs.Successors.{moveFound}
-use Rattle.successors.specs.laws.JudgeLaws.{judged-refuted, judged-found}
+use Rattle.position.specs.Keyed.{boardOf, lone}
+use Rattle.successors.specs.declared.Seen.{Seen}
+use Rattle.successors.specs.Successors.{moveFound, judgedIn}
 use Rattle.successors.specs.laws.VerdictLaws.{made-men, made-mate, depth-mate, depth-met, depth-refuted, depth-unmet}
 use Rattle.successors.proofs.verdicts.requires_depth.Statement.{statement}
 use Rattle.successors.proofs.verdicts.requires_depth.Tie as tie
@@ -40,21 +40,25 @@ enum-told-3 c = search needs
 returns-2 : tie.Need-returns-2
 returns-2 c =
     let j = c .before .before in
-    depth-refuted _ _ _ (j .before .if1 .left) (judged-refuted _ (sym (c .enum-told .given .1) ∙ j .judge .ensures))
+    depth-refuted _ _ _ (j .before .if1 .left) (sym (j .judge .ensures) ∙ ap (judgedIn _) (c .enum-told .given .1))
 
 returns-3 : tie.Need-returns-3
 returns-3 c =
     let j = c .before .before .before .before .before in
+    let a = j .before .before .before .args in
+    let b = boardOf (lone (a .kind) (a .side) (a .white) (a .square) (a .black)) in
     depth-met _ _ _ (j .before .if1 .left) _
-    (judged-found _ _ (sym (c .before .before .before .judged .given .1) ∙ j .judge .ensures)
-    ∙ ap (λ (a : BestMove). some (moveFound a)) (c .enum-told2 .given .1))
+    (sym (j .judge .ensures) ∙ ap (judgedIn b) (c .before .before .before .judged .given .1)
+    ∙ ap (λ (s : Seen). some (moveFound b s)) (c .enum-told2 .given .1))
 
 returns-4 : tie.Need-returns-4
 returns-4 c =
     let j = c .before .before .before .before .before in
+    let a = j .before .before .before .args in
+    let b = boardOf (lone (a .kind) (a .side) (a .white) (a .square) (a .black)) in
     depth-unmet _ _ _ (j .before .if1 .left)
-    (judged-found _ _ (sym (c .before .before .before .judged .given .1) ∙ j .judge .ensures)
-    ∙ ap (λ (a : BestMove). some (moveFound a)) (c .enum-told3 .given .1))
+    (sym (j .judge .ensures) ∙ ap (judgedIn b) (c .before .before .before .judged .given .1)
+    ∙ ap (λ (s : Seen). some (moveFound b s)) (c .enum-told3 .given .1))
 
 pub requires-depth-spec : {M : Type 1} → statement M
 requires-depth-spec =

@@ -1,0 +1,54 @@
+-- A slip tells the true answer: no two legal positions with different true answers have the same slip.
+use mathlib.Core.Path.{_≡_, refl, sym, subst}
+use mathlib.Core.Logic.{_⊎_, inl, inr}
+use mathlib.Core.List.{List, List·Memᴰ·head, Memᴰ·append-right}
+use Prim.Native.Nat.{ℕ, _≤_, _<_}
+use native.Mathlib.Omega.{arith}
+use Rattle.finite.specs.Truth.{le-or-lt}
+use Rattle.finite.specs.Members.{_∈_}
+use Rattle.theory.specs.Value.{DepthIs}
+use Rattle.rules.specs.declared.Move.{Move}
+use Rattle.rules.specs.Rules.{Board, moves}
+use Rattle.rules.specs.Chess.{chess, of-moves}
+use Rattle.answers.specs.declared.BestMove.{BestMove}
+use Rattle.answers.specs.declared.Answer.{Answer}
+use Rattle.position.specs.declared.Position.{Position}
+use Rattle.position.specs.Keyed.{boardOf, manKind, manSquare}
+use Rattle.position.specs.Refusals.{standingRefusal}
+use Rattle.position.specs.laws.Legality.{standing-facts, alone-men}
+use Rattle.endings.specs.FilledTrue.{Shallow}
+use Rattle.endings.specs.Truth.{First, TrueAnswer}
+use Rattle.slips.specs.Slip.{slipOf}
+use Rattle.slips.specs.Fits.{AdviceFits, AnswerFits}
+use Rattle.slips.specs.laws.Apart.{slips-apart}
+
+-- the squares of a listed move are on the board
+move-fits : (Sought : Move → Type 0) (b : Board) (m : Move) → First Sought (moves b) m → AdviceFits (BestMove.Play m)
+move-fits Sought b m f =
+    let i : m ∈ moves b =
+    subst (λ (l : List Move). m ∈ l) (sym (f .split)) (Memᴰ·append-right (f .before) (List·Memᴰ·head refl)) in
+    let on = of-moves b m i .1 in
+    (on .from-on, on .to-on)
+
+module _ (p : Position) (z : standingRefusal p ≡ 0) (s : Shallow (manKind p)) where
+  -- no depth is greater than 253
+  depth-fits : (n : ℕ) → DepthIs chess n (boardOf p) → n < 256
+  depth-fits n d = go (le-or-lt n 253)
+    where
+      go : (n ≤ 253) ⊎ (253 < n) → n < 256
+      go (inl h) = omega arith
+      go (inr h) = let f = standing-facts p z in absurd (s n h (boardOf p, f .1, (manSquare p, alone-men p (f .0)), d))
+
+  true-fits : (a : Answer) → TrueAnswer (boardOf p) a → AnswerFits a
+  true-fits a (TrueAnswer.won n m w f e) =
+      subst AnswerFits (sym e) (depth-fits n (DepthIs.win w), move-fits _ (boardOf p) m f)
+  true-fits a (TrueAnswer.lost n m w f e) =
+      subst AnswerFits (sym e) (depth-fits n (DepthIs.loss w), move-fits _ (boardOf p) m f)
+  true-fits a (TrueAnswer.mate w o e) = subst AnswerFits (sym e) (omega arith, tt)
+  true-fits a (TrueAnswer.drawn m w f e) = subst AnswerFits (sym e) (move-fits _ (boardOf p) m f)
+  true-fits a (TrueAnswer.stalemate w o e) = subst AnswerFits (sym e) tt
+
+pub one-answer-a-slip : (p q : Position) (a c : Answer) → standingRefusal p ≡ 0 → Shallow (manKind p)
+    → TrueAnswer (boardOf p) a
+    → standingRefusal q ≡ 0 → Shallow (manKind q) → TrueAnswer (boardOf q) c → slipOf a ≡ slipOf c → a ≡ c
+one-answer-a-slip p q a c z s t y r u e = slips-apart a c (true-fits p z s a t) (true-fits q y r c u) e
