@@ -3,8 +3,8 @@
  *
  *   beside fill|look-up|count MAN TURNS
  *
- * Look-up and count take every seventh placement of the kings and the man, legal or not, either
- * side to move. Prints each build's least processor time in milliseconds; exit status 1 says that
+ * Look-up and count take every seventh placement of the kings and White's man, legal or not,
+ * either side to move. Prints each build's least processor time in milliseconds; exit status 1 says that
  * they answer differently.
  */
 #define _POSIX_C_SOURCE 199309L
@@ -14,21 +14,23 @@
 #include <string.h>
 #include <time.h>
 
+#include "sledgewren.h"
+
 enum { BYTES = 59136, PLACEMENTS = 64 * 64 * 64, EVERY = 7 };
 
 #define DECLARE(build)                                                                          \
     uint32_t build##_fill(uint8_t, uint8_t *, size_t);                                          \
-    uint64_t build##_look_up(const uint8_t *, size_t, uint8_t, uint8_t, uint8_t, uint8_t,       \
-                             uint8_t);                                                          \
-    uint32_t build##_count(uint8_t, uint8_t, uint8_t, uint8_t, uint8_t);
+    uint64_t build##_look_up(const uint8_t *, size_t, uint8_t, uint8_t, uint8_t, uint32_t,      \
+                             uint32_t);                                                         \
+    uint32_t build##_count(uint8_t, uint8_t, uint8_t, uint32_t, uint32_t);
 
 DECLARE(before)
 DECLARE(after)
 
 struct build {
     uint32_t (*fill)(uint8_t, uint8_t *, size_t);
-    uint64_t (*look_up)(const uint8_t *, size_t, uint8_t, uint8_t, uint8_t, uint8_t, uint8_t);
-    uint32_t (*count)(uint8_t, uint8_t, uint8_t, uint8_t, uint8_t);
+    uint64_t (*look_up)(const uint8_t *, size_t, uint8_t, uint8_t, uint8_t, uint32_t, uint32_t);
+    uint32_t (*count)(uint8_t, uint8_t, uint8_t, uint32_t, uint32_t);
 };
 
 static const struct build builds[2] = {
@@ -51,11 +53,12 @@ static uint64_t work(const struct build *build, char what, uint8_t man)
     }
     for (unsigned p = 0; p < 2 * PLACEMENTS; p += EVERY) {
         uint8_t side = p / PLACEMENTS, white = p / 4096 % 64, square = p / 64 % 64, black = p % 64;
+        uint32_t first = SLEDGEWREN_A_MAN(man, SLEDGEWREN_WHITE, square);
         sum *= 31;
         if (what == 'l')
-            sum += build->look_up(table, BYTES, man, side, white, square, black);
+            sum += build->look_up(table, BYTES, side, white, black, first, SLEDGEWREN_ABSENT);
         else
-            sum += build->count(man, side, white, square, black);
+            sum += build->count(side, white, black, first, SLEDGEWREN_ABSENT);
     }
     return sum;
 }

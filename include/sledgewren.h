@@ -1,17 +1,25 @@
 /*
- * Sledgewren: two kings and one white man. Positions are numbered, their tables filled and
+ * Sledgewren: two kings and one man of either side. Positions are numbered, their tables filled and
  * checked, positions looked up, searched without a table, and a desk's lines answered; tables are
  * packed to pockets.
  *
  * Link with target/staticlib/libsledgewren.a (x86-64). C99; C++ may include it.
  *
  * Codes
- *   man      queen 0, rook 1, bishop 2, knight 3; the man is White's
+ *   man      queen 0, rook 1, bishop 2, knight 3
+ *   colour   White's 0, Black's 1
  *   side     to move: White 0, Black 1
  *   square   8 x rank + file: a1 is 0, h1 is 7, h8 is 63
- *   white    the white king's square; square: the man's; black: the black king's
- *   number   of a position, 0 to 59,135; positions that the board's eight maps turn into each
- *            other have one number
+ *   white    the white king's square; black: the black king's
+ *   number   of a position, 0 to 59,135; positions that the board's eight maps, with or without
+ *            an exchange of the colours, turn into each other have one number
+ *
+ * A position is given by the side to move, the kings' squares and two words, each a man besides
+ * the kings or none: bits 0-7 kind (a man's code), 8-15 colour, 16-23 square; the man is absent
+ * where bits 24-31 are 0. SLEDGEWREN_A_MAN makes such a word, SLEDGEWREN_ABSENT is none. One man
+ * in the first word has a table, of either colour: with Black's man the colours, the kings and
+ * the side to move are exchanged and the position is looked up in the table of White's man; every
+ * square stays, so that a move is one of the board as given. Two men have no table yet.
  *
  * A table has 59,136 bytes, one a number. Byte 0: the number is unused or its position illegal;
  * 1: a draw; 2 + n: depth n in plies, a win for the side to move where n is odd and a loss where
@@ -83,6 +91,12 @@ extern "C" {
 #define SLEDGEWREN_SETTLED(answer) ((uint32_t)(answer) >> 8)
 #define SLEDGEWREN_PROGRESS(answer) ((uint32_t)((uint64_t)(answer) >> 32))
 
+/* A man besides the kings as one word, and no man. */
+#define SLEDGEWREN_A_MAN(man, colour, square) \
+    (0x1000000u | (uint32_t)(uint8_t)(man) | (uint32_t)(uint8_t)(colour) << 8 | \
+     (uint32_t)(uint8_t)(square) << 16)
+#define SLEDGEWREN_ABSENT 0u
+
 enum sledgewren_man {
     SLEDGEWREN_QUEEN = 0,
     SLEDGEWREN_ROOK = 1,
@@ -124,8 +138,9 @@ enum sledgewren_stage {
 /* Where several apply the lowest counts, except that a line's shape comes first, then its check. */
 enum sledgewren_refusal {
     SLEDGEWREN_NOT_REFUSED = 0,
-    SLEDGEWREN_BAD_MAN = 1,          /* material code above 3 */
-    SLEDGEWREN_BAD_SIDE = 2,         /* side not 0 or 1 */
+    SLEDGEWREN_BAD_MAN = 1,          /* material code above 3; no man, an absent one before a
+                                        present one, or two */
+    SLEDGEWREN_BAD_SIDE = 2,         /* side, or a man's colour, not 0 or 1 */
     SLEDGEWREN_BAD_SQUARE = 3,       /* a square above 63 */
     SLEDGEWREN_SHARED_SQUARE = 4,    /* two men on one square */
     SLEDGEWREN_KINGS_TOUCH = 5,      /* kings touch */
@@ -147,11 +162,11 @@ enum sledgewren_refusal {
  * The number of a position, or SLEDGEWREN_NUMBER_REFUSED + refusal (1 to 5). It need not be
  * legal: the side not to move may be in check.
  */
-uint32_t sledgewren_number(uint8_t man, uint8_t side, uint8_t white, uint8_t square,
-                           uint8_t black);
+uint32_t sledgewren_number(uint8_t side, uint8_t white, uint8_t black, uint32_t first,
+                           uint32_t second);
 
 /*
- * The position that a number stands for. Refusals 1, 8, 9.
+ * The position that a number stands for, with White's man. Refusals 1, 8, 9.
  *   bits 0-7 refusal, 8-15 side, 16-23 white king, 24-31 man's square, 32-39 black king
  */
 uint64_t sledgewren_position(uint8_t man, uint32_t number);
@@ -168,8 +183,8 @@ uint64_t sledgewren_write_number(uint32_t number);
  * How many legal moves a position has. Refusals 1 to 6.
  *   bits 0-7 refusal, 8-15 count
  */
-uint32_t sledgewren_count(uint8_t man, uint8_t side, uint8_t white, uint8_t square,
-                          uint8_t black);
+uint32_t sledgewren_count(uint8_t side, uint8_t white, uint8_t black, uint32_t first,
+                          uint32_t second);
 
 /*
  * The legal moves, in order of their from-square, then their to-square. The answer is
@@ -179,8 +194,8 @@ uint32_t sledgewren_count(uint8_t man, uint8_t side, uint8_t white, uint8_t squa
  * SLEDGEWREN_MOVES_LENGTH. (62 places are room for endings with two men, and the fourth byte is
  * kept for the piece that a pawn becomes, so that neither need change with them.)
  */
-uint32_t sledgewren_moves(uint8_t man, uint8_t side, uint8_t white, uint8_t square,
-                          uint8_t black, uint8_t *moves, size_t len);
+uint32_t sledgewren_moves(uint8_t side, uint8_t white, uint8_t black, uint32_t first,
+                          uint32_t second, uint8_t *moves, size_t len);
 
 /*
  * Writes the true table of an ending, whatever the bytes held before. Refusals 1 and 7 leave them
@@ -235,8 +250,8 @@ uint64_t sledgewren_check(uint8_t man, const uint8_t *table, size_t len);
  *   bit 48 it takes a man
  * Bits 32-63 are the move's four bytes in sledgewren_moves' list, the lowest first.
  */
-uint64_t sledgewren_look_up(const uint8_t *table, size_t len, uint8_t man, uint8_t side,
-                            uint8_t white, uint8_t square, uint8_t black);
+uint64_t sledgewren_look_up(const uint8_t *table, size_t len, uint8_t side, uint8_t white,
+                            uint8_t black, uint32_t first, uint32_t second);
 
 /*
  * A second opinion without a table: a search straight from the rules, which takes up to a few
@@ -246,8 +261,8 @@ uint64_t sledgewren_look_up(const uint8_t *table, size_t len, uint8_t man, uint8
  * SLEDGEWREN_MOST_PLIES.
  *   bits 0-7 refusal, 8-15 value, 16-23 depth
  */
-uint32_t sledgewren_second_opinion(uint8_t man, uint8_t side, uint8_t white, uint8_t square,
-                                   uint8_t black, uint8_t plies);
+uint32_t sledgewren_second_opinion(uint8_t side, uint8_t white, uint8_t black, uint32_t first,
+                                   uint32_t second, uint8_t plies);
 
 /*
  * Answers one line of the desk, given without its newline, with a slip. The lent table holds the
@@ -274,8 +289,9 @@ uint32_t sledgewren_pack(const uint8_t *table, size_t table_len, uint8_t *pocket
  * Refusals 1 to 7, and 11 where a legal position's entry is 0.
  *   bits 0-7 refusal, 8-15 value
  */
-uint32_t sledgewren_pocket_look_up(const uint8_t *pocket, size_t len, uint8_t man, uint8_t side,
-                                   uint8_t white, uint8_t square, uint8_t black);
+uint32_t sledgewren_pocket_look_up(const uint8_t *pocket, size_t len, uint8_t side,
+                                   uint8_t white, uint8_t black, uint32_t first,
+                                   uint32_t second);
 
 /*
  * How many numbers have each of a pocket's four entries; together they make 59,136. Refusal 7 is

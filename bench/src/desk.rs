@@ -6,7 +6,7 @@ use std::process::{Command, Output, Stdio};
 
 use sledgewren::{Man, Side, Square};
 
-use crate::positions::{of_ending, shuffled};
+use crate::positions::{man_of, of_ending, shuffled};
 use crate::timing::{medians, timed_program, Of, Row};
 
 pub const LINES: usize = 100_000;
@@ -21,7 +21,7 @@ fn lines(man: Man) -> String {
     let mut text = String::new();
     for keyed in shuffled(of_ending(man)).into_iter().take(LINES) {
         let side = Side::from_code(keyed.side).map_or(' ', Side::letter);
-        let squares = [keyed.white_king, keyed.man_square, keyed.black_king].map(name);
+        let squares = [keyed.white_king, man_of(keyed).1, keyed.black_king].map(name);
         text += &format!("{} {side} {}\n", man.letter(), squares.join(" "));
     }
     text

@@ -5,7 +5,7 @@ use std::hint::black_box;
 use second::position::Keyed as SecondKeyed;
 use sledgewren::{entry, Keyed, Man, Table};
 
-use crate::positions::{of_ending, second, shuffled};
+use crate::positions::{man_of, of_ending, second, shuffled};
 use crate::timing::{medians, timed, Of, Row};
 
 /// Positions to look up, with the table of each man.
@@ -31,7 +31,7 @@ impl Ground {
 
     fn library(&self) {
         for &keyed in &self.positions {
-            let table = self.tables[keyed.man as usize].bytes();
+            let table = self.tables[man_of(keyed).0].bytes();
             let _ = black_box(entry::look_up(table, keyed));
         }
     }
@@ -51,8 +51,8 @@ impl Ground {
     pub fn beside_oracle(&self, repeats: usize) -> Row {
         let seconds = self.seconds();
         self.row("oracle's look-up", None, repeats, || {
-            for keyed in &seconds {
-                let table = self.tables[keyed.man as usize].bytes();
+            for (keyed, asked) in seconds.iter().zip(&self.positions) {
+                let table = self.tables[man_of(*asked).0].bytes();
                 let _ = black_box(second::table::look_up(table, keyed));
             }
         })
@@ -62,12 +62,12 @@ impl Ground {
 #[cfg(feature = "gaviota")]
 mod probing {
     use super::*;
+    use crate::positions::probed;
     use gaviota::Gaviota;
     use second::rules::{legal_position, moves, play};
 
     fn probe(gaviota: &Gaviota, keyed: &SecondKeyed) {
-        let &SecondKeyed { man, side, white_king, man_square, black_king } = keyed;
-        black_box(gaviota.probe(man, side, white_king, man_square, black_king));
+        black_box(probed(gaviota, keyed));
     }
 
     /// A program that wants a move from Gaviota probes each successor too.

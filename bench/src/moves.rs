@@ -16,12 +16,13 @@ fn oracle_moves(keyed: &SecondKeyed) -> usize {
 
 /// The C function as it is: the safe one also makes squares of the bytes.
 fn library_moves(keyed: Keyed) -> usize {
-    let Keyed { man, side, white_king, man_square, black_king } = keyed;
+    let Keyed { side, white_king, black_king, .. } = keyed;
+    let [first, second] = keyed.words();
     let mut list = [0; MOVES_BYTES];
     let (start, len) = (list.as_mut_ptr(), list.len());
     // SAFETY: `start` leads to `len` bytes that nothing else refers to.
     let answer =
-        unsafe { ffi::sledgewren_moves(man, side, white_king, man_square, black_king, start, len) };
+        unsafe { ffi::sledgewren_moves(side, white_king, black_king, first, second, start, len) };
     black_box(list);
     (answer >> 8) as usize
 }

@@ -7,7 +7,9 @@ use second::pocket as second_pocket;
 use second::position::Keyed as SecondKeyed;
 use sledgewren::{entry, Keyed, Man, Pocket, Table, POCKET_BYTES};
 
-use crate::positions::{of_ending, second, shuffled};
+#[cfg(feature = "gaviota")]
+use crate::positions::probed;
+use crate::positions::{man_of, of_ending, second, shuffled};
 use crate::tables::DIRT;
 use crate::timing::{medians, timed, Of, Row};
 
@@ -77,7 +79,7 @@ impl Ground {
     fn row(&self, beside: &'static str, goal: Option<f64>, repeats: usize, work: impl Fn()) -> Row {
         let library = || {
             for &keyed in &self.positions {
-                let pocket = &self.pockets[keyed.man as usize].bytes()[..];
+                let pocket = &self.pockets[man_of(keyed).0].bytes()[..];
                 let _ = black_box(entry::pocket_look_up(pocket, keyed));
             }
         };
@@ -94,8 +96,8 @@ impl Ground {
     pub fn beside_oracle(&self, repeats: usize) -> Row {
         let seconds = self.seconds();
         self.row("oracle's pocket look-up", None, repeats, || {
-            for keyed in &seconds {
-                let pocket = &self.pockets[keyed.man as usize].bytes()[..];
+            for (keyed, asked) in seconds.iter().zip(&self.positions) {
+                let pocket = &self.pockets[man_of(*asked).0].bytes()[..];
                 let _ = black_box(second_pocket::look_up(pocket, keyed));
             }
         })
@@ -105,7 +107,7 @@ impl Ground {
     pub fn beside_large(&self, repeats: usize) -> Row {
         self.row("the library's look-up in a table", Some(0.333), repeats, || {
             for &keyed in &self.positions {
-                let table = &self.tables[keyed.man as usize].bytes()[..];
+                let table = &self.tables[man_of(keyed).0].bytes()[..];
                 let _ = black_box(entry::look_up(table, keyed));
             }
         })
@@ -116,9 +118,7 @@ impl Ground {
     pub fn beside_probe(&self, gaviota: &gaviota::Gaviota, repeats: usize) -> Row {
         let seconds = self.seconds();
         self.row("Gaviota's probe, no move", Some(1.0), repeats, || {
-            for &SecondKeyed { man, side, white_king, man_square, black_king } in &seconds {
-                black_box(gaviota.probe(man, side, white_king, man_square, black_king));
-            }
+            seconds.iter().for_each(|keyed| _ = black_box(probed(gaviota, keyed)))
         })
     }
 }

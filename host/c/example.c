@@ -1,5 +1,5 @@
 /*
- * Fills the queen's table, has it checked, looks three positions up, writes a number with its
+ * Fills the queen's table, has it checked, looks four positions up, one with Black's queen, writes a number with its
  * check digits, and packs the table to a pocket. From the repository's root:
  *
  *   cc -std=c99 -Iinclude host/c/example.c target/staticlib/libsledgewren.a -o target/c-example
@@ -19,13 +19,16 @@ static void print_square(unsigned square)
     printf("%c%c", (int)('a' + square % 8), (int)('1' + square / 8));
 }
 
-/* White king on b3, black king on a1. */
-static void look_up(uint8_t side, uint8_t queen)
+/* The queen's king on b3, the other king on a1. */
+static void look_up(uint8_t owner, uint8_t side, uint8_t queen)
 {
-    uint64_t answer =
-        sledgewren_look_up(table, sizeof table, SLEDGEWREN_QUEEN, side, 17, queen, 0);
+    uint8_t white = owner == SLEDGEWREN_WHITE ? 17 : 0;
+    uint64_t answer = sledgewren_look_up(table, sizeof table, side, white, 17 - white,
+                                         SLEDGEWREN_A_MAN(SLEDGEWREN_QUEEN, owner, queen),
+                                         SLEDGEWREN_ABSENT);
 
-    printf("%s to move, Kb3 Q", side == SLEDGEWREN_WHITE ? "White" : "Black");
+    printf("%s to move, %s Kb3 Q", side == SLEDGEWREN_WHITE ? "White" : "Black",
+           owner == SLEDGEWREN_WHITE ? "White's" : "Black's");
     print_square(queen);
     printf(" against Ka1: ");
     if (SLEDGEWREN_BITS(answer, 0) != SLEDGEWREN_NOT_REFUSED) {
@@ -63,8 +66,9 @@ static void write_number(uint32_t number)
 static void pocket_edition(void)
 {
     uint64_t tallies = sledgewren_tallies(pocket, sizeof pocket);
-    uint32_t answer = sledgewren_pocket_look_up(pocket, sizeof pocket, SLEDGEWREN_QUEEN,
-                                                SLEDGEWREN_WHITE, 17, 15, 0);
+    uint32_t queen = SLEDGEWREN_A_MAN(SLEDGEWREN_QUEEN, SLEDGEWREN_WHITE, 15);
+    uint32_t answer = sledgewren_pocket_look_up(pocket, sizeof pocket, SLEDGEWREN_WHITE, 17, 0,
+                                                queen, SLEDGEWREN_ABSENT);
 
     printf("pocket: %d wins, %d draws, %d losses, %d unused or illegal\n",
            SLEDGEWREN_TALLY(tallies, SLEDGEWREN_ENTRY_WIN),
@@ -87,9 +91,10 @@ int main(void)
         return 1;
     }
     printf("queen: greatest depth %d, accepted\n", SLEDGEWREN_BITS(filled, 16));
-    look_up(SLEDGEWREN_WHITE, 15);
-    look_up(SLEDGEWREN_BLACK, 9);
-    look_up(SLEDGEWREN_WHITE, 9);
+    look_up(SLEDGEWREN_WHITE, SLEDGEWREN_WHITE, 15);
+    look_up(SLEDGEWREN_WHITE, SLEDGEWREN_BLACK, 9);
+    look_up(SLEDGEWREN_WHITE, SLEDGEWREN_WHITE, 9);
+    look_up(SLEDGEWREN_BLACK, SLEDGEWREN_BLACK, 15);
     write_number(2049);
     write_number(2056);
     if (sledgewren_pack(table, sizeof table, pocket, sizeof pocket) != SLEDGEWREN_NOT_REFUSED) {

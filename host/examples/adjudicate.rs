@@ -17,10 +17,15 @@ fn read(words: &[String]) -> Result<Position, Box<dyn Error>> {
     let [man, side, white_king, man_square, black_king] = words else {
         return Err("give a position, as: R w e3 h1 e5".into());
     };
-    let men = Man::ALL.into_iter().find(|found| found.letter().to_string() == *man);
+    let all = Side::ALL.into_iter().flat_map(|owner| Man::ALL.map(|man| (man, owner)));
+    let (man, owner) = all
+        .into_iter()
+        .find(|(found, owner)| found.letter_of(*owner).to_string() == *man)
+        .ok_or("the man is Q, R, B or N, Black's q, r, b or n")?;
     let sides = Side::ALL.into_iter().find(|found| found.letter().to_string() == *side);
     Ok(Position {
-        man: men.ok_or("the man is Q, R, B or N")?,
+        man,
+        owner,
         side: sides.ok_or("the side to move is w or b")?,
         white_king: white_king.parse()?,
         man_square: man_square.parse()?,
@@ -31,11 +36,15 @@ fn read(words: &[String]) -> Result<Position, Box<dyn Error>> {
 /// The position after a move, or none if the man is taken.
 fn played(position: Position, chosen: Move) -> Option<Position> {
     let mut next = Position { side: position.side.other(), ..position };
-    match position.side {
-        Side::White if chosen.from == position.white_king => next.white_king = chosen.to,
-        Side::White => next.man_square = chosen.to,
-        Side::Black if chosen.to == position.man_square => return None,
-        Side::Black => next.black_king = chosen.to,
+    if chosen.from == position.man_square {
+        next.man_square = chosen.to;
+    } else if chosen.takes {
+        return None;
+    } else {
+        match position.side {
+            Side::White => next.white_king = chosen.to,
+            Side::Black => next.black_king = chosen.to,
+        }
     }
     Some(next)
 }
@@ -52,8 +61,8 @@ fn searched(position: Position) -> Result<String, Box<dyn Error>> {
 fn line(table: &Accepted, mut position: Position, plies: usize) -> Result<String, Box<dyn Error>> {
     let mut text = String::new();
     for _ in 0..plies {
-        let Position { side, white_king, man_square, black_king, .. } = position;
-        let answer = table.look_up(side, white_king, man_square, black_king)?;
+        let Position { owner, side, white_king, man_square, black_king, .. } = position;
+        let answer = table.look_up(owner, side, white_king, man_square, black_king)?;
         let Some(best) = answer.best() else { return Ok(text + &format!("{answer}")) };
         text += &format!("{best} ");
         match played(position, best) {

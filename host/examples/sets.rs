@@ -14,10 +14,15 @@ fn read(words: &[String]) -> Result<Position, Box<dyn Error>> {
     let [man, side, white_king, man_square, black_king] = words else {
         return Err("give a file and a position, as: all.set Q w b3 h2 a1".into());
     };
-    let men = Man::ALL.into_iter().find(|found| found.letter().to_string() == *man);
+    let all = Side::ALL.into_iter().flat_map(|owner| Man::ALL.map(|man| (man, owner)));
+    let (man, owner) = all
+        .into_iter()
+        .find(|(found, owner)| found.letter_of(*owner).to_string() == *man)
+        .ok_or("the man is Q, R, B or N, Black's q, r, b or n")?;
     let sides = Side::ALL.into_iter().find(|found| found.letter().to_string() == *side);
     Ok(Position {
-        man: men.ok_or("the man is Q, R, B or N")?,
+        man,
+        owner,
         side: sides.ok_or("the side to move is w or b")?,
         white_king: white_king.parse()?,
         man_square: man_square.parse()?,

@@ -1,6 +1,6 @@
 //! The library's entry points, one function each, on any bytes and any lengths.
 //!
-//! A position is given as [`Keyed`], five bytes of any values, or as a
+//! A position is given as [`Keyed`], bytes of any values, or as a
 //! [`Position`]; a man as his code, any byte, or as a [`Man`]. The methods of the crate's types
 //! rest on these functions.
 
@@ -37,9 +37,10 @@ fn square(entry: &str, answer: u64, first: u32) -> Square {
 /// The number of a position, 0 to 59,135. Refusals 1 to 5.
 pub fn number(keyed: impl Into<Keyed>) -> Result<u32, Refusal> {
     const REFUSED: u32 = 0x8000_0000;
-    let Keyed { man, side, white_king, man_square, black_king } = keyed.into();
+    let keyed = keyed.into();
+    let (Keyed { side, white_king, black_king, .. }, [first, second]) = (keyed, keyed.words());
     // SAFETY: no pointers.
-    let answer = unsafe { ffi::sledgewren_number(man, side, white_king, man_square, black_king) };
+    let answer = unsafe { ffi::sledgewren_number(side, white_king, black_king, first, second) };
     if answer < REFUSED {
         return Ok(answer);
     }
@@ -47,7 +48,7 @@ pub fn number(keyed: impl Into<Keyed>) -> Result<u32, Refusal> {
     Err(refusal.unwrap_or_else(|| broken("number", answer as u64)))
 }
 
-/// The position that a number stands for. Refusals 1, 8, 9.
+/// The position that a number stands for, with White's man. Refusals 1, 8, 9.
 pub fn position(man: impl Into<u8>, number: u32) -> Result<Position, Refusal> {
     let code = man.into();
     // SAFETY: no pointers.
@@ -58,6 +59,7 @@ pub fn position(man: impl Into<u8>, number: u32) -> Result<Position, Refusal> {
     match Man::from_code(code).zip(side) {
         Some((man, side)) => Ok(Position {
             man,
+            owner: Side::White,
             side,
             white_king: square(16),
             man_square: square(24),
@@ -78,20 +80,22 @@ pub fn write_number(number: u32) -> Result<Typed, Refusal> {
 
 /// How many legal moves a position has, at most 35. Refusals 1 to 6.
 pub fn count(keyed: impl Into<Keyed>) -> Result<u8, Refusal> {
-    let Keyed { man, side, white_king, man_square, black_king } = keyed.into();
+    let keyed = keyed.into();
+    let (Keyed { side, white_king, black_king, .. }, [first, second]) = (keyed, keyed.words());
     // SAFETY: no pointers.
-    let answer = unsafe { ffi::sledgewren_count(man, side, white_king, man_square, black_king) };
+    let answer = unsafe { ffi::sledgewren_count(side, white_king, black_king, first, second) };
     Ok(bits(unless_refused("count", answer as u64)?, 8))
 }
 
 /// The legal moves by from-square, then to-square. Refusals 1 to 6.
 pub fn moves(keyed: impl Into<Keyed>) -> Result<Moves, Refusal> {
-    let Keyed { man, side, white_king, man_square, black_king } = keyed.into();
+    let keyed = keyed.into();
+    let (Keyed { side, white_king, black_king, .. }, [first, second]) = (keyed, keyed.words());
     let mut list = [0; MOVES_BYTES];
     let (start, len) = (list.as_mut_ptr(), list.len());
     // SAFETY: `start` leads to `len` bytes that nothing else refers to.
     let answer =
-        unsafe { ffi::sledgewren_moves(man, side, white_king, man_square, black_king, start, len) }
+        unsafe { ffi::sledgewren_moves(side, white_king, black_king, first, second, start, len) }
             as u64;
     unless_refused("moves", answer)?;
     let moves = Moves::from_bytes(&list, bits(answer, 8) as usize);
@@ -150,12 +154,12 @@ pub fn check(man: impl Into<u8>, table: &[u8]) -> Result<Checked, Refusal> {
 
 /// A position's value, depth and move from a table. Refusals 1 to 7 and 11.
 pub fn look_up(table: &[u8], keyed: impl Into<Keyed>) -> Result<Answer, Refusal> {
-    let Keyed { man, side, white_king, man_square, black_king } = keyed.into();
+    let keyed = keyed.into();
+    let (Keyed { side, white_king, black_king, .. }, [first, second]) = (keyed, keyed.words());
     let (start, len) = (table.as_ptr(), table.len());
     // SAFETY: the slice's pointer leads to as many bytes as its length says.
-    let answer = unsafe {
-        ffi::sledgewren_look_up(start, len, man, side, white_king, man_square, black_king)
-    };
+    let answer =
+        unsafe { ffi::sledgewren_look_up(start, len, side, white_king, black_king, first, second) };
     unless_refused("look_up", answer)?;
     let chosen = || Move::from_bytes(((answer >> 32) as u32).to_le_bytes());
     let given = bits(answer, 24) & 1 == 1;
@@ -172,10 +176,11 @@ pub fn look_up(table: &[u8], keyed: impl Into<Keyed>) -> Result<Answer, Refusal>
 /// The value and exact depth if that is at most so many plies, by a search without tables.
 /// Refusals 1 to 6 and 16.
 pub fn second_opinion(keyed: impl Into<Keyed>, plies: u8) -> Result<Opinion, Refusal> {
-    let Keyed { man, side, white_king, man_square, black_king } = keyed.into();
+    let keyed = keyed.into();
+    let (Keyed { side, white_king, black_king, .. }, [first, second]) = (keyed, keyed.words());
     // SAFETY: no pointers.
     let answer = unsafe {
-        ffi::sledgewren_second_opinion(man, side, white_king, man_square, black_king, plies)
+        ffi::sledgewren_second_opinion(side, white_king, black_king, first, second, plies)
     };
     let answer = unless_refused("second_opinion", answer as u64)?;
     match bits(answer, 8) {
@@ -224,11 +229,12 @@ pub fn pack(table: &[u8], pocket: &mut [u8]) -> Result<(), Refusal> {
 
 /// A position's value from a pocket, without depth or move. Refusals 1 to 7 and 11.
 pub fn pocket_look_up(pocket: &[u8], keyed: impl Into<Keyed>) -> Result<Outcome, Refusal> {
-    let Keyed { man, side, white_king, man_square, black_king } = keyed.into();
+    let keyed = keyed.into();
+    let (Keyed { side, white_king, black_king, .. }, [first, second]) = (keyed, keyed.words());
     let (start, len) = (pocket.as_ptr(), pocket.len());
     // SAFETY: the slice's pointer leads to as many bytes as its length says.
     let answer = unsafe {
-        ffi::sledgewren_pocket_look_up(start, len, man, side, white_king, man_square, black_king)
+        ffi::sledgewren_pocket_look_up(start, len, side, white_king, black_king, first, second)
     } as u64;
     match bits(unless_refused("pocket_look_up", answer)?, 8) {
         1 => Ok(Outcome::Win),

@@ -3,10 +3,13 @@
 //! Each is total on values and lengths. A pointer must not be null and must lead to as many bytes
 //! as its length says, and buffers lent to one call must not overlap. The crate's other functions
 //! see to that; nothing else need call these.
+//!
+//! `white` and `black` are the kings' squares. A man besides them is a word: bits 0-7 kind, 8-15
+//! colour, 16-23 square; he is absent where bits 24-31 are 0.
 
 extern "C" {
     /// The number, or 0x80000000 + refusal.
-    pub fn sledgewren_number(man: u8, side: u8, white: u8, square: u8, black: u8) -> u32;
+    pub fn sledgewren_number(side: u8, white: u8, black: u8, first: u32, second: u32) -> u32;
 
     /// Bits 0-7 refusal, 8-15 side, 16-23 white king, 24-31 man's square, 32-39 black king.
     pub fn sledgewren_position(man: u8, number: u32) -> u64;
@@ -15,16 +18,16 @@ extern "C" {
     pub fn sledgewren_write_number(number: u32) -> u64;
 
     /// Bits 0-7 refusal, 8-15 count of legal moves.
-    pub fn sledgewren_count(man: u8, side: u8, white: u8, square: u8, black: u8) -> u32;
+    pub fn sledgewren_count(side: u8, white: u8, black: u8, first: u32, second: u32) -> u32;
 
     /// As the count. Where `len` is 248 it writes 62 places of four bytes: from-square, to-square,
     /// 1 if the move takes a man, and 0; with any other `len` it writes nothing and answers 255.
     pub fn sledgewren_moves(
-        man: u8,
         side: u8,
         white: u8,
-        square: u8,
         black: u8,
+        first: u32,
+        second: u32,
         moves: *mut u8,
         len: usize,
     ) -> u32;
@@ -46,20 +49,20 @@ extern "C" {
     pub fn sledgewren_look_up(
         table: *const u8,
         len: usize,
-        man: u8,
         side: u8,
         white: u8,
-        square: u8,
         black: u8,
+        first: u32,
+        second: u32,
     ) -> u64;
 
     /// Bits 0-7 refusal, 8-15 value (1 win, 2 loss, 4 not within so many plies), 16-23 depth.
     pub fn sledgewren_second_opinion(
-        man: u8,
         side: u8,
         white: u8,
-        square: u8,
         black: u8,
+        first: u32,
+        second: u32,
         plies: u8,
     ) -> u32;
 
@@ -87,11 +90,11 @@ extern "C" {
     pub fn sledgewren_pocket_look_up(
         pocket: *const u8,
         len: usize,
-        man: u8,
         side: u8,
         white: u8,
-        square: u8,
         black: u8,
+        first: u32,
+        second: u32,
     ) -> u32;
 
     /// Bits 0-15 numbers with entry 0, 16-31 draws, 32-47 wins, 48-63 losses; or refusal 7 as

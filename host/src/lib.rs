@@ -1,4 +1,4 @@
-//! Two kings and one white man: positions are numbered, their tables filled and checked,
+//! Two kings and one man of either side: positions are numbered, their tables filled and checked,
 //! positions looked up, and a desk's lines answered. A pocket is a table packed to won, drawn and
 //! lost.
 //!
@@ -14,6 +14,7 @@
 //!
 //! let position = Position {
 //!     man: Man::Queen,
+//!     owner: Side::White,
 //!     side: Side::White,
 //!     white_king: "b3".parse()?,
 //!     man_square: "h2".parse()?,
@@ -72,7 +73,7 @@ pub use man::{Man, Side};
 pub use moves::{Move, Moves, MOST_MOVES, MOVES_BYTES};
 pub use opinion::{second_opinion, Opinion, MOST_PLIES};
 pub use pocket::{Outcome, Pocket, Tallies, POCKET_BYTES};
-pub use position::{Keyed, Position};
+pub use position::{Keyed, KeyedMan, Position};
 pub use refusal::Refusal;
 pub use set::{Choice, Set};
 pub use square::{NoSquare, Square};

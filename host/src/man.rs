@@ -2,7 +2,7 @@
 
 use std::fmt;
 
-/// White's one man besides the king.
+/// The one man besides the kings.
 #[derive(Clone, Copy, PartialEq, Eq, Hash, Debug)]
 pub enum Man {
     /// Code 0.
@@ -29,13 +29,21 @@ impl Man {
         self as u8
     }
 
-    /// The letter that the desk reads: Q, R, B or N.
+    /// The letter that the desk reads for White's man: Q, R, B or N.
     pub fn letter(self) -> char {
         match self {
             Man::Queen => 'Q',
             Man::Rook => 'R',
             Man::Bishop => 'B',
             Man::Knight => 'N',
+        }
+    }
+
+    /// The letter that the desk reads on a position line: Black's is q, r, b or n.
+    pub fn letter_of(self, owner: Side) -> char {
+        match owner {
+            Side::White => self.letter(),
+            Side::Black => self.letter().to_ascii_lowercase(),
         }
     }
 }
@@ -58,7 +66,7 @@ impl fmt::Display for Man {
     }
 }
 
-/// The side to move.
+/// A side: the one to move, or the one that a man is of.
 #[derive(Clone, Copy, PartialEq, Eq, Hash, Debug)]
 pub enum Side {
     /// Code 0.
@@ -124,6 +132,8 @@ mod tests {
     fn names_and_letters() {
         let letters: String = Man::ALL.map(Man::letter).iter().collect();
         assert_eq!(letters, "QRBN");
+        let letters: String = Man::ALL.map(|man| man.letter_of(Side::Black)).iter().collect();
+        assert_eq!(letters, "qrbn");
         assert_eq!(Man::Rook.to_string(), "rook");
         assert_eq!((Side::White.letter(), Side::White.other().letter()), ('w', 'b'));
         assert_eq!(Side::Black.to_string(), "Black");

@@ -4,13 +4,15 @@ use std::fmt;
 
 use crate::{entry, Man, Moves, Refusal, Side, Square};
 
-/// Two kings and one white man, and the side to move. It need not be legal: men may share a
-/// square, kings touch, and the side not to move be in check. The library says so where it
-/// matters.
+/// Two kings and one man of either side, and the side to move. It need not be legal: men may
+/// share a square, kings touch, and the side not to move be in check. The library says so where
+/// it matters.
 #[derive(Clone, Copy, PartialEq, Eq, Hash, Debug)]
 pub struct Position {
-    /// White's man.
+    /// The man besides the kings.
     pub man: Man,
+    /// The side that he is of.
+    pub owner: Side,
     /// The side to move.
     pub side: Side,
     /// The white king's square.
@@ -27,7 +29,7 @@ impl Position {
         entry::number(self)
     }
 
-    /// The position that a number stands for. Refusals 8, 9.
+    /// The position that a number stands for, with White's man. Refusals 8, 9.
     pub fn from_number(man: Man, number: u32) -> Result<Position, Refusal> {
         entry::position(man, number)
     }
@@ -43,46 +45,75 @@ impl Position {
     }
 }
 
-/// As the desk reads it: `Q w b3 h2 a1`.
+/// As the desk reads it: `Q w b3 h2 a1`, or with Black's queen `q b a1 h2 b3`.
 impl fmt::Display for Position {
     fn fmt(&self, out: &mut fmt::Formatter) -> fmt::Result {
-        let Position { man, side, white_king, man_square, black_king } = self;
-        let (man, side) = (man.letter(), side.letter());
+        let Position { man, owner, side, white_king, man_square, black_king } = self;
+        let (man, side) = (man.letter_of(*owner), side.letter());
         write!(out, "{man} {side} {white_king} {man_square} {black_king}")
     }
 }
 
-/// A position as keyed: five bytes of any values. The library tells which of them it refuses.
+/// A man besides the kings as keyed: three bytes of any values.
+#[derive(Clone, Copy, PartialEq, Eq, Hash, Debug)]
+pub struct KeyedMan {
+    /// Material code; refused 1 above 3.
+    pub kind: u8,
+    /// White's 0, Black's 1; refused 2 above 1.
+    pub colour: u8,
+    /// His square; refused 3 above 63.
+    pub square: u8,
+}
+
+impl KeyedMan {
+    /// As the library takes him: kind, colour, square, and a byte that says that he is there.
+    fn word(self) -> u32 {
+        u32::from_le_bytes([self.kind, self.colour, self.square, 1])
+    }
+}
+
+/// A position as keyed: bytes of any values, and up to two men. The library tells which of them it
+/// refuses: none at all, one in the second place alone, and two, which have no table, with 1.
 #[derive(Clone, Copy, PartialEq, Eq, Hash, Debug)]
 pub struct Keyed {
-    /// Material code; refused 1 above 3.
-    pub man: u8,
     /// Side to move; refused 2 above 1.
     pub side: u8,
     /// The white king's square; refused 3 above 63.
     pub white_king: u8,
-    /// The man's square; refused 3 above 63.
-    pub man_square: u8,
     /// The black king's square; refused 3 above 63.
     pub black_king: u8,
+    /// The men besides the kings.
+    pub men: [Option<KeyedMan>; 2],
 }
 
-/// Material code, side, white king, man's square, black king.
+impl Keyed {
+    /// The men as the library's C functions take them; 0 for none.
+    pub fn words(self) -> [u32; 2] {
+        self.men.map(|man| man.map_or(0, KeyedMan::word))
+    }
+}
+
+/// One man of White's: material code, side, white king, man's square, black king.
 impl From<[u8; 5]> for Keyed {
-    fn from([man, side, white_king, man_square, black_king]: [u8; 5]) -> Keyed {
-        Keyed { man, side, white_king, man_square, black_king }
+    fn from([kind, side, white_king, square, black_king]: [u8; 5]) -> Keyed {
+        Keyed::from([kind, side, white_king, square, black_king, Side::White.code()])
+    }
+}
+
+/// The same with the man's colour at the end.
+impl From<[u8; 6]> for Keyed {
+    fn from([kind, side, white_king, square, black_king, colour]: [u8; 6]) -> Keyed {
+        let man = KeyedMan { kind, colour, square };
+        Keyed { side, white_king, black_king, men: [Some(man), None] }
     }
 }
 
 impl From<Position> for Keyed {
     fn from(position: Position) -> Keyed {
-        Keyed {
-            man: position.man.code(),
-            side: position.side.code(),
-            white_king: position.white_king.code(),
-            man_square: position.man_square.code(),
-            black_king: position.black_king.code(),
-        }
+        let Position { man, owner, side, white_king, man_square, black_king } = position;
+        let [white_king, square, black_king] =
+            [white_king, man_square, black_king].map(Square::code);
+        Keyed::from([man.code(), side.code(), white_king, square, black_king, owner.code()])
     }
 }
 
@@ -95,6 +126,7 @@ mod tests {
         let square = |code| Square::from_code(code).unwrap();
         let position = Position {
             man: Man::Queen,
+            owner: Side::White,
             side: Side::White,
             white_king: square(17),
             man_square: square(15),
@@ -102,5 +134,14 @@ mod tests {
         };
         assert_eq!(position.to_string(), "Q w b3 h2 a1");
         assert_eq!(Keyed::from(position), Keyed::from([0, 0, 17, 15, 0]));
+        let exchanged = Position {
+            owner: Side::Black,
+            side: Side::Black,
+            white_king: square(0),
+            black_king: square(17),
+            ..position
+        };
+        assert_eq!(exchanged.to_string(), "q b a1 h2 b3");
+        assert_eq!(Keyed::from(exchanged).words(), [0x010F_0100, 0]);
     }
 }

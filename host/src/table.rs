@@ -87,15 +87,17 @@ impl Accepted {
         &self.table
     }
 
-    /// The true value and depth of a position of the ending, and a move. Refusals 4, 5, 6.
+    /// The true value and depth of a position of the ending, and a move; the man is of either
+    /// side. Refusals 4, 5, 6.
     pub fn look_up(
         &self,
+        owner: Side,
         side: Side,
         white_king: Square,
         man_square: Square,
         black_king: Square,
     ) -> Result<Answer, Refusal> {
         let man = self.man;
-        self.table.look_up(Position { man, side, white_king, man_square, black_king })
+        self.table.look_up(Position { man, owner, side, white_king, man_square, black_king })
     }
 }

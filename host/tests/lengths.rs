@@ -11,9 +11,10 @@ fn untouched(bytes: &[u8]) -> bool {
 
 fn moves(keyed: [u8; 5], bytes: &mut [u8]) -> u32 {
     let [man, side, white, square, black] = keyed;
+    let first = u32::from_le_bytes([man, 0, square, 1]);
     let (start, len) = (bytes.as_mut_ptr(), bytes.len());
     // SAFETY: `start` leads to `len` bytes that nothing else refers to.
-    unsafe { ffi::sledgewren_moves(man, side, white, square, black, start, len) }
+    unsafe { ffi::sledgewren_moves(side, white, black, first, 0, start, len) }
 }
 
 #[test]

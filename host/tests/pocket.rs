@@ -30,10 +30,10 @@ fn the_answer_is_the_large_ones_everywhere() {
     for man in Man::ALL {
         let accepted = accepted(man);
         let (table, pocket) = (accepted.table(), Pocket::packed(&accepted));
-        for place in 0..2 * 64 * 64 * 64u32 {
+        for place in 0..4 * 64 * 64 * 64u32 {
             let square = |shift: u32| (place >> shift & 63) as u8;
-            let keyed: Keyed =
-                [man.code(), (place >> 18) as u8, square(12), square(6), square(0)].into();
+            let (side, colour) = ((place >> 18 & 1) as u8, (place >> 19) as u8);
+            let keyed: Keyed = [man.code(), side, square(12), square(6), square(0), colour].into();
             assert_eq!(pocket.look_up(keyed), table.look_up(keyed).map(Outcome::from), "{keyed:?}");
         }
     }

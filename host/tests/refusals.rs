@@ -3,7 +3,7 @@
 mod common;
 
 use common::position;
-use sledgewren::{entry, Desk, Man, Refusal, Table, TABLE_BYTES};
+use sledgewren::{entry, Desk, Keyed, KeyedMan, Man, Refusal, Table, TABLE_BYTES};
 
 /// Five bytes as keyed and the refusal they meet at the move list and look-up, if any. Each row
 /// but the last also has faults with higher numbers.
@@ -52,6 +52,43 @@ fn one_to_six_before_seven() {
     for (keyed, code) in KEYED {
         let seven = if code == 0 { 7 } else { code };
         assert_eq!(entry::look_up(&[], keyed).err(), expected(seven), "{keyed:?}");
+    }
+}
+
+/// Two kings, the side to move, and men of any kind, colour and square.
+fn keyed(side: u8, men: [Option<[u8; 3]>; 2]) -> Keyed {
+    let men = men.map(|man| man.map(|[kind, colour, square]| KeyedMan { kind, colour, square }));
+    Keyed { side, white_king: 0, black_king: 63, men }
+}
+
+#[test]
+fn men_and_colours() {
+    let table = Table::filled(Man::Queen).unwrap();
+    let (white, black) = (Some([0, 0, 1]), Some([0, 1, 62]));
+    let cases = [
+        (keyed(0, [None, None]), 1),
+        (keyed(0, [None, white]), 1),
+        (keyed(2, [None, black]), 1),
+        (keyed(0, [white, black]), 1),
+        (keyed(0, [white, Some([1, 0, 9])]), 1),
+        (keyed(0, [Some([4, 2, 64]), None]), 1),
+        (keyed(0, [Some([0, 2, 64]), None]), 2),
+        (keyed(2, [Some([0, 1, 64]), None]), 2),
+        (keyed(1, [Some([3, 255, 0]), None]), 2),
+        (keyed(1, [Some([3, 1, 64]), None]), 3),
+        (keyed(1, [Some([3, 1, 63]), None]), 4),
+        // Black's queen attacks the white king, and it is Black's turn
+        (keyed(1, [Some([0, 1, 7]), None]), 6),
+        (keyed(0, [white, None]), 0),
+        (keyed(1, [black, None]), 0),
+    ];
+    for (keyed, code) in cases {
+        let numbering = if code == 6 { None } else { expected(code) };
+        assert_eq!(entry::number(keyed).err(), numbering, "{keyed:?}");
+        assert_eq!(entry::count(keyed).err(), expected(code), "{keyed:?}");
+        assert_eq!(entry::moves(keyed).err(), expected(code), "{keyed:?}");
+        assert_eq!(entry::second_opinion(keyed, 1).err(), expected(code), "{keyed:?}");
+        assert_eq!(table.look_up(keyed).err(), expected(code), "{keyed:?}");
     }
 }
 
@@ -161,7 +198,7 @@ fn the_others_at_the_desk() {
     let mut desk = Desk::new();
     let lines = [
         ("P w b3 h2 a1", 1),
-        ("q w b3 h2 a1", 1),
+        ("q # 0204962", 1),
         ("P W z9 z9 z9", 1),
         ("Q W b3 h2 a1", 2),
         ("Q # 5913606", 8),

@@ -23,13 +23,28 @@ fn accepted(man: Man) -> Accepted {
 /// The position after a move, or none if the man is taken.
 fn played(position: Position, chosen: Move) -> Option<Position> {
     let mut next = Position { side: position.side.other(), ..position };
-    match position.side {
-        Side::White if chosen.from == position.white_king => next.white_king = chosen.to,
-        Side::White => next.man_square = chosen.to,
-        Side::Black if chosen.to == position.man_square => return None,
-        Side::Black => next.black_king = chosen.to,
+    if chosen.from == position.man_square {
+        next.man_square = chosen.to;
+    } else if chosen.to == position.man_square {
+        return None;
+    } else {
+        match position.side {
+            Side::White => next.white_king = chosen.to,
+            Side::Black => next.black_king = chosen.to,
+        }
     }
     Some(next)
+}
+
+/// The colours, the kings and the side to move exchanged.
+fn exchanged(position: Position) -> Position {
+    Position {
+        owner: position.owner.other(),
+        side: position.side.other(),
+        white_king: position.black_king,
+        black_king: position.white_king,
+        ..position
+    }
 }
 
 fn value_of(byte: u8) -> Value {
@@ -72,15 +87,19 @@ fn judge_all(man: Man) -> usize {
                 continue;
             }
         };
-        assert_eq!(position.number(), Ok(number as u32));
-        let Position { side, white_king, man_square, black_king, .. } = position;
-        match accepted.look_up(side, white_king, man_square, black_king) {
-            Ok(answer) => {
-                assert_eq!(answer.value(), value_of(byte), "{position}");
-                judge(table, position, answer);
-                legal += 1;
+        for position in [position, exchanged(position)] {
+            assert_eq!(position.number(), Ok(number as u32));
+            let Position { owner, side, white_king, man_square, black_king, .. } = position;
+            match accepted.look_up(owner, side, white_king, man_square, black_king) {
+                Ok(answer) => {
+                    assert_eq!(answer.value(), value_of(byte), "{position}");
+                    judge(table, position, answer);
+                    legal += (owner == Side::White) as usize;
+                }
+                Err(refusal) => {
+                    assert_eq!((refusal, byte), (Refusal::OtherInCheck, 0), "{position}")
+                }
             }
-            Err(refusal) => assert_eq!((refusal, byte), (Refusal::OtherInCheck, 0), "{position}"),
         }
     }
     legal

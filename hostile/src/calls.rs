@@ -1,12 +1,12 @@
 //! Each entry point beside the oracle's, as words that can be compared.
 
 use second::number::{back, number as second_number};
-use second::position::{Keyed as SecondKeyed, Refused};
+use second::position::{Keyed as SecondKeyed, KeyedMan as SecondMan, Refused};
 use second::rule::Value as SecondValue;
 use second::rules::{legal_position, moves as second_moves};
 use second::table::{check as second_check, look_up as second_look_up, Checked as SecondChecked};
 use second::{desk as second_desk, fill_back};
-use sledgewren::{entry, ffi, Answer, Checked, Desk, Keyed, Refusal};
+use sledgewren::{entry, ffi, Answer, Checked, Desk, Keyed, KeyedMan, Refusal};
 use sledgewren::{MOVES_BYTES, TABLE_BYTES};
 
 use crate::lines::{Input, SHORT};
@@ -40,9 +40,12 @@ impl Tally {
     }
 }
 
-pub(crate) fn second(keyed: [u8; 5]) -> SecondKeyed {
-    let [man, side, white_king, man_square, black_king] = keyed;
-    SecondKeyed { man, side, white_king, man_square, black_king }
+/// A position of the library's as the oracle keys it.
+pub fn second(keyed: Keyed) -> SecondKeyed {
+    let Keyed { side, white_king, black_king, men } = keyed;
+    let men = men
+        .map(|man| man.map(|KeyedMan { kind, colour, square }| SecondMan { kind, colour, square }));
+    SecondKeyed { side, white_king, black_king, men }
 }
 
 pub(crate) fn refused<T>(answer: Result<T, Refused>) -> Result<T, u8> {
@@ -65,7 +68,7 @@ fn our_answer(answer: Answer) -> Found {
     }
 }
 
-fn their_look_up(table: &[u8], keyed: [u8; 5]) -> Result<Found, u8> {
+fn their_look_up(table: &[u8], keyed: Keyed) -> Result<Found, u8> {
     let answer = refused(second_look_up(table, &second(keyed)))?;
     let best = answer.best.map(|chosen| (chosen.from, chosen.to, chosen.takes));
     Ok(match answer.value {
@@ -78,7 +81,7 @@ fn their_look_up(table: &[u8], keyed: [u8; 5]) -> Result<Found, u8> {
 /// A list as the C function writes it: 62 places of four bytes, and the answer.
 type List = ([u8; MOVES_BYTES], u32);
 
-fn their_moves(keyed: [u8; 5]) -> List {
+fn their_moves(keyed: Keyed) -> List {
     let mut list = [0; MOVES_BYTES];
     match legal_position(&second(keyed)) {
         Err(Refused(code)) => (list, code as u32),
@@ -93,23 +96,26 @@ fn their_moves(keyed: [u8; 5]) -> List {
 }
 
 /// Every byte counts, so the list is lent with 165 in each.
-fn our_moves(keyed: [u8; 5]) -> List {
-    let [man, side, white, square, black] = keyed;
+fn our_moves(keyed: Keyed) -> List {
+    let Keyed { side, white_king: white, black_king: black, .. } = keyed;
+    let [first, second] = keyed.words();
     let mut list = [165; MOVES_BYTES];
     let (start, len) = (list.as_mut_ptr(), list.len());
     // SAFETY: `start` leads to `len` bytes that nothing else refers to.
-    let answer = unsafe { ffi::sledgewren_moves(man, side, white, square, black, start, len) };
+    let answer = unsafe { ffi::sledgewren_moves(side, white, black, first, second, start, len) };
     (list, answer)
 }
 
-fn our_count(keyed: [u8; 5]) -> u32 {
-    let [man, side, white, square, black] = keyed;
+fn our_count(keyed: Keyed) -> u32 {
+    let Keyed { side, white_king: white, black_king: black, .. } = keyed;
+    let [first, second] = keyed.words();
     // SAFETY: no pointers.
-    unsafe { ffi::sledgewren_count(man, side, white, square, black) }
+    unsafe { ffi::sledgewren_count(side, white, black, first, second) }
 }
 
-/// Number, count, moves and look-up of five bytes as keyed.
-fn compare_keyed(keyed: [u8; 5], table: &[u8], tally: &mut Tally) {
+/// Number, count, moves and look-up of bytes as keyed.
+fn compare_keyed(keyed: impl Into<Keyed>, table: &[u8], tally: &mut Tally) {
+    let keyed = keyed.into();
     let number = refused(second_number(&second(keyed))).map(|number| number as u32);
     tally.add("number", &keyed, ours(entry::number(keyed)), number);
     let moves = their_moves(keyed);
@@ -128,15 +134,16 @@ pub(crate) fn filled(man: u8) -> Vec<u8> {
     table
 }
 
-/// Every man, both sides and all squares, one square too high among them.
+/// Every man of either colour, both sides and all squares, one square too high among them.
 pub fn boards(tally: &mut Tally) {
     for man in 0..4 {
         let table = filled(man);
-        for side in 0..2 {
+        for sides in 0..4 {
+            let (side, colour) = (sides % 2, sides / 2);
             for white_king in 0..=64 {
                 for man_square in 0..=64 {
                     for black_king in 0..=64 {
-                        let keyed = [man, side, white_king, man_square, black_king];
+                        let keyed = [man, side, white_king, man_square, black_king, colour];
                         compare_keyed(keyed, &table, tally);
                     }
                 }
@@ -145,7 +152,8 @@ pub fn boards(tally: &mut Tally) {
     }
 }
 
-/// Five random bytes, most of them out of range.
+/// Random bytes, most of them out of range; a second man in one board of four, none at all in one
+/// of sixteen.
 pub fn random_boards(sequence: &mut Sequence, tally: &mut Tally) {
     let tables: Vec<Vec<u8>> = (0..4).map(filled).collect();
     for _ in 0..500_000 {
@@ -153,8 +161,13 @@ pub fn random_boards(sequence: &mut Sequence, tally: &mut Tally) {
             0 => sequence.byte(),
             _ => sequence.below(right) as u8,
         };
-        let keyed = [byte(5), byte(3), byte(66), byte(66), byte(66)];
-        compare_keyed(keyed, &tables[keyed[0] as usize % 4], tally);
+        let mut man = || KeyedMan { kind: byte(5), colour: byte(3), square: byte(66) };
+        let both = [man(), man()];
+        let (side, white_king, black_king) = (byte(3), byte(66), byte(66));
+        let there = [sequence.below(16) > 0, sequence.below(4) == 0];
+        let men = [0, 1].map(|place| there[place].then_some(both[place]));
+        let keyed = Keyed { side, white_king, black_king, men };
+        compare_keyed(keyed, &tables[both[0].kind as usize % 4], tally);
     }
 }
 
@@ -163,10 +176,7 @@ pub fn numbers(sequence: &mut Sequence, tally: &mut Tally) {
     let mut compare = |man: u8, number: u32| {
         let position = ours(entry::position(man, number));
         let theirs = refused(back(man, number as u64)).map(|position| position.keyed());
-        let keyed = position.map(|position| {
-            let Keyed { man, side, white_king, man_square, black_king } = position.into();
-            SecondKeyed { man, side, white_king, man_square, black_king }
-        });
+        let keyed = position.map(|position| second(position.into()));
         tally.add("position", &(man, number), keyed, theirs);
     };
     for man in [0, 1, 2, 3, 4, 255] {
@@ -212,7 +222,8 @@ pub fn random_tables(sequence: &mut Sequence, tally: &mut Tally) {
             compare_check(man, &table, tally);
             for _ in 0..20_000 {
                 let mut square = || sequence.below(64) as u8;
-                let keyed = [man, square() % 2, square(), square(), square()];
+                let keyed =
+                    Keyed::from([man, square() % 2, square(), square(), square(), square() % 2]);
                 let answer = ours(entry::look_up(&table, keyed)).map(our_answer);
                 tally.add("look-up", &(manner, keyed), answer, their_look_up(&table, keyed));
             }
@@ -232,6 +243,7 @@ pub fn lengths(tally: &mut Tally) {
                 compare_check(man, &one, tally);
             }
             for keyed in [[man, 0, 17, 15, 0], [man, 2, 64, 64, 64], [man, 0, 0, 7, 63]] {
+                let keyed = Keyed::from(keyed);
                 let table = vec![1; len];
                 let answer = ours(entry::look_up(&table, keyed)).map(our_answer);
                 tally.add("look-up", &(keyed, len), answer, their_look_up(&table, keyed));

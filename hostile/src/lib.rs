@@ -2,10 +2,12 @@
 //! running a desk.
 
 pub mod calls;
+pub mod exchange;
 pub mod feed;
 pub mod lines;
 pub mod pocket;
 pub mod sequence;
 pub mod steps;
 pub mod typed;
+pub mod words;
 pub mod written;

@@ -1,12 +1,16 @@
 //! The generated lines: both forms, near misses of both, random bytes, very long lines.
 //!
 //! A desk fills a table whenever the man changes, so the lines come in four blocks of one man
-//! each; only a short part changes men from line to line.
+//! each, of either colour; only a short part changes men from line to line.
 
 use crate::sequence::Sequence;
 use crate::typed::{endings, old_line, right_line, slips_of_the_hand};
 
 const MEN: &[u8; 4] = b"QRBN";
+
+/// White's and Black's, in an order in which the man changes from each to the next.
+const CHANGES: &[u8; 8] = b"QrBnqRbN";
+
 const SIDES: &[u8; 2] = b"wb";
 
 /// Bytes that stand in right lines, and a few that nearly do.
@@ -62,7 +66,12 @@ pub struct Input {
     sequence: Sequence,
 }
 
-fn position_line(man: u8, side: u8, squares: [usize; 3]) -> Vec<u8> {
+/// A man's two letters: White's and Black's.
+fn letters(man: u8) -> [u8; 2] {
+    [man, man.to_ascii_lowercase()]
+}
+
+pub fn position_line(man: u8, side: u8, squares: [usize; 3]) -> Vec<u8> {
     let mut line = vec![man, b' ', side];
     for square in squares {
         line.extend([b' ', b'a' + (square % 8) as u8, b'1' + (square / 8 % 8) as u8]);
@@ -93,7 +102,7 @@ impl Input {
         }
         for k in 0..48 {
             let squares = input.squares();
-            input.add(position_line(MEN[k % 4], SIDES[k / 4 % 2], squares));
+            input.add(position_line(CHANGES[k % 8], SIDES[k / 8 % 2], squares));
         }
         input.add(b"Q w b3 h2 a1".to_vec());
         input.bytes.pop();
@@ -115,13 +124,15 @@ impl Input {
     }
 
     fn any_position(&mut self, man: u8) -> Vec<u8> {
-        let (side, squares) = (self.sequence.one_of(SIDES), self.squares());
-        position_line(man, side, squares)
+        let (letter, side) = (self.sequence.one_of(&letters(man)), self.sequence.one_of(SIDES));
+        position_line(letter, side, self.squares())
     }
 
+    /// Black's letter is none on a number line: one in eight has it.
     fn any_number(&mut self, man: u8) -> Vec<u8> {
+        let black = self.sequence.below(8) == 0;
         let number = self.sequence.below(100_000);
-        right_line(man, number)
+        right_line(letters(man)[black as usize], number)
     }
 
     fn block(&mut self, man: u8, amount: &Amount) {
@@ -162,7 +173,9 @@ impl Input {
         }
         for _ in 0..amount.endings {
             let number = self.sequence.below(100_000);
-            endings(man, number).for_each(|line| self.add(line));
+            for letter in letters(man) {
+                endings(letter, number).for_each(|line| self.add(line));
+            }
         }
         for _ in 0..amount.slips {
             let number = self.sequence.below(100_000);
@@ -170,23 +183,29 @@ impl Input {
         }
     }
 
-    /// All placements of the three men on the edge, both sides.
+    /// All placements of the three men on the edge, both sides, the man of either colour.
     fn edges(&mut self, man: u8) {
         let edge = edge_squares();
-        for side in SIDES {
-            for &white in &edge {
-                for &square in &edge {
-                    for &black in &edge {
-                        self.add(position_line(man, *side, [white, square, black]));
+        for letter in letters(man) {
+            for side in SIDES {
+                for &white in &edge {
+                    for &square in &edge {
+                        for &black in &edge {
+                            self.add(position_line(letter, *side, [white, square, black]));
+                        }
                     }
                 }
             }
         }
     }
 
-    /// Every byte in every place of a right line of each form.
+    /// Every byte in every place of a right line of each form and colour.
     fn every_byte(&mut self, man: u8) {
-        for line in [self.any_position(man), self.any_number(man)] {
+        let [white, black] = letters(man);
+        let (side, squares) = (self.sequence.one_of(SIDES), self.squares());
+        let positions = [white, black].map(|letter| position_line(letter, side, squares));
+        let numbers = [white, black].map(|letter| right_line(letter, 2049));
+        for line in positions.into_iter().chain(numbers) {
             for place in 0..line.len() {
                 for byte in 0..=255 {
                     let mut changed = line.clone();
@@ -199,7 +218,8 @@ impl Input {
 
     /// Adds a line unless it would have the desk fill another man's table.
     fn add_of(&mut self, line: Vec<u8>, man: u8) {
-        let other = line.len() == 12 && line[0] != man && MEN.contains(&line[0]);
+        let named = line.first().map_or(0, u8::to_ascii_uppercase);
+        let other = line.len() == 12 && named != man && MEN.contains(&named);
         if !other {
             self.add(line);
         }
@@ -259,6 +279,9 @@ pub const TINY: &[&[u8]] = &[
     b"Q # 0204962\nQ # 020496",
     b"Q # 02049\nQ # 0209462\nP # 0209462\nQ # 0006500\nQ # 0000001\nQ # 0003299",
     b"Q # 5912733\nN # 5912830\nB # 5913606\nR # 9999925\nP # 0000098",
+    b"q # 0204962\nq # 0209462\nn # 02049\nr # 9999925\nb # 0205641",
+    b"r w a1 h1 a3",
+    b"q b a1 h2 b3\nQ w b3 h2 a1\nq w a1 b2 h8\nq b a1 b2 b3\nk w b3 h2 a1\np w b3 h2 a1",
     b"R b a3 h1 a1",
     b"R b a3 h1 a1\n",
     b"R b a3 h1 a1\nR",

@@ -2,7 +2,7 @@
 
 use second::pocket as second_pocket;
 use second::pocket::PocketAnswer;
-use sledgewren::{entry, ffi, Outcome, POCKET_BYTES, TABLE_BYTES};
+use sledgewren::{entry, ffi, Keyed, Outcome, POCKET_BYTES, TABLE_BYTES};
 
 use crate::calls::{filled, ours, refused, second, Tally};
 use crate::sequence::Sequence;
@@ -25,7 +25,8 @@ fn compare_pack(table: &[u8], pocket: usize, tally: &mut Tally) {
     tally.add("packed bytes", &asked, one == other, true);
 }
 
-fn compare_look_up(pocket: &[u8], keyed: [u8; 5], tally: &mut Tally) {
+fn compare_look_up(pocket: &[u8], keyed: impl Into<Keyed>, tally: &mut Tally) {
+    let keyed = keyed.into();
     let outcome = ours(entry::pocket_look_up(pocket, keyed));
     let answer = refused(second_pocket::look_up(pocket, &second(keyed)));
     let theirs = answer.map(|answer| match answer {
@@ -55,17 +56,17 @@ fn packed(man: u8) -> Vec<u8> {
     pocket
 }
 
-/// The four tables packed, and every man, side and square looked up, one square too high among
-/// them.
+/// The four tables packed, and every man of either colour, side and square looked up, one square
+/// too high among them.
 pub fn boards(tally: &mut Tally) {
     for man in 0..4 {
         compare_pack(&filled(man), POCKET_BYTES, tally);
         let pocket = packed(man);
         compare_tallies(&pocket, tally);
-        for side in 0..2 {
+        for sides in 0..4 {
             for place in 0..65usize.pow(3) {
                 let square = |unit: usize| (place / unit % 65) as u8;
-                let keyed = [man, side, square(65 * 65), square(65), square(1)];
+                let keyed = [man, sides % 2, square(65 * 65), square(65), square(1), sides / 2];
                 compare_look_up(&pocket, keyed, tally);
             }
         }
@@ -90,13 +91,13 @@ fn damage(sequence: &mut Sequence, pocket: &mut [u8]) {
     scatter(sequence, &mut pocket[first..end]);
 }
 
-/// Five bytes, most of them of a legal position.
-fn keyed(sequence: &mut Sequence) -> [u8; 5] {
+/// Six bytes, most of them of a legal position; the last is the man's colour.
+fn keyed(sequence: &mut Sequence) -> [u8; 6] {
     let mut byte = |right: usize| match sequence.below(64) {
         0 => sequence.byte(),
         _ => sequence.below(right) as u8,
     };
-    [byte(4), byte(2), byte(64), byte(64), byte(64)]
+    [byte(4), byte(2), byte(64), byte(64), byte(64), byte(2)]
 }
 
 /// The tallies of each pocket, and two look-ups in it.

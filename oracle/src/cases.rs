@@ -100,7 +100,7 @@ fn highest_used() -> Result<String, Refused> {
 fn look_up_answer(line: &str) -> Result<String, Refused> {
     let keyed = read_position(line.as_bytes())?;
     let mut table = vec![0; NUMBERS];
-    fill_back::fill(keyed.man, &mut table)?;
+    fill_back::fill(keyed.placed()?.man.code(), &mut table)?;
     Ok(answer_text(&look_up(&table, &keyed)))
 }
 
@@ -116,7 +116,7 @@ fn legality(line: &str) -> Result<String, Refused> {
 /// Filling, checking and looking up must all refuse a table of the wrong length.
 fn table_answer(length: usize) -> Result<String, Refused> {
     let mut table = vec![0; length];
-    let keyed = Keyed { man: 0, side: 0, white_king: 0, man_square: 1, black_king: 63 };
+    let keyed = Keyed::of_one([0, 0, 1], 0, [0, 63]);
     let answers = [
         fill_back::fill(0, &mut table).err(),
         check(0, &table).err(),

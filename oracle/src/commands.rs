@@ -13,11 +13,12 @@ use crate::failure::{usage, Done, Failure};
 use crate::fill::Filled;
 use crate::lines::{for_each_keyed, for_each_numbers};
 use crate::number::{back, number, NUMBERS};
-use crate::position::{Keyed, Man, Refused, MEN};
+use crate::position::{Keyed, Man, Position, Refused, MEN};
 use crate::rules::{legal_position, move_name, moves};
+use crate::samples::{self, Line};
 use crate::table::{check, look_up, Checked};
 use crate::{commands_pocket, commands_search, commands_set, commands_steps};
-use crate::{fill_back, fill_every, samples, selftest};
+use crate::{fill_back, fill_every, selftest};
 
 pub const USAGE: &str = "\
 usage: oracle SUBCOMMAND [ARGUMENTS]     (MAN is Q, R, B or N)
@@ -25,7 +26,7 @@ usage: oracle SUBCOMMAND [ARGUMENTS]     (MAN is Q, R, B or N)
   table MAN               write the 59,136 bytes of the true table
   counts [MAN ...]        counts of each table's bytes, and its checksum
   moves                   list the legal moves of each line on standard input
-  positions               write input lines for moves
+  positions [both]        write input lines for moves
   numbers                 go over all numbers and back, with checksums
   number                  number each line on standard input
   back                    read `man number` lines, write side and squares
@@ -40,8 +41,8 @@ usage: oracle SUBCOMMAND [ARGUMENTS]     (MAN is Q, R, B or N)
   set-find CODE FILE      where a set holds an ending: offset and length
   set-sums [CODES ...]    for each choice the set's checksum and what reading gives
   search K                search each line on standard input K plies deep
-  search-positions        write the search's sample of input lines
-  search-cases            answer the sample for every K up to 7
+  search-positions [both] write the search's sample of input lines
+  search-cases [both]     answer the sample for every K up to 7
   desk                    the desk program, on standard input
   run                     write the input of the example run
   bench-positions         answer the positions to keep by the bench
@@ -53,7 +54,9 @@ usage: oracle SUBCOMMAND [ARGUMENTS]     (MAN is Q, R, B or N)
 
 Lines for moves, number, lookup, pocket and search hold five decimal numbers
 from 0 to 255: man side whiteking mansquare blackking (queen 0, rook 1, bishop 2, knight 3;
-White 0, Black 1; square = 8 x rank + file, a1 = 0, h8 = 63).
+White 0, Black 1; square = 8 x rank + file, a1 = 0, h8 = 63). A sixth is the man's colour,
+White's if it is left out; three more key a second man: man colour mansquare. Samples are of
+White's man, or with `both` of both colours, the colour written.
 Exit status: 0 done, 1 failed self test or stream, 2 bad usage or malformed line.
 ";
 
@@ -82,7 +85,10 @@ fn dispatch(name: &str, rest: &[OsString], output: &mut Out) -> Done {
         "pocket" => commands_pocket::pocket_lines(rest, output),
         "tallies" => commands_pocket::true_tallies(rest, output),
         "tallies-of" => commands_pocket::tallies_of(rest, output),
+        "positions" => positions(rest, output),
         "search" => commands_search::search_lines(rest, output),
+        "search-positions" => commands_search::sample_lines(rest, output),
+        "search-cases" => commands_search::sample_answers(rest, output),
         "set" => commands_set::write_file(rest, output),
         "set-find" => commands_set::find_in_file(rest, output),
         "set-sums" => commands_set::sums(rest, output),
@@ -94,13 +100,10 @@ fn dispatch(name: &str, rest: &[OsString], output: &mut Out) -> Done {
 fn without_arguments(name: &str, rest: &[OsString], output: &mut Out) -> Done {
     let command: fn(&mut Out) -> Done = match name {
         "moves" => list_moves,
-        "positions" => positions,
         "numbers" => numbers,
         "number" => number_lines,
         "back" => back_lines,
         "typed" => typed_lines,
-        "search-positions" => commands_search::sample_lines,
-        "search-cases" => commands_search::sample_answers,
         "desk" => |output| desk::run(io::stdin().lock(), output),
         "run" => |output| Ok(output.write_all(cases::RUN_INPUT.as_bytes())?),
         "bench-positions" => bench_positions,
@@ -180,15 +183,41 @@ fn list_moves(output: &mut Out) -> Done {
     })
 }
 
-/// An input line.
-pub fn keyed_text(keyed: &Keyed) -> String {
-    let Keyed { man, side, white_king, man_square, black_king } = keyed;
-    format!("{man} {side} {white_king} {man_square} {black_king}")
+/// A sample's men: White's alone, or those of both sides, with the colour at each line's end.
+#[derive(Clone, Copy)]
+pub enum Colours {
+    White,
+    Both,
 }
 
-fn positions(output: &mut Out) -> Done {
-    for keyed in samples::lines() {
-        writeln!(output, "{}", keyed_text(&keyed))?;
+impl Colours {
+    pub fn named(command: &str, rest: &[OsString]) -> Result<Colours, Failure> {
+        match rest {
+            [] => Ok(Colours::White),
+            [word] if word == "both" => Ok(Colours::Both),
+            _ => usage(format!("{command} takes no argument but `both`, for both sides' men")),
+        }
+    }
+
+    /// A sample line as it is keyed.
+    pub fn text(self, line: Line) -> String {
+        let [man, side, white_king, square, black_king, colour] = line;
+        let white = format!("{man} {side} {white_king} {square} {black_king}");
+        match self {
+            Colours::White => white,
+            Colours::Both => format!("{white} {colour}"),
+        }
+    }
+}
+
+fn positions(rest: &[OsString], output: &mut Out) -> Done {
+    let colours = Colours::named("positions", rest)?;
+    let lines = match colours {
+        Colours::White => samples::white_lines(),
+        Colours::Both => samples::lines(),
+    };
+    for line in lines {
+        writeln!(output, "{}", colours.text(line))?;
     }
     Ok(())
 }
@@ -210,8 +239,8 @@ fn number_lines(output: &mut Out) -> Done {
 fn back_text(man: u8, number: u64) -> String {
     match back(man, number) {
         Ok(position) => {
-            let Keyed { side, white_king, man_square, black_king, .. } = position.keyed();
-            format!("{side} {white_king} {man_square} {black_king}")
+            let Position { side, white_king, man_square, black_king, .. } = position;
+            format!("{} {white_king} {man_square} {black_king}", side.code())
         }
         Err(refused) => refused_text(refused),
     }

@@ -3,11 +3,11 @@
 use std::ffi::OsString;
 use std::io::{self, Write};
 
-use crate::commands::{keyed_text, refused_text, Out};
-use crate::desk::read_position;
+use crate::commands::{refused_text, Colours, Out};
 use crate::failure::{usage, Done};
 use crate::lines::for_each_keyed;
 use crate::position::Keyed;
+use crate::samples::{exchanged, keyed_of, line_of, Line};
 use crate::search::{search, Opinion, MOST_PLIES};
 
 #[rustfmt::skip]
@@ -26,8 +26,15 @@ const SAMPLE: &[&str] = &[
     "P w b3 h2 a1", "Q x b3 h2 a1", "Q w b3 h9 a1", "R b b3 b3 a1", "B w b2 h2 a1", "Q w b3 b2 a1",
 ];
 
-fn sample() -> impl Iterator<Item = Keyed> {
-    SAMPLE.iter().filter_map(|line| read_position(line.as_bytes()).ok())
+/// White's man, and with both colours the same positions with the colours exchanged.
+fn sample(colours: Colours) -> Vec<Line> {
+    let white: Vec<Line> = SAMPLE.iter().filter_map(|text| line_of(text)).collect();
+    match colours {
+        Colours::White => white,
+        Colours::Both => {
+            white.iter().copied().chain(white.iter().copied().map(exchanged)).collect()
+        }
+    }
 }
 
 fn search_text(keyed: &Keyed, plies: u8) -> String {
@@ -53,21 +60,23 @@ pub fn search_lines(rest: &[OsString], output: &mut Out) -> Done {
     })
 }
 
-/// `search-positions`: the sample as input lines.
-pub fn sample_lines(output: &mut Out) -> Done {
-    for keyed in sample() {
-        writeln!(output, "{}", keyed_text(&keyed))?;
+/// `search-positions [both]`: the sample as input lines.
+pub fn sample_lines(rest: &[OsString], output: &mut Out) -> Done {
+    let colours = Colours::named("search-positions", rest)?;
+    for line in sample(colours) {
+        writeln!(output, "{}", colours.text(line))?;
     }
     Ok(())
 }
 
-/// `search-cases`: each line of the sample, a number of plies and the answer; the last
+/// `search-cases [both]`: each line of the sample, a number of plies and the answer; the last
 /// number is one too many.
-pub fn sample_answers(output: &mut Out) -> Done {
-    for keyed in sample() {
+pub fn sample_answers(rest: &[OsString], output: &mut Out) -> Done {
+    let colours = Colours::named("search-cases", rest)?;
+    for line in sample(colours) {
         for plies in 0..=MOST_PLIES + 1 {
-            let answer = search_text(&keyed, plies);
-            writeln!(output, "{} within {plies}: {answer}", keyed_text(&keyed))?;
+            let answer = search_text(&keyed_of(line), plies);
+            writeln!(output, "{} within {plies}: {answer}", colours.text(line))?;
         }
     }
     Ok(())

@@ -8,7 +8,7 @@ use crate::failure::{Done, Failure};
 use crate::fill_back;
 use crate::lines::for_each_line;
 use crate::number::{back, NUMBERS};
-use crate::position::{Keyed, Man, Position, Refused, MEN};
+use crate::position::{Keyed, Man, Position, Refused, Side, MEN};
 use crate::rule::Value;
 use crate::rules::{legal_position, move_name};
 use crate::table::{look_up, Answer};
@@ -19,8 +19,18 @@ const NUMBER_LINE: usize = 11;
 /// Stands for a byte that names no man, side or square; refused as 1, 2 or 3.
 const WRONG: u8 = u8::MAX;
 
+/// `Q R B N`: White's man, and the man of a number line.
 fn man_code(byte: u8) -> u8 {
     Man::from_letter(byte).map_or(WRONG, Man::code)
+}
+
+/// Kind and colour: "on a position line `q r b n` mean Black's man".
+fn kind_and_colour(byte: u8) -> [u8; 2] {
+    if byte.is_ascii_lowercase() {
+        [man_code(byte.to_ascii_uppercase()), Side::Black.code()]
+    } else {
+        [man_code(byte), Side::White.code()]
+    }
 }
 
 fn side_code(byte: u8) -> u8 {
@@ -51,13 +61,9 @@ pub fn read_position(line: &[u8]) -> Result<Keyed, Refused> {
     if !spaces_right(line, &[1, 3, 6, 9]) {
         return Err(Refused(12));
     }
-    Ok(Keyed {
-        man: man_code(man),
-        side: side_code(side),
-        white_king: square(kf, kr),
-        man_square: square(mf, mr),
-        black_king: square(bf, br),
-    })
+    let [kind, colour] = kind_and_colour(man);
+    let kings = [square(kf, kr), square(bf, br)];
+    Ok(Keyed::of_one([kind, colour, square(mf, mr)], side_code(side), kings))
 }
 
 /// A number line, 11 bytes: the man's code and the number. Shape is asked first, then the

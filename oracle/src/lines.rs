@@ -3,7 +3,7 @@
 use std::io::{self, ErrorKind, Read, Write};
 
 use crate::failure::{usage, Done, Failure};
-use crate::position::Keyed;
+use crate::position::{Keyed, KeyedMan, Side};
 
 const CHUNK: usize = 1 << 16;
 
@@ -72,22 +72,21 @@ fn decimal(word: &str) -> Option<u64> {
     Some(word.bytes().fold(0, digit))
 }
 
-/// Exactly `N` decimal numbers with blanks between them.
-fn numbers<const N: usize>(line: &[u8]) -> Option<[u64; N]> {
+/// Decimal numbers with blanks between them.
+fn numbers(line: &[u8]) -> Option<Vec<u64>> {
     if line.len() > LONGEST_NUMBERS {
         return None;
     }
     let text = std::str::from_utf8(line).ok()?;
-    let found: Option<Vec<u64>> = text.split_ascii_whitespace().map(decimal).collect();
-    found?.try_into().ok()
+    text.split_ascii_whitespace().map(decimal).collect()
 }
 
-/// Answers each line of `N` decimal numbers; a malformed line ends the command.
-pub fn for_each_numbers<const N: usize, R: Read, W: Write>(
+/// Answers each line of decimal numbers; a malformed line ends the command.
+fn for_each_list<R: Read, W: Write>(
     input: R,
     output: &mut W,
     wanted: &str,
-    mut answer: impl FnMut([u64; N], &mut W) -> Option<Done>,
+    mut answer: impl FnMut(Vec<u64>, &mut W) -> Option<Done>,
 ) -> Done {
     let mut count = 0u64;
     for_each_line(input, output, LONGEST_NUMBERS + 1, |line, output| {
@@ -99,22 +98,40 @@ pub fn for_each_numbers<const N: usize, R: Read, W: Write>(
     })
 }
 
-/// Answers each line that keys a position: five decimal numbers from 0 to 255.
+/// Answers each line of exactly `N` decimal numbers.
+pub fn for_each_numbers<const N: usize, R: Read, W: Write>(
+    input: R,
+    output: &mut W,
+    wanted: &str,
+    mut answer: impl FnMut([u64; N], &mut W) -> Option<Done>,
+) -> Done {
+    for_each_list(input, output, wanted, |found, output| {
+        answer(<[u64; N]>::try_from(found).ok()?, output)
+    })
+}
+
+/// The position that a line keys: a man, White's unless a colour follows, and perhaps a second.
+fn keyed_of(bytes: &[u8]) -> Option<Keyed> {
+    let (&[kind, side, white_king, square, black_king], rest) = bytes.split_first_chunk()?;
+    let (colour, second) = match *rest {
+        [] => (Side::White.code(), None),
+        [colour] => (colour, None),
+        [colour, kind, other, square] => (colour, Some(KeyedMan { kind, colour: other, square })),
+        _ => return None,
+    };
+    let first = Some(KeyedMan { kind, colour, square });
+    Some(Keyed { side, white_king, black_king, men: [first, second] })
+}
+
+/// Answers each line that keys a position: five, six or nine decimal numbers from 0 to 255.
 pub fn for_each_keyed<R: Read, W: Write>(
     input: R,
     output: &mut W,
     mut answer: impl FnMut(&Keyed, &mut W) -> io::Result<()>,
 ) -> Done {
-    let wanted = "man side whiteking mansquare blackking (five numbers from 0 to 255)";
-    for_each_numbers(input, output, wanted, |found: [u64; 5], output| {
-        let byte = |k: usize| u8::try_from(found[k]).ok();
-        let keyed = Keyed {
-            man: byte(0)?,
-            side: byte(1)?,
-            white_king: byte(2)?,
-            man_square: byte(3)?,
-            black_king: byte(4)?,
-        };
-        Some(answer(&keyed, output).map_err(Failure::from))
+    let wanted = "man side whiteking mansquare blackking [colour [man colour square]] (0 to 255)";
+    for_each_list(input, output, wanted, |found, output| {
+        let bytes: Option<Vec<u8>> = found.into_iter().map(|n| u8::try_from(n).ok()).collect();
+        Some(answer(&keyed_of(&bytes?)?, output).map_err(Failure::from))
     })
 }

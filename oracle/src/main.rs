@@ -1,4 +1,4 @@
-//! The oracle: an independent second program for two kings and one white man.
+//! The oracle: an independent second program for two kings and one man of either side.
 
 mod board;
 mod cases;

@@ -6,7 +6,7 @@ use std::collections::BTreeSet;
 use crate::board::{king_attack, Square, Squares};
 use crate::desk::read_position;
 use crate::number::{position_of, NUMBERS};
-use crate::position::{Keyed, Man, Refused, Side, MEN, SIDES};
+use crate::position::{Keyed, Man, Position, Refused, Side, MEN, SIDES};
 use crate::rules::{legal, legal_position, moves};
 
 /// A linear congruential sequence: the same numbers on every machine.
@@ -21,6 +21,13 @@ impl Sequence {
     pub fn square(&mut self) -> Square {
         self.below(64) as Square
     }
+}
+
+/// A line of the sample: man, side, white king, man's square, black king, colour.
+pub type Line = [u8; 6];
+
+pub fn keyed_of([man, side, white_king, square, black_king, colour]: Line) -> Keyed {
+    Keyed::of_one([man, colour, square], side, [white_king, black_king])
 }
 
 /// Legal positions and some refused 6, chosen for what they show.
@@ -58,6 +65,14 @@ const CHOSEN: &[&str] = &[
     // The edges do not join: h-file and a-file, first and eighth rank.
     "Q b h1 c5 a2", "R b h2 c5 a3", "B b h4 e7 a5", "N b h7 c2 a8", "N w e1 h4 e8",
     "N w e2 a4 e8", "R b h3 d7 a4", "Q w h5 b3 a6",
+];
+
+/// Lines with a colour that is neither White's nor Black's, and what is asked before and after it.
+#[rustfmt::skip]
+const WRONG_COLOURS: &[Line] = &[
+    [0, 0, 0, 1, 63, 2], [1, 1, 0, 1, 63, 3], [2, 0, 0, 1, 63, 64], [3, 1, 0, 1, 63, 255],
+    [4, 0, 0, 1, 63, 2], [255, 255, 255, 255, 255, 255], [0, 2, 0, 1, 63, 2], [1, 0, 64, 1, 63, 2],
+    [2, 0, 0, 0, 63, 2], [3, 1, 0, 7, 1, 128], [0, 0, 0, 7, 63, 2], [0, 1, 0, 7, 63, 2],
 ];
 
 /// Refused lines: every refusal from 1 to 6, and several at once.
@@ -107,14 +122,18 @@ fn draw(sequence: &mut Sequence, manner: u64) -> (Square, Square, Square) {
     }
 }
 
-fn drawn_legal(sequence: &mut Sequence, man: Man, side: Side, manner: u64) -> BTreeSet<Keyed> {
+fn drawn_legal(
+    sequence: &mut Sequence,
+    (man, colour): (Man, Side),
+    side: Side,
+    manner: u64,
+) -> BTreeSet<Line> {
     let mut group = BTreeSet::new();
     for _ in 0..10_000 {
-        let (white_king, man_square, black_king) = draw(sequence, manner);
-        let (man, side) = (man.code(), side.code());
-        let keyed = Keyed { man, side, white_king, man_square, black_king };
-        if group.len() < 8 && legal_position(&keyed).is_ok() {
-            group.insert(keyed);
+        let (white_king, square, black_king) = draw(sequence, manner);
+        let line = [man.code(), side.code(), white_king, square, black_king, colour.code()];
+        if group.len() < 8 && legal_position(&keyed_of(line)).is_ok() {
+            group.insert(line);
         }
     }
     group
@@ -129,62 +148,98 @@ fn raw(sequence: &mut Sequence, right: u64) -> u8 {
     }
 }
 
-fn drawn_refused(sequence: &mut Sequence, refusal: u8) -> BTreeSet<Keyed> {
+fn drawn_refused(sequence: &mut Sequence, refusal: u8) -> BTreeSet<Line> {
     let mut group = BTreeSet::new();
     for _ in 0..10_000 {
         let mut byte = |right| raw(sequence, right);
-        let (man, side) = (byte(4), byte(2));
-        let (white_king, man_square, black_king) = (byte(64), byte(64), byte(64));
-        let keyed = Keyed { man, side, white_king, man_square, black_king };
-        if group.len() < 10 && legal_position(&keyed) == Err(Refused(refusal)) {
-            group.insert(keyed);
+        let line = [byte(4), byte(2), byte(64), byte(64), byte(64), Side::White.code()];
+        if group.len() < 10 && legal_position(&keyed_of(line)) == Err(Refused(refusal)) {
+            group.insert(line);
         }
     }
     group
 }
 
 /// Legal positions of one man and side with a given number of moves, spread over the numbers.
-fn with_moves(man: Man, side: Side, count: usize) -> BTreeSet<Keyed> {
-    let found: Vec<Keyed> = (0..NUMBERS)
+fn with_moves(man: Man, side: Side, count: usize) -> BTreeSet<Line> {
+    let found: Vec<Line> = (0..NUMBERS)
         .filter_map(|number| position_of(man, number))
         .filter(|position| position.side == side && legal(position))
         .filter(|position| moves(position).as_slice().len() == count)
-        .map(|position| position.keyed())
+        .map(|Position { man, side, white_king, man_square, black_king }| {
+            [man.code(), side.code(), white_king, man_square, black_king, Side::White.code()]
+        })
         .collect();
     let apart = found.len().div_ceil(8).max(1);
     found.into_iter().step_by(apart).collect()
 }
 
-fn chosen_groups(groups: &mut Vec<BTreeSet<Keyed>>) {
-    groups.push(CHOSEN.iter().filter_map(|line| read_position(line.as_bytes()).ok()).collect());
-    let keyed = |&[man, side, white_king, man_square, black_king]: &[u8; 5]| Keyed {
-        man,
-        side,
-        white_king,
-        man_square,
-        black_king,
-    };
-    groups.push(REFUSED.iter().map(keyed).collect());
+/// A position line as a sample line.
+pub fn line_of(text: &str) -> Option<Line> {
+    let Keyed { side, white_king, black_king, men } = read_position(text.as_bytes()).ok()?;
+    men[0].map(|man| [man.kind, side, white_king, man.square, black_king, man.colour])
 }
 
-/// The groups in order; a line is written in the first group that holds it, and the
-/// lines of a group rise.
-pub fn lines() -> Vec<Keyed> {
+fn chosen_groups() -> [BTreeSet<Line>; 2] {
+    let white = |&[man, side, white_king, square, black_king]: &[u8; 5]| {
+        [man, side, white_king, square, black_king, Side::White.code()]
+    };
+    [CHOSEN.iter().filter_map(|text| line_of(text)).collect(), REFUSED.iter().map(white).collect()]
+}
+
+/// Each line once, in the first group that holds it; the lines of a group rise.
+fn distinct(groups: Vec<BTreeSet<Line>>) -> Vec<Line> {
+    let mut seen = BTreeSet::new();
+    groups.into_iter().flatten().filter(|&line| seen.insert(line)).collect()
+}
+
+fn white_groups() -> Vec<BTreeSet<Line>> {
     let mut sequence = Sequence(2049);
-    let mut groups = Vec::new();
-    chosen_groups(&mut groups);
+    let mut groups = Vec::from(chosen_groups());
     for man in MEN {
         groups.push(with_moves(man, Side::Black, 0));
         groups.push(with_moves(man, Side::Black, 1));
         let most = [35, 22, 21, 16][man.code() as usize & 3];
         groups.push(with_moves(man, Side::White, most));
     }
-    for man in MEN {
+    for man in MEN.map(|man| (man, Side::White)) {
         for side in SIDES {
             groups.extend((0..5).map(|manner| drawn_legal(&mut sequence, man, side, manner)));
         }
     }
     groups.extend((1..=6).map(|refusal| drawn_refused(&mut sequence, refusal)));
-    let mut seen = BTreeSet::new();
-    groups.into_iter().flatten().filter(|&keyed| seen.insert(keyed)).collect()
+    groups
+}
+
+/// Lines with White's man.
+pub fn white_lines() -> Vec<Line> {
+    distinct(white_groups())
+}
+
+/// The man is Black's and nothing else is exchanged.
+fn recoloured([man, side, white_king, square, black_king, _]: Line) -> Line {
+    [man, side, white_king, square, black_king, Side::Black.code()]
+}
+
+/// Colours, kings and side to move are exchanged.
+pub fn exchanged([man, side, white_king, square, black_king, _]: Line) -> Line {
+    let other = Side::from_code(side).map_or(side, |side| side.other().code());
+    [man, other, black_king, square, white_king, Side::Black.code()]
+}
+
+/// White's lines, and then such as have a man of Black's, or of neither side.
+pub fn lines() -> Vec<Line> {
+    let mut sequence = Sequence(9);
+    let mut groups = white_groups();
+    for group in chosen_groups() {
+        groups.push(group.iter().copied().map(exchanged).collect());
+        groups.push(group.into_iter().map(recoloured).collect());
+    }
+    for man in MEN.map(|man| (man, Side::Black)) {
+        for side in SIDES {
+            groups.extend((0..5).map(|manner| drawn_legal(&mut sequence, man, side, manner)));
+        }
+    }
+    groups.push(WRONG_COLOURS.iter().copied().collect());
+    distinct(groups)
 }

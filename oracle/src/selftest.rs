@@ -6,7 +6,7 @@ use crate::failure::{Done, Failure};
 use crate::fill::Filled;
 use crate::fill_every;
 use crate::number::NUMBERS;
-use crate::position::{Keyed, Man, MEN};
+use crate::position::{Keyed, Man, Side, MEN, SIDES};
 use crate::{
     tests_board, tests_check_digits, tests_desk, tests_games, tests_number, tests_pocket,
     tests_search, tests_set, tests_steps, tests_table,
@@ -43,16 +43,18 @@ pub fn expect(right: bool, wrong: impl FnOnce() -> String) -> Verdict {
     }
 }
 
-/// Every position as keyed with known codes and squares on the board.
-pub fn every_keyed(man: Man) -> impl Iterator<Item = Keyed> {
-    let man = man.code();
-    (0..2u32 << 18).map(move |place| Keyed {
-        man,
-        side: (place >> 18) as u8,
-        white_king: (place >> 12 & 63) as u8,
-        man_square: (place >> 6 & 63) as u8,
-        black_king: (place & 63) as u8,
+/// Every position as keyed with one man of a colour, a known side and squares on the board.
+pub fn every_keyed_of(man: Man, colour: Side) -> impl Iterator<Item = Keyed> {
+    (0..2u32 << 18).map(move |place| {
+        let square = |first: u32| (place >> first & 63) as u8;
+        let kings = [square(12), square(0)];
+        Keyed::of_one([man.code(), colour.code(), square(6)], (place >> 18) as u8, kings)
     })
+}
+
+/// The same with the man of either side.
+pub fn every_keyed(man: Man) -> impl Iterator<Item = Keyed> {
+    SIDES.into_iter().flat_map(move |colour| every_keyed_of(man, colour))
 }
 
 /// Runs all tests; a fault makes the program end with status 1.

@@ -2,15 +2,19 @@
 
 use crate::number::number;
 use crate::plain;
-use crate::position::{Keyed, Position, Refused, Side, MEN};
+use crate::position::{Keyed, KeyedMan, Position, Refused, Side, MEN};
 use crate::rules::{in_check, legal_position, moves, play, Move, MOST_MOVES};
-use crate::samples::{self, Sequence};
-use crate::selftest::{every_keyed, expect, Test, Truth, Verdict};
+use crate::samples::{self, Line, Sequence};
+use crate::selftest::{every_keyed, every_keyed_of, expect, Test, Truth, Verdict};
 use crate::symmetry::{mapped, position_mapped};
 
 pub const TESTS: &[Test] = &[
     ("the eight maps are eight, and two in turn make one of them", maps_compose),
-    ("the lowest refusal counts, on 400,000 raw lines", lowest_refusal),
+    ("the lowest refusal counts, on 400,000 raw records of up to two men", lowest_refusal),
+    (
+        "one man is legal or refused as a plain reading says, on every board of both colours",
+        boards_plain,
+    ),
     (
         "legal moves, what they take, and check are a plain reading's on every legal position",
         moves_plain,
@@ -19,7 +23,7 @@ pub const TESTS: &[Test] = &[
     ("there are at most 35 moves, 35 occur, and unused places hold a plain a1 to a1", most_moves),
     ("a mapped position has the mapped moves, on 20,000 positions", moves_mapped),
     ("a move leads to a position that can be placed and is legal", moves_lead),
-    ("the sample lines are 450 or more, distinct, with every refusal", sample_lines),
+    ("the sample lines are 450 or more, distinct, with every refusal and colour", sample_lines),
 ];
 
 fn maps_compose(_: &Truth) -> Verdict {
@@ -36,18 +40,21 @@ fn maps_compose(_: &Truth) -> Verdict {
     Ok(())
 }
 
+/// Bytes that are more often right than not, and most often one man in the first place.
 fn raw_keyed(sequence: &mut Sequence) -> Keyed {
     let mut byte = |right: u64| match sequence.below(12) {
         0 => sequence.below(256) as u8,
         _ => sequence.below(right) as u8,
     };
-    Keyed {
-        man: byte(4),
-        side: byte(2),
-        white_king: byte(64),
-        man_square: byte(64),
-        black_king: byte(64),
-    }
+    let mut man = || Some(KeyedMan { kind: byte(4), colour: byte(2), square: byte(64) });
+    let pair = [man(), man()];
+    let men = match byte(16) {
+        0 => [None, None],
+        1 => [None, pair[1]],
+        2 | 3 => pair,
+        _ => [pair[0], None],
+    };
+    Keyed { side: byte(2), white_king: byte(64), black_king: byte(64), men }
 }
 
 fn lowest_refusal(_: &Truth) -> Verdict {
@@ -65,10 +72,21 @@ fn lowest_refusal(_: &Truth) -> Verdict {
     Ok(())
 }
 
-/// Every legal position of every man, all 64 squares.
-fn on_every_legal(mut test: impl FnMut(&Position) -> Verdict) -> Verdict {
+fn boards_plain(_: &Truth) -> Verdict {
     for man in MEN {
         for keyed in every_keyed(man) {
+            let found = legal_position(&keyed).err();
+            let lowest = plain::lowest_refusal(&keyed).map(Refused);
+            expect(found == lowest, || format!("{keyed:?}: {found:?}, not {lowest:?}"))?;
+        }
+    }
+    Ok(())
+}
+
+/// Every legal position of every man of White's, all 64 squares.
+fn on_every_legal(mut test: impl FnMut(&Position) -> Verdict) -> Verdict {
+    for man in MEN {
+        for keyed in every_keyed_of(man, Side::White) {
             if let Ok(position) = legal_position(&keyed) {
                 test(&position)?;
             }
@@ -82,12 +100,18 @@ fn listed(position: &Position) -> Vec<(u8, u8, bool)> {
     moves(position).as_slice().iter().map(|m| (m.from, m.to, m.takes)).collect()
 }
 
+/// With the man of either side: the plain reading exchanges nothing.
 fn moves_plain(_: &Truth) -> Verdict {
-    on_every_legal(|position| {
-        expect(listed(position) == plain::moves(position), || format!("moves of {position:?}"))?;
-        let check = plain::side_in_check(position);
-        expect(in_check(position) == check, || format!("check in {position:?}"))
-    })
+    for man in MEN {
+        for keyed in every_keyed(man) {
+            let Ok(position) = legal_position(&keyed) else { continue };
+            let right = listed(&position) == plain::moves(&keyed);
+            expect(right, || format!("moves of {keyed:?}"))?;
+            let check = plain::side_in_check(&keyed);
+            expect(in_check(&position) == check, || format!("check in {keyed:?}"))?;
+        }
+    }
+    Ok(())
 }
 
 /// Only Black's king can take, and only the man: never a king.
@@ -153,15 +177,19 @@ fn moves_lead(_: &Truth) -> Verdict {
 }
 
 fn sample_lines(_: &Truth) -> Verdict {
-    let lines = samples::lines();
+    let (white, lines) = (samples::white_lines(), samples::lines());
     let mut distinct = lines.clone();
     distinct.sort();
     distinct.dedup();
-    let enough = lines.len() >= 450 && distinct.len() == lines.len();
+    let enough = white.len() >= 450 && distinct.len() == lines.len() && lines.starts_with(&white);
     expect(enough, || format!("{} lines, {} distinct", lines.len(), distinct.len()))?;
-    for refusal in 1..=6 {
-        let count = lines.iter().filter(|keyed| legal_position(keyed) == Err(Refused(refusal)));
-        expect(count.count() >= 10, || format!("too few lines refused {refusal}"))?;
+    for part in [&white[..], &lines[white.len()..]] {
+        for refusal in 1..=6 {
+            let refused =
+                |&&line: &&Line| legal_position(&samples::keyed_of(line)) == Err(Refused(refusal));
+            let count = part.iter().filter(refused).count();
+            expect(count >= 10, || format!("{count} lines refused {refusal}"))?;
+        }
     }
     Ok(())
 }

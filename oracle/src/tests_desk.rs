@@ -2,12 +2,13 @@
 
 use std::io::{self, Read};
 
+use crate::board;
 use crate::cases::{answer, CASES, RUN_INPUT, RUN_OUTPUT};
 use crate::desk;
-use crate::position::MEN;
+use crate::position::{Keyed, Man, Side, MEN};
 use crate::rule::Value;
 use crate::rules::Move;
-use crate::selftest::{every_keyed, expect, Test, Truth, Verdict};
+use crate::selftest::{every_keyed, every_keyed_of, expect, Test, Truth, Verdict};
 use crate::table::{look_up, Answer};
 
 pub const TESTS: &[Test] = &[
@@ -17,6 +18,7 @@ pub const TESTS: &[Test] = &[
     ("the desk answers each odd line as 01 and 02 say", odd_lines),
     ("the desk takes lines of any length, and ends each answer in a newline", whole_inputs),
     ("each slip read back is its answer, `x` and all, on every legal position", slips_read_back),
+    ("exchanging the colours leaves the slip as it is, on every board", slips_exchanged),
 ];
 
 fn desk_on(input: impl Read) -> Result<String, String> {
@@ -89,7 +91,20 @@ const ODD_LINES: &[(&str, &str)] = &[
     ("Q w b3 h2 a ", "refused 12"),
     ("X y z9 z9 z ", "refused 12"),
     ("P y z9 z9 z9", "refused 1"),
-    ("q w b3 h2 a1", "refused 1"),
+    // 01's run with Black's man: colours, kings and side exchanged.
+    ("q b a1 h2 b3", "win 1 h2g1"),
+    ("q w a1 b2 b3", "loss 0"),
+    ("q w a1 b3 e5", "draw"),
+    ("q w a1 b2 h8", "draw a1xb2"),
+    ("q b a1 b2 b3", "refused 6"),
+    ("r w a1 h1 a3", "loss 0"),
+    ("n w a1 c3 b3", "draw"),
+    ("p b a1 h2 b3", "refused 1"),
+    ("k w b3 h2 a1", "refused 1"),
+    ("q x b3 h2 a1", "refused 2"),
+    ("r w b3 h9 a1", "refused 3"),
+    ("b w b3 b3 a1", "refused 4"),
+    ("n w b2 a8 a1", "refused 5"),
     ("K w b3 h2 a1", "refused 1"),
     ("\0 w b3 h2 a1", "refused 1"),
     ("Q W b3 h2 a1", "refused 2"),
@@ -135,6 +150,12 @@ const ODD_LINES: &[(&str, &str)] = &[
     ("Q # 0003202", "w a1 a5 c1"),
     ("Q # 0006597", "w a1 b1 d1"),
     ("q # 0204962", "refused 1"),
+    ("r # 0205641", "refused 1"),
+    ("b # 9999925", "refused 1"),
+    ("n # 5913606", "refused 1"),
+    ("q # 0204963", "refused 13"),
+    ("n # 020496x", "refused 12"),
+    ("r # 02049", "refused 12"),
     ("P # 0204962", "refused 1"),
     ("P # 9999925", "refused 1"),
     ("P # 0205641", "refused 1"),
@@ -221,4 +242,29 @@ fn slips_read_back(truth: &Truth) -> Verdict {
         }
     }
     expect(taking > 0, || "no slip takes".to_string())
+}
+
+/// A position line, as an arbiter keys it.
+fn line_of(man: Man, keyed: &Keyed) -> Option<String> {
+    let Keyed { side, white_king, black_king, men } = *keyed;
+    let (first, letter) = (men[0]?, man.letter() as char);
+    let letter = if first.colour == 0 { letter } else { letter.to_ascii_lowercase() };
+    let squares = [white_king, first.square, black_king].map(board::name).join(" ");
+    Some(format!("{letter} {} {squares}\n", Side::from_code(side)?.letter()))
+}
+
+fn slips_exchanged(_: &Truth) -> Verdict {
+    for man in MEN {
+        let keyed = || every_keyed_of(man, Side::White);
+        let lines: Option<String> = keyed().map(|keyed| line_of(man, &keyed)).collect();
+        let others: Option<String> =
+            keyed().map(|keyed| line_of(man, &keyed.exchanged())).collect();
+        let (Some(lines), Some(others)) = (lines, others) else {
+            return Err("a board has no line".to_string());
+        };
+        let (slips, other_slips) = (desk_on(lines.as_bytes())?, desk_on(others.as_bytes())?);
+        let unlike = slips.lines().zip(other_slips.lines()).position(|(one, other)| one != other);
+        expect(slips == other_slips, || format!("{}, line {unlike:?}", man.name()))?;
+    }
+    Ok(())
 }

@@ -1,7 +1,8 @@
 //! Self tests of whole games: the desk's moves against any replies.
 
 use crate::number::{position_of, NUMBERS};
-use crate::position::{Position, Side, MEN, SIDES};
+use crate::plain::{self, PlainMove};
+use crate::position::{Keyed, Position, Side, MEN, SIDES};
 use crate::rule::{Value, MATED};
 use crate::rules::{in_check, legal_position, moves, play, Move};
 use crate::samples::Sequence;
@@ -13,7 +14,11 @@ pub const TESTS: &[Test] = &[
         "desk against desk: mate after exactly the plies called, from every decided number",
         desk_games,
     ),
-    ("desk against any replies: what was called is kept, in 16,000 games", any_replies),
+    (
+        "desk against any replies, by a plain reading and with both colours: what was called is \
+         kept, in 16,000 games",
+        any_replies,
+    ),
 ];
 
 /// How a game ended, and after how many plies.
@@ -22,6 +27,8 @@ enum Ending {
     Mated(Side, u32),
     Drawn,
     BrokenOff,
+    /// A move was played that is none.
+    NoMove,
 }
 
 /// No depth is as great, so a game still open then is nobody's win.
@@ -77,7 +84,7 @@ fn desk_games(truth: &Truth) -> Verdict {
 fn kept(value: Value, desk: Side, ending: &Ending) -> bool {
     match (value, ending) {
         (Value::Win(depth), Ending::Mated(side, plies)) => *side != desk && *plies <= depth as u32,
-        (Value::Win(_), _) => false,
+        (_, Ending::NoMove) | (Value::Win(_), _) => false,
         (Value::Loss(depth), Ending::Mated(side, plies)) => *side != desk || *plies >= depth as u32,
         (Value::Draw, Ending::Mated(side, _)) => *side != desk,
         _ => true,
@@ -85,12 +92,38 @@ fn kept(value: Value, desk: Side, ending: &Ending) -> bool {
 }
 
 /// The value called for one side, whoever is to move.
-fn called_for(desk: Side, position: &Position, value: Value) -> Value {
+fn called_for(desk: Side, to_move: Side, value: Value) -> Value {
     match value {
-        Value::Win(depth) if position.side != desk => Value::Loss(depth),
-        Value::Loss(depth) if position.side != desk => Value::Win(depth),
+        Value::Win(depth) if to_move != desk => Value::Loss(depth),
+        Value::Loss(depth) if to_move != desk => Value::Win(depth),
         _ => value,
     }
+}
+
+fn to_move(keyed: &Keyed) -> Side {
+    SIDES[keyed.side as usize & 1]
+}
+
+/// A game on the record as keyed, by the plain reading of the Laws: nothing is exchanged.
+fn plain_game(
+    start: &Keyed,
+    mut choose: impl FnMut(&Keyed, &[PlainMove]) -> Option<PlainMove>,
+) -> Ending {
+    let mut keyed = *start;
+    for plies in 0..LONGEST {
+        let list = plain::moves(&keyed);
+        if list.is_empty() && plain::side_in_check(&keyed) {
+            return Ending::Mated(to_move(&keyed), plies);
+        }
+        if list.is_empty() || keyed.men == [None, None] {
+            return Ending::Drawn;
+        }
+        match choose(&keyed, &list) {
+            Some(chosen) if list.contains(&chosen) => keyed = plain::after(&keyed, chosen),
+            _ => return Ending::NoMove,
+        }
+    }
+    Ending::BrokenOff
 }
 
 fn any_replies(truth: &Truth) -> Verdict {
@@ -101,19 +134,20 @@ fn any_replies(truth: &Truth) -> Verdict {
             every_keyed(man).filter(|keyed| legal_position(keyed).is_ok()).collect();
         for turn in 0..4_000 {
             let keyed = starts[sequence.below(starts.len() as u64) as usize % starts.len()];
-            let Ok(start) = legal_position(&keyed) else { continue };
-            let Ok(answer) = look_up(table, &keyed) else { continue };
+            let Ok(answer) = look_up(table, &keyed) else {
+                return Err(format!("{keyed:?} is refused"));
+            };
             let desk = SIDES[turn % 2];
-            let ending = game(&start, |now| {
-                let list = moves(now);
-                let any = sequence.below(list.as_slice().len() as u64) as usize;
-                if now.side == desk {
-                    desk_move(table, now)
+            let ending = plain_game(&keyed, |now, list| {
+                let any = sequence.below(list.len() as u64) as usize;
+                if to_move(now) == desk {
+                    let best = look_up(table, now).ok()?.best?;
+                    Some((best.from, best.to, best.takes))
                 } else {
-                    list.as_slice().get(any).copied()
+                    list.get(any).copied()
                 }
             });
-            let right = kept(called_for(desk, &start, answer.value), desk, &ending);
+            let right = kept(called_for(desk, to_move(&keyed), answer.value), desk, &ending);
             expect(right, || format!("{keyed:?} for {desk:?}: {:?}, {ending:?}", answer.value))?;
         }
     }

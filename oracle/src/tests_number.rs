@@ -4,12 +4,12 @@ use crate::board::{above_diagonal, file, on_diagonal, rank};
 use crate::counts::numbering;
 use crate::index;
 use crate::number::{
-    back, normalised, number_of, position_of, NUMBERS, PAIR, PAIRS, WHITE_SQUARES,
+    back, normalised, number, number_of, position_of, NUMBERS, PAIR, PAIRS, WHITE_SQUARES,
 };
-use crate::position::{Man, Position, Refused, MEN};
+use crate::position::{Keyed, KeyedMan, Man, Position, Refused, Side, MEN};
 use crate::samples::Sequence;
-use crate::selftest::{every_keyed, expect, Test, Truth, Verdict};
-use crate::symmetry::position_mapped;
+use crate::selftest::{every_keyed_of, expect, Test, Truth, Verdict};
+use crate::symmetry::{mapped, position_mapped};
 
 pub const TESTS: &[Test] = &[
     ("462 pairs, with 01's rows `Black squares` and `First pair`", pair_rows),
@@ -17,7 +17,11 @@ pub const TESTS: &[Test] = &[
     ("numbering back refuses 1, 8 and 9 in that order", back_refusals),
     ("number(back(n)) = n for every used n", number_of_back),
     ("one image of the eight is numbered, all have its number, and classes cover all", classes),
-    ("same number exactly when one of eight maps, on 40,000 pairs", same_number),
+    (
+        "same number exactly when one of eight maps, with or without the exchange of colours, on \
+         60,000 pairs",
+        same_number,
+    ),
     ("the fills' prepared numbering is the plain one everywhere", prepared_numbering),
 ];
 
@@ -118,41 +122,60 @@ fn classes(_: &Truth) -> Verdict {
     Ok(())
 }
 
-/// A pair of positions: any two, one mapped, or a near miss with one square changed.
-fn pair_of_positions(sequence: &mut Sequence, turn: u64) -> Option<(Position, Position)> {
+/// A record's images under the eight maps, with and without the exchange of colours.
+fn images_as_keyed(keyed: &Keyed) -> Vec<Keyed> {
+    let image = |map: u8, of: &Keyed| Keyed {
+        side: of.side,
+        white_king: mapped(map, of.white_king),
+        black_king: mapped(map, of.black_king),
+        men: of.men.map(|man| man.map(|m| KeyedMan { square: mapped(map, m.square), ..m })),
+    };
+    let exchanged = keyed.exchanged();
+    (0..8).flat_map(|map| [image(map, keyed), image(map, &exchanged)]).collect()
+}
+
+/// A pair of records: any two, one mapped and perhaps exchanged, or a near miss with a square, the
+/// side, or the colours of side and man changed.
+fn pair_as_keyed(sequence: &mut Sequence, turn: u64) -> Option<(Keyed, Keyed)> {
     let man = MEN[sequence.below(4) as usize & 3];
     let mut drawn = || position_of(man, sequence.below(NUMBERS as u64) as usize);
-    let (one, mut other) = (drawn()?, drawn()?);
-    let manner = turn % 4;
+    let (one, mut other) = (drawn()?.keyed(), drawn()?.keyed());
+    let manner = turn % 6;
     if manner > 0 {
-        other = position_mapped(sequence.below(8) as u8, &one);
+        other = images_as_keyed(&one)[sequence.below(16) as usize & 15];
     }
-    if manner == 2 {
-        other.man_square = sequence.square();
+    let [Some(first), None] = &mut other.men else { return None };
+    match manner {
+        2 => first.square = sequence.square(),
+        3 => other.black_king = sequence.square(),
+        4 => other.side ^= 1,
+        5 => {
+            first.colour ^= 1;
+            other.side ^= 1;
+        }
+        _ => {}
     }
-    if manner == 3 {
-        other.black_king = sequence.square();
-    }
-    Some((one, other.keyed().placed().ok()?))
+    other.placed().ok()?;
+    Some((one, other))
 }
 
 fn same_number(_: &Truth) -> Verdict {
     let mut sequence = Sequence(8);
     let (mut tried, mut alike) = (0u64, 0u64);
-    while tried < 40_000 {
-        let Some((one, other)) = pair_of_positions(&mut sequence, tried) else { continue };
+    while tried < 60_000 {
+        let Some((one, other)) = pair_as_keyed(&mut sequence, tried) else { continue };
         tried += 1;
-        let mapped = images(&one).contains(&other);
-        alike += mapped as u64;
-        let same = number_of(&one) == number_of(&other);
-        expect(same == mapped, || format!("{one:?} and {other:?}"))?;
+        let image = images_as_keyed(&one).contains(&other);
+        alike += image as u64;
+        let same = number(&one) == number(&other);
+        expect(same == image, || format!("{one:?} and {other:?}"))?;
     }
     expect(alike > 10_000 && alike < 30_000, || format!("{alike} pairs alike"))
 }
 
 fn prepared_numbering(_: &Truth) -> Verdict {
     for man in MEN {
-        for keyed in every_keyed(man) {
+        for keyed in every_keyed_of(man, Side::White) {
             let Ok(position) = keyed.placed() else { continue };
             let same = index::number_of(&position) == number_of(&position);
             expect(same, || format!("{position:?}"))?;

@@ -138,7 +138,7 @@ fn reads_one_entry(_: &Truth) -> Verdict {
 }
 
 fn look_up_refusals(_: &Truth) -> Verdict {
-    for keyed in samples::lines() {
+    for keyed in samples::lines().into_iter().map(samples::keyed_of) {
         let lowest = legal_position(&keyed).err();
         for length in [0, POCKET_BYTES - 1, POCKET_BYTES + 1, NUMBERS] {
             let found = look_up(&vec![85; length], &keyed);

@@ -2,18 +2,20 @@
 
 use crate::desk::read_position;
 use crate::number::{position_of, NUMBERS};
+use crate::plain;
 use crate::position::{Man, Position, Refused, MEN};
 use crate::rule::{value, Value};
 use crate::rules::{legal, legal_position};
 use crate::samples::{self, Sequence};
 use crate::search::{lost_within, opinion, search, won_within, Opinion};
-use crate::selftest::{expect, Test, Truth, Verdict};
+use crate::selftest::{every_keyed, expect, Test, Truth, Verdict};
 use crate::symmetry::position_mapped;
 
 pub const TESTS: &[Test] = &[
     ("the search within 0 to 3 plies is the table's on every used number", search_all),
     ("the search within 4, 5 and 6 plies is the table's, and 6 plies occur", search_sample),
     ("won within and lost within grow with the plies, and never both hold", within_grows),
+    ("the search within 0 to 2 plies is a plain reading's, with both colours", search_plain),
     ("the search refuses 1 to 6, then 16 for more than 6 plies", search_refusals),
 ];
 
@@ -81,8 +83,22 @@ fn within_grows(_: &Truth) -> Verdict {
     Ok(())
 }
 
+/// The plain reading plays on the record's own colours.
+fn search_plain(_: &Truth) -> Verdict {
+    let mut decided = 0;
+    for man in MEN {
+        for keyed in every_keyed(man).step_by(53) {
+            let Ok(found) = search(&keyed, 2) else { continue };
+            let due = plain::opinion(&keyed, 2);
+            decided += (due != Opinion::NotWithin) as u32;
+            expect(found == due, || format!("{keyed:?}: {found:?}, not {due:?}"))?;
+        }
+    }
+    expect(decided > 0, || "no depth was found".to_string())
+}
+
 fn search_refusals(_: &Truth) -> Verdict {
-    for keyed in samples::lines() {
+    for keyed in samples::lines().into_iter().map(samples::keyed_of) {
         let lowest = legal_position(&keyed).err();
         for plies in [0, 1, 7, 8, 128, 255] {
             let found = search(&keyed, plies).err();

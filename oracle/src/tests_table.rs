@@ -4,6 +4,7 @@ use crate::counts::byte_counts;
 use crate::fill_back;
 use crate::fill_every;
 use crate::number::{number_of, position_of, NUMBERS};
+use crate::plain;
 use crate::position::{Keyed, Man, Position, Refused, Side, MEN};
 use crate::retract::retractions;
 use crate::rule::{value, Value, DRAW, GREATEST_DEPTH, MATED};
@@ -23,6 +24,7 @@ pub const TESTS: &[Test] = &[
     ("checking names the lowest wrong number after each of 3,000 damages", check_damage),
     ("a depth above 253: every byte is wrong, and refused 11 at look-up", too_deep),
     ("look-up is refused on no legal position, and its answer is the byte's", look_up_all),
+    ("with both colours each value is the one 01's words give of those after it", values_plain),
     ("look-up refuses 1 to 6 before 7", look_up_refusals),
 ];
 
@@ -88,17 +90,12 @@ fn rook_counts(truth: &Truth) -> Verdict {
     expect(draws == 2796, || format!("{draws} draws"))
 }
 
-/// The sentences of 01 on values, followed one by one.
-fn plainly_required(table: &Table, position: &Position) -> Option<u8> {
-    let after = |&chosen: &Move| match play(position, chosen) {
-        Some(next) => value(table[number_of(&next)]),
-        None => Value::Draw,
-    };
-    let values: Vec<Value> = moves(position).as_slice().iter().map(after).collect();
+/// The sentences of 01 on values, followed one by one: the byte for the values after each move.
+fn byte_after(values: &[Value], in_check: bool) -> Option<u8> {
     let losses = values.iter().filter_map(|&v| if let Value::Loss(n) = v { Some(n) } else { None });
     let wins = values.iter().filter_map(|&v| if let Value::Win(n) = v { Some(n) } else { None });
     let depth = if values.is_empty() {
-        if !in_check(position) {
+        if !in_check {
             return Some(DRAW);
         }
         0
@@ -110,6 +107,15 @@ fn plainly_required(table: &Table, position: &Position) -> Option<u8> {
         return Some(DRAW);
     };
     (depth <= 253).then(|| depth as u8 + 2)
+}
+
+fn plainly_required(table: &Table, position: &Position) -> Option<u8> {
+    let after = |&chosen: &Move| match play(position, chosen) {
+        Some(next) => value(table[number_of(&next)]),
+        None => Value::Draw,
+    };
+    let values: Vec<Value> = moves(position).as_slice().iter().map(after).collect();
+    byte_after(&values, in_check(position))
 }
 
 fn plain_rule(_: &Truth) -> Verdict {
@@ -242,18 +248,44 @@ fn look_up_all(truth: &Truth) -> Verdict {
     Ok(())
 }
 
+/// The value after a move on the record as keyed, by look-up; bare kings are a draw.
+fn value_after(table: &[u8], keyed: &Keyed, chosen: plain::PlainMove) -> Option<Value> {
+    let next = plain::after(keyed, chosen);
+    if next.men == [None, None] {
+        return Some(Value::Draw);
+    }
+    look_up(table, &next).ok().map(|answer| answer.value)
+}
+
+/// Moves, check and the record after a move are the plain reading's: nothing is exchanged here.
+fn values_plain(truth: &Truth) -> Verdict {
+    for man in MEN {
+        let table = truth.table(man);
+        for keyed in every_keyed(man).step_by(7) {
+            let Ok(answer) = look_up(table, &keyed) else { continue };
+            let list = plain::moves(&keyed);
+            let values: Option<Vec<Value>> =
+                list.iter().map(|&chosen| value_after(table, &keyed, chosen)).collect();
+            let Some(values) = values else {
+                return Err(format!("a move from {keyed:?} leads to a refusal"));
+            };
+            let due = byte_after(&values, plain::side_in_check(&keyed)).map(value);
+            expect(due == Some(answer.value), || format!("{keyed:?}: {answer:?}, not {due:?}"))?;
+            let best = answer.best.map(|best| (best.from, best.to, best.takes));
+            let listed = best.is_none_or(|best| list.contains(&best));
+            expect(listed && best.is_none() == list.is_empty(), || format!("{keyed:?}: {best:?}"))?;
+        }
+    }
+    Ok(())
+}
+
 fn look_up_refusals(truth: &Truth) -> Verdict {
     let mut sequence = Sequence(7);
     let table = truth.table(Man::Queen);
     for _ in 0..10_000 {
         let mut byte = |end| sequence.below(end) as u8;
-        let keyed = Keyed {
-            man: byte(6),
-            side: byte(3),
-            white_king: byte(68),
-            man_square: byte(68),
-            black_king: byte(68),
-        };
+        let man = [byte(6), byte(3), byte(68)];
+        let keyed = Keyed::of_one(man, byte(3), [byte(68), byte(68)]);
         let lowest = legal_position(&keyed).err();
         for length in [0, NUMBERS - 1] {
             let answer = look_up(&table[..length], &keyed).err();

@@ -1,9 +1,9 @@
 //! One word for what three programs say of a position: the library, the oracle and Gaviota.
 
 use gaviota::{Gaviota, Probed};
-use second::position::{Keyed as SecondKeyed, Refused};
+use second::position::{Keyed as SecondKeyed, KeyedMan as SecondMan, Refused};
 use second::rule::Value as SecondValue;
-use sledgewren::{Keyed, Man, Refusal, Side, Table, Value};
+use sledgewren::{Keyed, KeyedMan, Man, Refusal, Side, Table, Value};
 
 /// What is said of three different squares with the kings apart.
 #[derive(Clone, Copy, PartialEq, Eq, Debug)]
@@ -49,23 +49,32 @@ impl Judges<'_> {
 }
 
 fn second_keyed(keyed: Keyed) -> SecondKeyed {
-    let Keyed { man, side, white_king, man_square, black_king } = keyed;
-    SecondKeyed { man, side, white_king, man_square, black_king }
+    let Keyed { side, white_king, black_king, men } = keyed;
+    let men = men
+        .map(|man| man.map(|KeyedMan { kind, colour, square }| SecondMan { kind, colour, square }));
+    SecondKeyed { side, white_king, black_king, men }
 }
 
-/// Gaviota counts plies to mate; White mates with White to move is a win, else a loss.
+/// Gaviota counts plies to mate: by the side to move it is a win, by the other one a loss. Only the
+/// man's side can mate.
 pub fn gaviota_says(gaviota: &Gaviota, keyed: Keyed) -> Judged {
-    let Keyed { man, side, white_king, man_square, black_king } = keyed;
-    let white = side == Side::White.code();
-    match gaviota.probe(man, side, white_king, man_square, black_king) {
-        Probed::Forbidden => Judged::Illegal,
-        Probed::Draw => Judged::Legal(Value::Draw),
-        Probed::WhiteMates(plies) => match u8::try_from(plies) {
-            Ok(depth) if white && depth % 2 == 1 => Judged::Legal(Value::Win(depth)),
-            Ok(depth) if !white && depth % 2 == 0 => Judged::Legal(Value::Loss(depth)),
-            _ => Judged::Strange,
-        },
-        Probed::BlackMates(_) | Probed::Unknown => Judged::Strange,
+    let Keyed { side, white_king, black_king, men: [Some(man), None] } = keyed else {
+        return Judged::Strange;
+    };
+    let KeyedMan { kind, colour, square } = man;
+    let (mating, plies) =
+        match gaviota.probe([kind, colour, square], side, [white_king, black_king]) {
+            Probed::Forbidden => return Judged::Illegal,
+            Probed::Draw => return Judged::Legal(Value::Draw),
+            Probed::WhiteMates(plies) => (Side::White.code(), plies),
+            Probed::BlackMates(plies) => (Side::Black.code(), plies),
+            Probed::Unknown => return Judged::Strange,
+        };
+    match u8::try_from(plies) {
+        _ if mating != colour => Judged::Strange,
+        Ok(depth) if mating == side && depth % 2 == 1 => Judged::Legal(Value::Win(depth)),
+        Ok(depth) if mating != side && depth % 2 == 0 => Judged::Legal(Value::Loss(depth)),
+        _ => Judged::Strange,
     }
 }
 
@@ -74,17 +83,11 @@ pub fn placed(keyed: Keyed) -> bool {
     second_keyed(keyed).placed().is_ok()
 }
 
-/// Everything that can be keyed with a man and a side on the board.
-pub fn all_keyed(man: Man, side: Side) -> impl Iterator<Item = Keyed> {
-    (0..64).flat_map(move |white_king| {
-        (0..64).flat_map(move |man_square| {
-            (0..64).map(move |black_king| Keyed {
-                man: man.code(),
-                side: side.code(),
-                white_king,
-                man_square,
-                black_king,
-            })
-        })
+/// Everything that can be keyed with a man of a colour and a side on the board.
+pub fn all_keyed(man: Man, colour: Side, side: Side) -> impl Iterator<Item = Keyed> {
+    let [man, colour, side] = [man.code(), colour.code(), side.code()];
+    (0..64u32.pow(3)).map(move |place| {
+        let square = |first: u32| (place >> first & 63) as u8;
+        Keyed::from([man, side, square(12), square(6), square(0), colour])
     })
 }

@@ -49,31 +49,40 @@ fn ending(man: Man) -> Result<Ending, String> {
 
 /// Every position against Gaviota, and the greatest depths against document 000.
 fn compare_positions(gaviota: &Gaviota, endings: &[Ending], sum: &mut Sum) {
-    print!("| Ending | To move | Legal | Illegal | Library differs | Oracle differs ");
+    print!("| Ending | Man's side | To move | Legal | Illegal | Library differs | Oracle differs ");
     println!("| Greatest, plies | Moves | Document 000 |");
-    println!("|---|---|---|---|---|---|---|---|---|");
-    for Ending { man, library, oracle } in endings {
-        let judges = Judges { gaviota, library, oracle };
-        for side in Side::ALL {
-            let tally = positions::compare(&judges, *man, side);
-            sum.add(tally.compared(), tally.differ());
-            sum.legal += tally.legal;
-            let ours = [depths::greatest(library.bytes(), side), depths::greatest(oracle, side)];
-            let printed = depths::printed(*man, side);
-            let depths = [ours[0], ours[1], tally.deepest].map(depths::moves);
-            sum.add(3, depths.iter().filter(|&&depth| depth != printed).count() as u64);
-            println!(
-                "| {man} | {side} | {} | {} | {} | {} | {} | {} | {} |",
-                tally.legal,
-                tally.illegal,
-                tally.library_differs,
-                tally.oracle_differs,
-                depths::text(tally.deepest),
-                depths::text(depths::moves(tally.deepest)),
-                depths::text(printed),
-            );
+    println!("|---|---|---|---|---|---|---|---|---|---|");
+    for ending in endings {
+        for colour in Side::ALL {
+            for side in Side::ALL {
+                compare_side(gaviota, ending, colour, side, sum);
+            }
         }
     }
+}
+
+/// One row: an ending, the man's colour and the side to move.
+fn compare_side(gaviota: &Gaviota, ending: &Ending, colour: Side, side: Side, sum: &mut Sum) {
+    let Ending { man, library, oracle } = ending;
+    let tally = positions::compare(&Judges { gaviota, library, oracle }, *man, colour, side);
+    sum.add(tally.compared(), tally.differ());
+    sum.legal += tally.legal;
+    // The table's half and document 000's row are those of the position with White's man.
+    let half = if colour == Side::White { side } else { side.other() };
+    let ours = [depths::greatest(library.bytes(), half), depths::greatest(oracle, half)];
+    let printed = depths::printed(*man, half);
+    let depths = [ours[0], ours[1], tally.deepest].map(depths::moves);
+    sum.add(3, depths.iter().filter(|&&depth| depth != printed).count() as u64);
+    println!(
+        "| {man} | {colour} | {side} | {} | {} | {} | {} | {} | {} | {} |",
+        tally.legal,
+        tally.illegal,
+        tally.library_differs,
+        tally.oracle_differs,
+        depths::text(tally.deepest),
+        depths::text(depths::moves(tally.deepest)),
+        depths::text(printed),
+    );
 }
 
 /// Gaviota's depths as a table, judged by the library's checker and held to both fills.

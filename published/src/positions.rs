@@ -49,10 +49,11 @@ fn depth(value: Value) -> Option<u8> {
 /// Differences told one by one; the rest are only counted.
 const TOLD: u64 = 10;
 
-/// All placements of three men on different squares with the kings apart, one side to move.
-pub fn compare(judges: &Judges, man: Man, side: Side) -> Tally {
+/// All placements of three men on different squares with the kings apart, the man of one colour and
+/// one side to move.
+pub fn compare(judges: &Judges, man: Man, colour: Side, side: Side) -> Tally {
     let mut tally = Tally::default();
-    for keyed in all_keyed(man, side).filter(|&keyed| placed(keyed)) {
+    for keyed in all_keyed(man, colour, side).filter(|&keyed| placed(keyed)) {
         let published = judges.gaviota(keyed);
         let (library, oracle) = (judges.library(keyed), judges.oracle(keyed));
         let before = tally.differ();

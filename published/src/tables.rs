@@ -2,7 +2,7 @@
 
 use gaviota::Gaviota;
 use second::number::{position_of, NUMBERS};
-use second::position::{Keyed as SecondKeyed, Man as SecondMan};
+use second::position::{Man as SecondMan, Position as SecondPosition};
 use sledgewren::{Keyed, Man, Table, Value};
 
 use crate::judged::{gaviota_says, Judged};
@@ -24,8 +24,8 @@ pub fn from_gaviota(gaviota: &Gaviota, man: Man) -> Result<Table, String> {
     let mut table = Table::zeroed();
     for number in 0..NUMBERS {
         let Some(position) = position_of(second, number) else { continue };
-        let SecondKeyed { man, side, white_king, man_square, black_king } = position.keyed();
-        let keyed = Keyed { man, side, white_king, man_square, black_king };
+        let SecondPosition { side, white_king, man_square, black_king, .. } = position;
+        let keyed = Keyed::from([man.code(), side.code(), white_king, man_square, black_king]);
         table.bytes_mut()[number] = byte(gaviota_says(gaviota, keyed))?;
     }
     Ok(table)

@@ -39,7 +39,8 @@ use Rattle.stream.specs.laws.Written as streaming
 
 -- ---- demand 2: numbers
 
--- 1. Two positions of one ending that numbering does not refuse have the same number exactly when one of the board's eight maps makes one into the other.
+-- 1. Two positions of one ending that numbering does not refuse have the same number exactly when one of the board's eight maps, with the
+-- colours exchanged or not, makes one into the other.
 pub same-number : (p q : Position) → placingRefusal p ≡ 0 → placingRefusal q ≡ 0 → manKind p ≡ manKind q → (numberAnswer p ≡ numberAnswer q) ↔ SameClass p q
 same-number = numbers.same-number
 
@@ -68,9 +69,9 @@ looked-up-true = lookingUp.look-up-true
 pub one-answer : (b : Board) (a c : Answer) → TrueAnswer b a → TrueAnswer b c → a ≡ c
 one-answer = answers.one-answer
 
--- 7. The theorem about games: every list of legal moves from any legal board of an ending, in which a side plays the moves that look-up gives with an
+-- 7. The theorem about games: every list of legal moves from any legal board of an ending, the man White's or Black's, in which a side plays the moves that look-up gives with an
 -- accepted table.
-pub games : (kind : ℕ) (t : List ℕ) → checkOf kind t ≡ Checked.Accepted → (b : Board) → T (legal b) → Lone kind b → (side : Bool) (ms : List Move) → LegalGame chess b ms → Follows chess (deskMove kind t) side b ms → GamePromise kind t side b ms
+pub games : (kind : ℕ) (t : List ℕ) → checkOf kind t ≡ Checked.Accepted → (b : Board) → T (legal b) → Lone kind b → (side : Bool) (ms : List Move) → LegalGame chess b ms → Follows chess (deskMove t) side b ms → GamePromise t side b ms
 games = playing.games
 
 -- ---- the desk

@@ -13,12 +13,16 @@ use Rattle.position.specs.Keyed.{boardOf}
 use Rattle.numbering.specs.Number.{numberOf}
 use Rattle.index.specs.Answers.{positionAt, unused}
 
--- one white man of this kind besides the kings
-abbrev pub Lone : ℕ → Board → Type 0
-Lone kind b = (s : ℕ) × (b .men ≡ pieceOf kind 0 s ∷ [])
+-- one man of this kind and colour besides the kings
+abbrev pub LoneOf : ℕ → ℕ → Board → Type 0
+LoneOf kind colour b = (s : ℕ) × (b .men ≡ pieceOf kind colour s ∷ [])
 
--- "An ending is the positions with one material code" (01, "Games"): the legal boards with one white man of this kind, and the bare kings that his
--- capture leaves
+-- of either side
+abbrev pub Lone : ℕ → Board → Type 0
+Lone kind b = (colour : ℕ) × LoneOf kind colour b
+
+-- "An ending is the positions with one material code" (01, "Games"): the legal boards with one man of this kind, White's or Black's (02, P9), and the
+-- bare kings that his capture leaves
 pub record Ending (kind : ℕ) (b : Board) : Type 0 where
   pub legality : T (legal b)
   pub men : (b .men ≡ []) ⊎ Lone kind b

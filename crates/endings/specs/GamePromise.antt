@@ -11,8 +11,9 @@ use Rattle.rules.specs.declared.Piece.{Piece}
 use Rattle.rules.specs.declared.Move.{Move}
 use Rattle.rules.specs.Rules.{Board, empty}
 use Rattle.rules.specs.Chess.{chess}
+use Rattle.position.specs.declared.Slot.{Slot}
+use Rattle.position.specs.declared.Slot.the-variants.{Absent, Present}
 use Rattle.position.specs.declared.Position.{Position}
-use Rattle.position.specs.Keyed.{lone}
 use Rattle.answers.specs.declared.BestMove.{BestMove}
 use Rattle.answers.specs.declared.BestMove.the-variants.{Play, NoMove}
 use Rattle.answers.specs.declared.Answer.{Answer}
@@ -21,13 +22,17 @@ use Rattle.endings.specs.Ending.{byteOf}
 use Rattle.endings.specs.Truth.{TrueAnswer}
 use Rattle.endings.specs.Answers.{lookUpOf}
 
--- a board with one man, keyed
-abbrev pub firstSquare : List Piece → ℕ
-firstSquare [] = 0
-firstSquare (m ∷ ms) = m .square
+-- a board keyed, its first two men in the slots
+abbrev pub slotOf : List Piece → Slot
+slotOf [] = Absent
+slotOf (m ∷ ms) = Present m
 
-abbrev pub keyed : ℕ → Board → Position
-keyed kind b = lone kind (b .side) (b .white) (firstSquare (b .men)) (b .black)
+abbrev pub others : List Piece → List Piece
+others [] = []
+others (m ∷ ms) = ms
+
+abbrev pub keyed : Board → Position
+keyed b = record { side = b .side; «white_king» = b .white; «black_king» = b .black; first = slotOf (b .men); second = slotOf (others (b .men)) }
 
 -- the move inside an answer
 abbrev pub given : BestMove → Option Move
@@ -41,8 +46,8 @@ moveOfAnswer (Draw a) = given a
 moveOfAnswer (Refused n) = none
 
 -- "the one that look-up gives for the position then on the board"; "Bare kings are a draw and are not looked up"
-unfoldable pub deskMove : ℕ → List ℕ → Board → Option Move
-deskMove kind t b = cond (empty (b .men)) none (moveOfAnswer (lookUpOf t (keyed kind b)))
+unfoldable pub deskMove : List ℕ → Board → Option Move
+deskMove t b = cond (empty (b .men)) none (moveOfAnswer (lookUpOf t (keyed b)))
 
 -- What is promised to the side that plays the desk's moves, by what the first position is called: won in n, the side to move mates within n plies;
 -- lost in n, the other side does; whoever plays them is not mated in fewer than n plies, and from a draw never.
@@ -53,14 +58,14 @@ Told (Draw a) side b ms = (n : ℕ) → Unmated chess side b ms n
 Told (Refused n) side b ms = ⊥
 
 -- What is promised of the game ms from the board b, in which `side` plays the desk's moves by the table t.
-pub record GamePromise (kind : ℕ) (t : List ℕ) (side : Bool) (b : Board) (ms : List Move) : Type 0 where
+pub record GamePromise (t : List ℕ) (side : Bool) (b : Board) (ms : List Move) : Type 0 where
   -- what the first position is called is look-up's answer for it, and that is its true value and depth
-  pub called : TrueAnswer b (lookUpOf t (keyed kind b))
+  pub called : TrueAnswer b (lookUpOf t (keyed b))
   -- and that it is called so is enough
-  pub told : Told (lookUpOf t (keyed kind b)) side b ms
+  pub told : Told (lookUpOf t (keyed b)) side b ms
   -- no position of the game, bare kings apart, is refused at look-up: each gets its true answer, a legal move in it wherever the game is not over
-  pub answers : (i : ℕ) → i ≤ length ms → empty (atPly chess b ms i .men) ≡ false → TrueAnswer (atPly chess b ms i) (lookUpOf t (keyed kind (atPly chess b ms i)))
+  pub answers : (i : ℕ) → i ≤ length ms → empty (atPly chess b ms i .men) ≡ false → TrueAnswer (atPly chess b ms i) (lookUpOf t (keyed (atPly chess b ms i)))
   -- bare kings end the game, drawn
   pub bare : (i : ℕ) → i ≤ length ms → atPly chess b ms i .men ≡ [] → Over chess (atPly chess b ms i) × Drawn chess (atPly chess b ms i)
   -- won, lost, drawn, and both sides following: the theory's promise, over chess boards and the rules' moves
-  pub promised : Promised chess (byteOf t) (deskMove kind t) side b ms
+  pub promised : Promised chess (byteOf t) (deskMove t) side b ms

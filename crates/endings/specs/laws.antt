@@ -3,6 +3,7 @@ pub mod IndexLaws
 pub mod EndingLaws
 pub mod Halves
 pub mod Checking
+pub mod Exchanged
 pub mod LookingUp
 pub mod OneAnswer
 pub mod Games

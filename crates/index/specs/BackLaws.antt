@@ -17,7 +17,7 @@ pub record Bears (kind n : ℕ) (p : Position) : Type 0 where
   pub placed : placingRefusal p ≡ 0
   pub number : numberOf (boardOf p) ≡ n
 
--- demand 2: a placed position's number is below 59,136 and used, and the position at it is a map's image of it
+-- demand 2: a placed position's number is below 59,136 and used, and the position at it is of its class
 pub record Located (p : Position) (n : ℕ) : Type 0 where
   pub number : numberAnswer p ≡ NumberAnswer.Number n
   pub below : n < 59136

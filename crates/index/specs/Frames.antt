@@ -8,9 +8,9 @@ use lib.Dec.{ltb, eqb}
 use Rattle.symmetry.specs.Symmetry.{mapped}
 use Rattle.rules.specs.Rules.{Board}
 use Rattle.numbering.specs.Kings.{above, onDiagonal}
-use Rattle.numbering.specs.Normal.{normalised}
 use Rattle.numbering.specs.KingMaps.{swapping}
-use Rattle.numbering.specs.Number.{keyFrom}
+use Rattle.numbering.specs.Keys.{keyFrom}
+use Rattle.numbering.specs.Number.{normalised}
 use Rattle.pairs.specs.Tables.{pairIn}
 use Rattle.index.specs.declared.Frame.{Frame}
 

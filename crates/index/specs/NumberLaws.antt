@@ -1,11 +1,9 @@
 -- Positions of one class. Definitions only.
 use mathlib.Core.Path.{_≡_}
-use mathlib.Core.Bool.{false}
-use Rattle.symmetry.specs.Symmetry.{Symmetry}
-use Rattle.rules.specs.Changed.{changed}
+use Rattle.numbering.specs.Change.{Change, changedBy}
 use Rattle.position.specs.declared.Position.{Position}
 use Rattle.position.specs.Keyed.{boardOf}
 
--- one of the eight maps makes the first into the second, the side to move included
+-- a change makes the first into the second: one of the eight maps, the colours exchanged or not, and with them the kings and the side to move
 abbrev pub SameClass : Position → Position → Type 0
-SameClass p q = (m : Symmetry) × (boardOf q ≡ changed m false (boardOf p))
+SameClass p q = (s : Change) × (boardOf q ≡ changedBy s (boardOf p))

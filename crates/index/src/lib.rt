@@ -14,8 +14,10 @@ pub use framing::number_in;
 ghost use mathlib.Core.Path.{_≡_};
 ghost use mathlib.Core.List.{_++_};
 ghost use Prim.Native.Nat.{ℕ, _+_, _*_, _^_, _≤_, _<_};
-ghost use Rattle.numbering.specs.Number.{keyFrom, numberOf};
+ghost use Rattle.numbering.specs.Keys.{keyFrom, keyOf};
 ghost use Rattle.position.specs.Keyed.{slotMen, boardOf, lone as loneOf};
+ghost use Rattle.position.specs.Maps.{normalPosition};
+ghost use Rattle.position.specs.Owned.{whiteOwned};
 ghost use Rattle.index.specs.Answers.{numberAnswer, unused, placedAt};
 
 // How many numbers one side to move has, and how many there are: a table's bytes.
@@ -68,12 +70,12 @@ pub fn key_of(p: Position, pair: u16) -> u32
     )
 }
 
-// The number with no refusal asked: for a position that is known to meet none. On any bytes it is the key of the normal position, with 65535 for
-// kings that form no pair.
+// The number of a position that meets no refusal. On any bytes it is the key of the normal position with the first man White's, with 65535 for kings
+// that form no pair.
 pub fn number_of(p: Position) -> u32
-    ensures { λ r. ⌜ r ≡ numberOf (boardOf p) ⌝ }
+    ensures { λ r. ⌜ r ≡ keyOf (boardOf (normalPosition (whiteOwned p))) ⌝ }
 {
-    let n = p.normalised();
+    let n = p.white_owned().normalised();
     key_of(n, pairs::pair_of(n.white_king, n.black_king))
 }
 

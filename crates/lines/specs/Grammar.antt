@@ -8,7 +8,7 @@ use lib.ListN.{getD}
 use Rattle.ascii.specs.Bytes.{bytes}
 use Rattle.check_digits.specs.Check.{rightNumber}
 use Rattle.position.specs.declared.Position.{Position}
-use Rattle.position.specs.Keyed.{lone}
+use Rattle.position.specs.Keyed.{oneMan}
 use Rattle.lines.specs.declared.Request.{Request}
 
 abbrev pub between : ℕ → ℕ → ℕ → Bool
@@ -45,6 +45,14 @@ numberShape = bytes ". # 0000000"
 unfoldable pub kindNamed : ℕ → ℕ
 kindNamed b = cond (eqb b (code "Q")) 0 (cond (eqb b (code "R")) 1 (cond (eqb b (code "B")) 2 (cond (eqb b (code "N")) 3 4)))
 
+-- "On a position line `q r b n` mean Black's man" (02, P9): the letter as White's, any other byte as it is
+unfoldable pub asWhite : ℕ → ℕ
+asWhite b = cond (eqb b (code "q")) (code "Q") (cond (eqb b (code "r")) (code "R") (cond (eqb b (code "b")) (code "B") (cond (eqb b (code "n")) (code "N") b)))
+
+-- the man's colour on a position line
+unfoldable pub colourOf : ℕ → ℕ
+colourOf b = cond (eqb b (code "q")) 1 (cond (eqb b (code "r")) 1 (cond (eqb b (code "b")) 1 (cond (eqb b (code "n")) 1 0)))
+
 -- "sides w b", White 0 and Black 1; 2 for another byte
 unfoldable pub sideOf : ℕ → ℕ
 sideOf b = cond (eqb b (code "w")) 0 (cond (eqb b (code "b")) 1 2)
@@ -62,7 +70,7 @@ digitOf b = cond (between (code "0") (code "9") b) (b - code "0") 0
 -- the parts of a position line, each out of range where its byte is wrong: "any other wrong byte in a man's, side's or square's place is 1, 2 or 3"
 unfoldable pub keyedOf : List ℕ → Position
 keyedOf line =
-    lone (kindNamed (getD line 0 0)) (sideOf (getD line 2 0)) (squareNamed (getD line 4 0) (getD line 5 0)) (squareNamed (getD line 7 0) (getD line 8 0)) (squareNamed (getD line 10 0) (getD line 11 0))
+    oneMan (kindNamed (asWhite (getD line 0 0))) (colourOf (getD line 0 0)) (sideOf (getD line 2 0)) (squareNamed (getD line 4 0) (getD line 5 0)) (squareNamed (getD line 7 0) (getD line 8 0)) (squareNamed (getD line 10 0) (getD line 11 0))
 
 -- the number that five digits name
 unfoldable pub fiveDigits : List ℕ → ℕ

@@ -1,7 +1,7 @@
 // The parts of a line: what a letter or a digit stands for, with a value out of range for a wrong byte.
 ghost use mathlib.Core.Path.{_≡_};
 ghost use Prim.Native.Nat.{_≤_};
-ghost use Rattle.lines.specs.Grammar.{kindNamed, sideOf, squareNamed, digitOf};
+ghost use Rattle.lines.specs.Grammar.{kindNamed, asWhite, colourOf, sideOf, squareNamed, digitOf};
 
 // The material code of a man's letter; 4 for any other byte.
 pub fn man_code(letter: u8) -> u8
@@ -13,6 +13,32 @@ pub fn man_code(letter: u8) -> u8
         b'B' => 2,
         b'N' => 3,
         _ => 4,
+    }
+}
+
+// The letter of Black's man as White's; any other byte as it is.
+pub fn as_white(letter: u8) -> u8
+    ensures { λ r. ⌜ r ≡ asWhite letter ⌝ }
+{
+    match letter {
+        b'q' => b'Q',
+        b'r' => b'R',
+        b'b' => b'B',
+        b'n' => b'N',
+        _ => letter,
+    }
+}
+
+// The man's colour on a position line.
+pub fn colour_code(letter: u8) -> u8
+    ensures { λ r. ⌜ r ≡ colourOf letter ⌝ }
+{
+    match letter {
+        b'q' => 1,
+        b'r' => 1,
+        b'b' => 1,
+        b'n' => 1,
+        _ => 0,
     }
 }
 

@@ -3,6 +3,8 @@ mod fields;
 mod shape;
 
 use check_digits::is_right;
+use fields::as_white;
+use fields::colour_code;
 use fields::digit_value;
 use fields::man_code;
 use fields::side_code;
@@ -11,7 +13,7 @@ use position::BAD_CHECK;
 use position::BAD_LINE;
 use position::BAD_MAN;
 use position::Position;
-use position::lone;
+use position::one_man;
 use shape::shaped;
 ghost use mathlib.Core.Path.{_≡_};
 ghost use Prim.Native.Nat.{_≤_};
@@ -44,8 +46,9 @@ fn keyed(line: &[u8]) -> Position
     requires { ⌜ length (now line) ≡ 12 ⌝ }
     ensures { λ r. ⌜ r ≡ keyedOf (now (line .entry)) ⌝ }
 {
-    lone(
-        man_code(line[0]),
+    one_man(
+        man_code(as_white(line[0])),
+        colour_code(line[0]),
         side_code(line[2]),
         square_named(line[4], line[5]),
         square_named(line[7], line[8]),

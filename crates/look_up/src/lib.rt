@@ -27,7 +27,8 @@ fn answer(byte: u8, advice: BestMove) -> Answer
     Answer::Loss(byte - 2, advice)
 }
 
-// The value, the depth and a move; or a refusal, 1 to 7 or 11.
+// The value, the depth and a move; or a refusal, 1 to 7 or 11. The position is read with its man White's; the move is the same on the board as keyed,
+// since every square stays.
 pub fn look_up(table: &[u8], p: Position) -> Answer
     ensures { λ r. ⌜ r ≡ lookUpOf (now (table .entry)) p ⌝ }
 {
@@ -39,11 +40,12 @@ pub fn look_up(table: &[u8], p: Position) -> Answer
         return Answer::Refused(TABLE_LENGTH);
     }
     let list = pair_list();
-    let first = p.first;
+    let q = p.white_owned();
+    let first = q.first;
     let m = man_in(first);
-    let side = p.side;
-    let white = p.white_king;
-    let black = p.black_king;
+    let side = q.side;
+    let white = q.white_king;
+    let black = q.black_king;
     let byte = byte_of(&list, table, side, white, m.square, black);
     let verdict = verdict_on(&list, table, m.kind, side, white, m.square, black, byte);
     match verdict {

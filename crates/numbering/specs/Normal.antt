@@ -1,24 +1,18 @@
--- Normal boards, one of each class, and the map that makes a board normal (01, "The number of a position"). Definitions only.
-use mathlib.Core.Bool.{Bool, false, not, _&&_, _||_}
+-- The map that puts the kings by the rule, the men in their order and colours as they stand (01, "The number of a position"). Definitions only.
+use mathlib.Core.Bool.{Bool, false, _&&_, _||_}
 use mathlib.Core.List.{List, [], _∷_}
 use Prim.Native.Nat.{ℕ, _/_, _%_}
 use lib.Dec.{ltb}
-use Rattle.finite.specs.Truth.{implies}
 use Rattle.symmetry.specs.Symmetry.{Symmetry}
 use Rattle.rules.specs.declared.Piece.{Piece}
 use Rattle.rules.specs.Rules.{Board}
 use Rattle.rules.specs.Changed.{changed}
-use Rattle.numbering.specs.Kings.{above, onDiagonal, kingRule}
+use Rattle.numbering.specs.Kings.{above, onDiagonal}
 
 -- the first man off the diagonal is above it; with one man: he is above it
 unfoldable pub firstAbove : List Piece → Bool
 firstAbove [] = false
 firstAbove (m ∷ ms) = above (m .square) || (onDiagonal (m .square) && firstAbove ms)
-
--- "Map the board so that the white king is in a1-d1-d4. If he is on the diagonal, the black king is not above it. If both are on it, the man is
--- not above it."
-unfoldable pub normal : Board → Bool
-normal b = kingRule (b .white) (b .black) && implies (onDiagonal (b .white) && onDiagonal (b .black)) (not (firstAbove (b .men)))
 
 -- the reversals that bring the white king to a1-d4
 unfoldable pub turn : ℕ → Symmetry
@@ -31,9 +25,7 @@ swapsKings white black men = above white || (onDiagonal white && (above black ||
 abbrev pub swaps : Board → Bool
 swaps b = swapsKings (b .white) (b .black) (firstAbove (b .men))
 
--- the map that makes a board normal
+-- "Map the board so that the white king is in a1-d1-d4. If he is on the diagonal, the black king is not above it. If both are on it, the man is
+-- not above it."
 unfoldable pub normalMap : Board → Symmetry
 normalMap b = record { files = turn (b .white) .files; ranks = turn (b .white) .ranks; swap = swaps (changed (turn (b .white)) false b) }
-
-unfoldable pub normalised : Board → Board
-normalised b = changed (normalMap b) false b

@@ -3,5 +3,10 @@ pub mod PairLaws
 pub mod MenLaws
 pub mod Numberable
 pub mod NormalLaws
+pub mod KeyLaws
+pub mod ChangeLaws
+pub mod ArrangeLaws
+pub mod OrderLaws
 pub mod ClassLaws
 pub mod AtLaws
+pub mod LoneLaws

@@ -4,8 +4,10 @@ use position::Position;
 ghost use mathlib.Core.Path.{_≡_};
 ghost use Prim.Native.Nat.{_≤_};
 ghost use Rattle.numbering.specs.Kings.{pairOf};
-ghost use Rattle.numbering.specs.Number.{numberOf};
+ghost use Rattle.numbering.specs.Keys.{keyOf};
 ghost use Rattle.position.specs.Keyed.{boardOf};
+ghost use Rattle.position.specs.Maps.{normalPosition};
+ghost use Rattle.position.specs.Owned.{whiteOwned};
 ghost use Rattle.pocket.specs.Rows.{rowOf, firstOf};
 
 // The black king's squares that form a pair with the white king's.
@@ -64,8 +66,8 @@ fn pair_of(white: u8, black: u8) -> u16
 
 // As `index::number_of`.
 pub fn number_by_rows(p: Position) -> u32
-    ensures { λ r. ⌜ r ≡ numberOf (boardOf p) ⌝ }
+    ensures { λ r. ⌜ r ≡ keyOf (boardOf (normalPosition (whiteOwned p))) ⌝ }
 {
-    let n = p.normalised();
+    let n = p.white_owned().normalised();
     key_of(n, pair_of(n.white_king, n.black_king))
 }

@@ -15,9 +15,19 @@ slotMen (Present m) = m ∷ []
 unfoldable pub boardOf : Position → Board
 boardOf p = record { side = p .side; white = p .«white_king»; black = p .«black_king»; men = slotMen (p .first) ++ slotMen (p .second) }
 
--- two kings and one man, White's: his kind, the side to move, the white king's square, the man's, the black king's
+-- two kings and one man: his kind and colour, the side to move, the white king's square, the man's, the black king's
+abbrev pub oneMan : ℕ → ℕ → ℕ → ℕ → ℕ → ℕ → Position
+oneMan kind colour side white square black = record {
+  side = side;
+  «white_king» = white;
+  «black_king» = black;
+  first = Present (pieceOf kind colour square);
+  second = Absent;
+}
+
+-- the man White's
 abbrev pub lone : ℕ → ℕ → ℕ → ℕ → ℕ → Position
-lone kind side white square black = record { side = side; «white_king» = white; «black_king» = black; first = Present (pieceOf kind 0 square); second = Absent }
+lone kind side white square black = oneMan kind 0 side white square black
 
 -- an absent man: off the board, with no steps
 abbrev pub nobody : Piece
@@ -28,9 +38,12 @@ abbrev pub manIn : Slot → Piece
 manIn Absent = nobody
 manIn (Present m) = m
 
--- the first man's kind and square
+-- the first man's kind, colour and square
 abbrev pub manKind : Position → ℕ
 manKind p = manIn (p .first) .kind
+
+abbrev pub colourOf : Position → ℕ
+colourOf p = manIn (p .first) .colour
 
 abbrev pub manSquare : Position → ℕ
 manSquare p = manIn (p .first) .square

@@ -3,4 +3,5 @@ pub mod Refusals
 pub mod Over
 pub mod Pieces
 pub mod Maps
+pub mod Owned
 pub mod laws

@@ -9,18 +9,18 @@ use Rattle.position.specs.declared.Slot.the-variants.{Absent, Present}
 use Rattle.position.specs.declared.Position.{Position}
 use Rattle.position.specs.Keyed.{boardOf}
 
--- 1: "material code above 3"; so are all men but one of White's in the first slot
+-- 1: "material code above 3"; "no man at all, or an absent one before a present one"; "Two men .. until they have a table" (02, P9)
 abbrev pub badMen : Slot → Slot → Bool
 badMen Absent second = true
 badMen (Present m) (Present n) = true
-badMen (Present m) Absent = leb 4 (m .kind) || not (eqb (m .colour) 0)
+badMen (Present m) Absent = leb 4 (m .kind)
 
 abbrev pub badMan : Position → Bool
 badMan p = badMen (p .first) (p .second)
 
--- 2: "side not 0 or 1"
-abbrev pub badSide : Position → Bool
-badSide p = leb 2 (p .side)
+-- 2: "side not 0 or 1"; "a colour not 0 or 1" (P9)
+unfoldable pub badSide : Position → Bool
+badSide p = leb 2 (p .side) || not (all (λ m. ltb (m .colour) 2) (boardOf p .men))
 
 -- 3: "a square above 63"
 unfoldable pub badSquare : Position → Bool
@@ -47,6 +47,11 @@ unfoldable pub standingRefusal : Position → ℕ
 standingRefusal p = cond (eqb (placingRefusal p) 0) (cond (otherInCheck p) 6 0) (placingRefusal p)
 
 -- ---- slot by slot, as code asks them
+
+-- a man of neither side
+abbrev pub slotForeign : Slot → Bool
+slotForeign Absent = false
+slotForeign (Present m) = leb 2 (m .colour)
 
 -- a man off the board
 abbrev pub slotOff : Slot → Bool

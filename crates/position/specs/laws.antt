@@ -4,3 +4,4 @@ pub mod Over
 pub mod Pieces
 pub mod MapLaws
 pub mod PlacedLaws
+pub mod OwnerLaws

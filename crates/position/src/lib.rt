@@ -2,11 +2,12 @@
 use rules::Piece;
 ghost use mathlib.Core.Path.{_≡_};
 ghost use Prim.Native.Nat.{_-_};
-ghost use Rattle.position.specs.Keyed.{manIn, lone as loneOf};
+ghost use Rattle.position.specs.Keyed.{manIn, oneMan, lone as loneOf};
 
 mod attack;
 mod maps;
 mod occupancy;
+mod owners;
 mod refusals;
 
 pub use attack::attack_set;
@@ -76,9 +77,9 @@ pub struct Pieces {
     pub second: Piece,
 }
 
-// The position with one man, White's.
-pub fn lone(kind: u8, side: u8, white: u8, square: u8, black: u8) -> Position
-    ensures { λ r. ⌜ r ≡ loneOf kind side white square black ⌝ }
+// The position with one man.
+pub fn one_man(kind: u8, colour: u8, side: u8, white: u8, square: u8, black: u8) -> Position
+    ensures { λ r. ⌜ r ≡ oneMan kind colour side white square black ⌝ }
 {
     Position {
         side,
@@ -86,11 +87,18 @@ pub fn lone(kind: u8, side: u8, white: u8, square: u8, black: u8) -> Position
         black_king: black,
         first: Slot::Present(Piece {
             kind,
-            colour: 0,
+            colour,
             square,
         }),
         second: Slot::Absent,
     }
+}
+
+// The same, White's.
+pub fn lone(kind: u8, side: u8, white: u8, square: u8, black: u8) -> Position
+    ensures { λ r. ⌜ r ≡ loneOf kind side white square black ⌝ }
+{
+    one_man(kind, 0, side, white, square, black)
 }
 
 // The man in a slot; one that stands off the board where there is none.

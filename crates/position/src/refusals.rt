@@ -12,7 +12,7 @@ use super::other;
 use board::has;
 use board::targets;
 ghost use mathlib.Core.Path.{_≡_};
-ghost use Rattle.position.specs.Refusals.{badMen, badSquare, sharedSquare, slotOff, slotOn, slotsShare, placingRefusal, standingRefusal};
+ghost use Rattle.position.specs.Refusals.{badMen, badSide, badSquare, sharedSquare, slotForeign, slotOff, slotOn, slotsShare, placingRefusal, standingRefusal};
 
 // Whether the men are none that have a table.
 fn bad_men(first: Slot, second: Slot) -> bool
@@ -21,10 +21,29 @@ fn bad_men(first: Slot, second: Slot) -> bool
     match first {
         Slot::Absent => true,
         Slot::Present(m) => match second {
-            Slot::Absent => (4 <= m.kind) | (m.colour != 0),
+            Slot::Absent => 4 <= m.kind,
             Slot::Present(_) => true,
         },
     }
+}
+
+// Whether a man is of neither side.
+fn is_foreign(slot: Slot) -> bool
+    ensures { λ r. ⌜ r ≡ slotForeign slot ⌝ }
+{
+    match slot {
+        Slot::Absent => false,
+        Slot::Present(m) => 2 <= m.colour,
+    }
+}
+
+// Whether the side to move or a man's is neither.
+fn bad_side(p: Position) -> bool
+    ensures { λ r. ⌜ r ≡ badSide p ⌝ }
+{
+    let first = p.first;
+    let second = p.second;
+    (2 <= p.side) | (is_foreign(first) | is_foreign(second))
 }
 
 // Whether a man stands off the board.
@@ -88,7 +107,7 @@ pub fn placing_refusal(p: Position) -> u8
     if bad_men(first, second) {
         return BAD_MAN;
     }
-    if 2 <= p.side {
+    if bad_side(p) {
         return BAD_SIDE;
     }
     if bad_square(p) {

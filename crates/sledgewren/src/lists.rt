@@ -2,13 +2,13 @@
 use filling::clear;
 use move_list::MoveList;
 use move_list::legal_moves;
-use position::lone;
 use words::flag;
+use words::position_read;
 ghost use mathlib.Core.Path.{_≡_};
 ghost use Prim.Native.Nat.{_≤_};
 ghost use lib.ListN.{length, take};
 ghost use Rattle.move_list.specs.Lists.{room};
-ghost use Rattle.position.specs.Keyed.{lone as loneOf};
+ghost use Rattle.words.specs.Men.{positionRead};
 ghost use Rattle.sledgewren.specs.Words.{listSize, listBytes, WroteList, listingOf};
 
 // A lent list has room for the moves of two men besides the kings, which are four bytes each.
@@ -39,19 +39,19 @@ fn write_moves(list: MoveList, bytes: &mut [u8])
 // Refusals 1 to 6 leave all bytes zero; with another length than 248 nothing is written.
 #[no_mangle]
 pub extern "C" fn sledgewren_moves(
-    kind: u8,
     side: u8,
     white: u8,
-    square: u8,
     black: u8,
+    first: u32,
+    second: u32,
     moves: &mut [u8],
 ) -> u32
-    ensures { λ r. ⌜ WroteList (listingOf (loneOf kind side white square black) (now (moves .entry))) r (now (moves .exit)) ⌝ }
+    ensures { λ r. ⌜ WroteList (listingOf (positionRead side white black first second) (now (moves .entry))) r (now (moves .exit)) ⌝ }
 {
     if moves.len() != LIST_BYTES {
         return NO_LIST;
     }
-    let listed = legal_moves(lone(kind, side, white, square, black));
+    let listed = legal_moves(position_read(side, white, black, first, second));
     let list = listed.list;
     write_moves(list, &mut *moves);
     listed.refusal as u32 + list.count as u32 * 0x100

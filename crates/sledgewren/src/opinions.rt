@@ -1,10 +1,10 @@
 // The second opinion on a position, and its word.
-use position::lone;
 use search::Opinion;
 use search::second_opinion;
+use words::position_read;
 ghost use mathlib.Core.Path.{_≡_};
 ghost use Rattle.search.specs.Opinions.{opinionOf};
-ghost use Rattle.position.specs.Keyed.{lone as loneOf};
+ghost use Rattle.words.specs.Men.{positionRead};
 ghost use Rattle.sledgewren.specs.OpinionWord.{opinionWord};
 
 fn opinion_word(o: Opinion) -> u32
@@ -21,15 +21,15 @@ fn opinion_word(o: Opinion) -> u32
 // Refusals 1 to 6, and 16 for more than 6 plies.
 #[no_mangle]
 pub extern "C" fn sledgewren_second_opinion(
-    kind: u8,
     side: u8,
     white: u8,
-    square: u8,
     black: u8,
+    first: u32,
+    second: u32,
     plies: u8,
 ) -> u32
-    ensures { λ r. ⌜ r ≡ opinionWord (opinionOf (loneOf kind side white square black) plies) ⌝ }
+    ensures { λ r. ⌜ r ≡ opinionWord (opinionOf (positionRead side white black first second) plies) ⌝ }
 {
-    let p = lone(kind, side, white, square, black);
+    let p = position_read(side, white, black, first, second);
     opinion_word(second_opinion(p, plies))
 }

@@ -5,11 +5,11 @@ use super::pocket_words::tallied_word;
 use pocket::look_up;
 use pocket::pack;
 use pocket::tally;
-use position::lone;
+use words::position_read;
 ghost use mathlib.Core.Path.{_≡_};
 ghost use Rattle.pocket.specs.Pocket.{packOf, pocketLookUpOf};
 ghost use Rattle.pocket.specs.Tally.{tallyOf};
-ghost use Rattle.position.specs.Keyed.{lone as loneOf};
+ghost use Rattle.words.specs.Men.{positionRead};
 ghost use Rattle.sledgewren.specs.PocketWords.{packedWord, toldWord, talliedWord};
 
 // Refusal 7 leaves the pocket as it was.
@@ -24,15 +24,15 @@ pub extern "C" fn sledgewren_pack(table: &[u8], pocket: &mut [u8]) -> u32
 #[no_mangle]
 pub extern "C" fn sledgewren_pocket_look_up(
     pocket: &[u8],
-    kind: u8,
     side: u8,
     white: u8,
-    square: u8,
     black: u8,
+    first: u32,
+    second: u32,
 ) -> u32
-    ensures { λ r. ⌜ r ≡ toldWord (pocketLookUpOf (now (pocket .entry)) (loneOf kind side white square black)) ⌝ }
+    ensures { λ r. ⌜ r ≡ toldWord (pocketLookUpOf (now (pocket .entry)) (positionRead side white black first second)) ⌝ }
 {
-    let p = lone(kind, side, white, square, black);
+    let p = position_read(side, white, black, first, second);
     pocket_word(look_up(pocket, p))
 }
 

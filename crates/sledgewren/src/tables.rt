@@ -2,13 +2,13 @@
 use checking::check;
 use filling::fill;
 use look_up::look_up;
-use position::lone;
 use words::answer_word;
 use words::checked_word;
 use words::filled_word;
+use words::position_read;
 ghost use mathlib.Core.Path.{_≡_};
 ghost use Rattle.endings.specs.Answers.{fillOf, checkOf, lookUpOf};
-ghost use Rattle.position.specs.Keyed.{lone as loneOf};
+ghost use Rattle.words.specs.Men.{positionRead};
 ghost use Rattle.sledgewren.specs.Words.{filledWord, checkedWord, answerWord};
 
 // Refusals 1 and 7 leave the table as it was, 10 all zero.
@@ -31,14 +31,14 @@ pub extern "C" fn sledgewren_check(kind: u8, table: &[u8]) -> u64
 #[no_mangle]
 pub extern "C" fn sledgewren_look_up(
     table: &[u8],
-    kind: u8,
     side: u8,
     white: u8,
-    square: u8,
     black: u8,
+    first: u32,
+    second: u32,
 ) -> u64
-    ensures { λ r. ⌜ r ≡ answerWord (lookUpOf (now (table .entry)) (loneOf kind side white square black)) ⌝ }
+    ensures { λ r. ⌜ r ≡ answerWord (lookUpOf (now (table .entry)) (positionRead side white black first second)) ⌝ }
 {
-    let p = lone(kind, side, white, square, black);
+    let p = position_read(side, white, black, first, second);
     answer_word(look_up(table, p))
 }

@@ -1,20 +1,20 @@
-// Answers lines of five numbers (man, side, white king, man's square, black king) with the legal moves, as the second program does.
+// Answers lines of six numbers (man, side, white king, man's square, black king, man's colour) with the legal moves, as the second program does.
 use move_list::Counted;
 use move_list::MoveList;
 use move_list::ROOM;
 use position::Position;
-use position::lone;
+use position::one_man;
 use rules::Move;
 
 // The numbers of a line so far, and which of them comes next.
 struct Line {
-    numbers: [u8; 5],
+    numbers: [u8; 6],
     at: u8,
 }
 
 fn new_line() -> Line {
     Line {
-        numbers: [0; 5],
+        numbers: [0; 6],
         at: 0,
     }
 }
@@ -27,7 +27,7 @@ fn with_digit(number: u8, digit: u8) -> u8 {
 // The line with one byte more: a digit of the current number, or a blank behind it.
 fn with_byte(line: Line, b: u8) -> Line {
     let mut numbers = line.numbers;
-    let at = line.at % 5;
+    let at = line.at % 6;
     if b == b' ' {
         return Line {
             numbers,
@@ -81,7 +81,15 @@ fn answer(p: Position) {
 
 fn answer_line(line: Line) {
     let numbers = line.numbers;
-    answer(lone(numbers[0], numbers[1], numbers[2], numbers[3], numbers[4]));
+    let p = one_man(
+        numbers[0],
+        numbers[5],
+        numbers[1],
+        numbers[2],
+        numbers[3],
+        numbers[4],
+    );
+    answer(p);
 }
 
 fn answer_all(input: &[u8]) {

@@ -1,20 +1,20 @@
-// Answers lines of five numbers (man, side, white king, man's square, black king) with the second opinion within 0 to 7 plies, as the second
+// Answers lines of six numbers (man, side, white king, man's square, black king, man's colour) with the second opinion within 0 to 7 plies, as the second
 // program does.
 use position::Position;
-use position::lone;
 use position::man_in;
+use position::one_man;
 use search::Opinion;
 use search::second_opinion;
 
 // The numbers of a line so far, and which of them comes next.
 struct Line {
-    numbers: [u8; 5],
+    numbers: [u8; 6],
     at: u8,
 }
 
 fn new_line() -> Line {
     Line {
-        numbers: [0; 5],
+        numbers: [0; 6],
         at: 0,
     }
 }
@@ -27,7 +27,7 @@ fn with_digit(number: u8, digit: u8) -> u8 {
 // The line with one byte more: a digit of the current number, or a blank behind it.
 fn with_byte(line: Line, b: u8) -> Line {
     let mut numbers = line.numbers;
-    let at = line.at % 5;
+    let at = line.at % 6;
     if b == b' ' {
         return Line {
             numbers,
@@ -76,6 +76,8 @@ fn show_position(p: Position) {
     show_number(man.square);
     io::write_all(1, b" ");
     show_number(p.black_king);
+    io::write_all(1, b" ");
+    show_number(man.colour);
 }
 
 fn answer_within(p: Position, k: u8) {
@@ -98,7 +100,15 @@ fn answer(p: Position) {
 
 fn answer_line(line: Line) {
     let numbers = line.numbers;
-    answer(lone(numbers[0], numbers[1], numbers[2], numbers[3], numbers[4]));
+    let p = one_man(
+        numbers[0],
+        numbers[5],
+        numbers[1],
+        numbers[2],
+        numbers[3],
+        numbers[4],
+    );
+    answer(p);
 }
 
 fn answer_all(input: &[u8]) {

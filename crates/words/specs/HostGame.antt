@@ -17,21 +17,21 @@ use Rattle.endings.specs.GamePromise.{keyed, given, GamePromise}
 use Rattle.words.specs.Words.{answerWord}
 use Rattle.words.specs.Reading.{adviceRead, answerRead}
 
--- what `sledgewren_look_up` answers when it is lent the table t and given the man and the board's side and squares
-unfoldable pub lookUpWord : ℕ → List ℕ → Board → ℕ
-lookUpWord kind t b = answerWord (lookUpOf t (keyed kind b))
+-- what `sledgewren_look_up` answers when it is lent the table t and given the board's side, kings and men
+unfoldable pub lookUpWord : List ℕ → Board → ℕ
+lookUpWord t b = answerWord (lookUpOf t (keyed b))
 
 -- the move read from that word, if bit 24 says that there is one; bare kings are not looked up
-unfoldable pub hostMove : ℕ → List ℕ → Board → Option Move
-hostMove kind t b = cond (empty (b .men)) none (given (adviceRead (lookUpWord kind t b)))
+unfoldable pub hostMove : List ℕ → Board → Option Move
+hostMove t b = cond (empty (b .men)) none (given (adviceRead (lookUpWord t b)))
 
 -- What is promised of the game ms from the board b, in which `side` plays the host's moves by the table t.
-pub record HostPromise (kind : ℕ) (t : List ℕ) (side : Bool) (b : Board) (ms : List Move) : Type 0 where
+pub record HostPromise (t : List ℕ) (side : Bool) (b : Board) (ms : List Move) : Type 0 where
   -- all that the theorem about games promises
-  pub game : GamePromise kind t side b ms
+  pub game : GamePromise t side b ms
   -- what the first position is called, read from its word, is its true value and depth
-  pub called : TrueAnswer b (answerRead (lookUpWord kind t b))
+  pub called : TrueAnswer b (answerRead (lookUpWord t b))
   -- so it is for every position of the game, bare kings apart
-  pub answers : (i : ℕ) → i ≤ length ms → empty (atPly chess b ms i .men) ≡ false → TrueAnswer (atPly chess b ms i) (answerRead (lookUpWord kind t (atPly chess b ms i)))
+  pub answers : (i : ℕ) → i ≤ length ms → empty (atPly chess b ms i .men) ≡ false → TrueAnswer (atPly chess b ms i) (answerRead (lookUpWord t (atPly chess b ms i)))
   -- won, lost, drawn, and both sides following, in terms of the moves read
-  pub promised : Promised chess (byteOf t) (hostMove kind t) side b ms
+  pub promised : Promised chess (byteOf t) (hostMove t) side b ms

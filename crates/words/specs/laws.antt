@@ -1,3 +1,4 @@
 pub mod ReadingLaws
 pub mod AnswersFit
 pub mod HostGames
+pub mod MenLaws

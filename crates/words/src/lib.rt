@@ -1,10 +1,13 @@
-// The word of each answer (include/sledgewren.h).
+// The word of each answer, and the words that a position is given in (include/sledgewren.h).
+mod men;
+
 use answers::Answer;
 use answers::BestMove;
 use answers::Checked;
 use answers::Filled;
 use index::NumberAnswer;
 use index::Placed;
+pub use men::position_read;
 use move_list::Counted;
 use position::Position;
 use position::man_in;

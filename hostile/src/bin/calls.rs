@@ -7,6 +7,7 @@ use std::process::ExitCode;
 
 use hostile::calls::{boards, desks, lengths, numbers, random_boards, random_tables, Tally};
 use hostile::sequence::Sequence;
+use hostile::words::random_words;
 use hostile::written::written_numbers;
 
 const SEED: u64 = 2049;
@@ -33,8 +34,9 @@ fn main() -> ExitCode {
         run(&mut tally);
         println!("{says}: {} compared, {} differ so far", tally.compared - before, tally.differ);
     };
-    part("every board, squares 0 to 64", &mut boards);
+    part("every board of both colours, squares 0 to 64", &mut boards);
     part("random bytes as keyed", &mut |tally| random_boards(&mut sequence, tally));
+    part("random words as men", &mut |tally| random_words(&mut sequence, tally));
     part("numbers and codes", &mut |tally| numbers(&mut sequence, tally));
     part("random and damaged tables", &mut |tally| random_tables(&mut sequence, tally));
     part("lengths", &mut lengths);

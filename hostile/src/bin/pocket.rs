@@ -33,7 +33,7 @@ fn main() -> ExitCode {
         run(&mut tally);
         println!("{says}: {} compared, {} differ so far", tally.compared - before, tally.differ);
     };
-    part("every board, squares 0 to 64", &mut boards);
+    part("every board of both colours, squares 0 to 64", &mut boards);
     let says = format!("{POCKETS} random and damaged pockets");
     part(&says, &mut |tally| pockets(&mut sequence, tally));
     part("random tables packed", &mut |tally| tables(&mut sequence, tally));

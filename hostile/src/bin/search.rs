@@ -5,9 +5,10 @@
 
 use std::process::ExitCode;
 
+use hostile::calls::second;
 use hostile::sequence::Sequence;
 use second::fill_back;
-use second::position::{Keyed as SecondKeyed, Refused};
+use second::position::Refused;
 use second::rule::Value as SecondValue;
 use second::search::{search, Opinion as SecondOpinion};
 use second::table::look_up as second_look_up;
@@ -52,7 +53,7 @@ impl Tables {
     /// The library's table and the oracle's on depths up to so many plies.
     fn say(&self, keyed: Keyed, plies: u8) -> [Answer; 2] {
         let ours = self.ours.look_up(keyed).map_err(Refusal::code);
-        let theirs = second_look_up(&self.theirs, &other(keyed)).map_err(|Refused(code)| code);
+        let theirs = second_look_up(&self.theirs, &second(keyed)).map_err(|Refused(code)| code);
         [
             ours.map(|answer| Opinion::of(answer.value(), plies)),
             theirs.map(|answer| match answer.value {
@@ -64,17 +65,12 @@ impl Tables {
     }
 }
 
-fn other(keyed: Keyed) -> SecondKeyed {
-    let Keyed { man, side, white_king, man_square, black_king } = keyed;
-    SecondKeyed { man, side, white_king, man_square, black_king }
-}
-
 fn library(keyed: Keyed, plies: u8) -> Answer {
     entry::second_opinion(keyed, plies).map_err(Refusal::code)
 }
 
 fn oracle(keyed: Keyed, plies: u8) -> Answer {
-    match search(&other(keyed), plies) {
+    match search(&second(keyed), plies) {
         Ok(SecondOpinion::Win(depth)) => Ok(Opinion::Win(depth)),
         Ok(SecondOpinion::Loss(depth)) => Ok(Opinion::Loss(depth)),
         Ok(SecondOpinion::NotWithin) => Ok(Opinion::NotWithin),
@@ -109,21 +105,20 @@ fn random(sequence: &mut Sequence, sum: &mut Sum) {
             0 => sequence.byte(),
             _ => sequence.byte() % end,
         };
-        let keyed = Keyed::from([byte(4), byte(2), byte(64), byte(64), byte(64)]);
+        let keyed = Keyed::from([byte(4), byte(2), byte(64), byte(64), byte(64), byte(2)]);
         let plies = byte(8);
         let plies = if (4..=6).contains(&plies) { plies - 4 } else { plies };
         sum.hold(keyed, plies, &[oracle(keyed, plies)]);
     }
 }
 
-/// Every legal position of an ending.
+/// Every legal position of an ending, the man White's and Black's.
 fn legal(man: Man) -> Vec<Keyed> {
     let mut found = Vec::new();
-    for place in 0..2 * 64 * 64 * 64u32 {
+    for place in 0..4 * 64 * 64 * 64u32 {
         let bits = |first: u32| (place >> first & 63) as u8;
-        let (man, side) = (man.code(), (place >> 18) as u8);
-        let keyed =
-            Keyed { man, side, white_king: bits(12), man_square: bits(6), black_king: bits(0) };
+        let (side, colour) = ((place >> 18 & 1) as u8, (place >> 19) as u8);
+        let keyed = Keyed::from([man.code(), side, bits(12), bits(6), bits(0), colour]);
         if entry::count(keyed).is_ok() {
             found.push(keyed);
         }

@@ -1,4 +1,4 @@
-//! Gaviota's published tables, probed through libgaviotatb: two kings and one white man.
+//! Gaviota's published tables, probed through libgaviotatb: two kings and one man of either side.
 
 use std::ffi::{c_char, c_int, c_uchar, c_uint, CString};
 
@@ -78,20 +78,23 @@ impl Gaviota {
         }
     }
 
-    /// Probes a position: material code and side as Sledgewren has them, and squares.
+    /// Probes a position: the man's kind, colour and square, the side to move and the kings'
+    /// squares, all as Sledgewren has them.
     #[inline]
     pub fn probe(
         &self,
-        man: u8,
+        [kind, colour, square]: [u8; 3],
         side: u8,
-        white_king: u8,
-        man_square: u8,
-        black_king: u8,
+        [white_king, black_king]: [u8; 2],
     ) -> Probed {
-        let white = [white_king as c_uint, man_square as c_uint, NO_SQUARE];
-        let black = [black_king as c_uint, NO_SQUARE];
-        let white_pieces = [KING, PIECES[man as usize & 3], NO_PIECE];
-        let black_pieces = [KING, NO_PIECE];
+        let with_man = |king: u8| [king as c_uint, square as c_uint, NO_SQUARE];
+        let alone = |king: u8| [king as c_uint, NO_SQUARE, NO_SQUARE];
+        let man_pieces = [KING, PIECES[kind as usize & 3], NO_PIECE];
+        let king_pieces = [KING, NO_PIECE, NO_PIECE];
+        let (white, white_pieces, black, black_pieces) = match colour {
+            0 => (with_man(white_king), man_pieces, alone(black_king), king_pieces),
+            _ => (alone(white_king), king_pieces, with_man(black_king), man_pieces),
+        };
         let (mut info, mut plies) = (0, 0);
         // SAFETY: the lists end as the library asks, and it writes one number to each result.
         let found = unsafe {

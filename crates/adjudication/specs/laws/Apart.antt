@@ -13,11 +13,12 @@ use Rattle.rules.specs.Chess.{chess, of-moves}
 use Rattle.answers.specs.declared.BestMove.{BestMove}
 use Rattle.answers.specs.declared.Answer.{Answer}
 use Rattle.position.specs.declared.Position.{Position}
-use Rattle.position.specs.Keyed.{boardOf, manKind, manSquare}
+use Rattle.position.specs.Keyed.{boardOf, manKind}
 use Rattle.position.specs.Refusals.{standingRefusal}
-use Rattle.position.specs.laws.Legality.{standing-facts, alone-men}
+use Rattle.position.specs.laws.Legality.{standing-facts}
 use Rattle.endings.specs.FilledTrue.{Shallow}
 use Rattle.endings.specs.Truth.{First, TrueAnswer}
+use Rattle.endings.specs.laws.Checking.{keyed-lone}
 use Rattle.slips.specs.Slip.{slipOf}
 use Rattle.slips.specs.Fits.{AdviceFits, AnswerFits}
 use Rattle.slips.specs.laws.Apart.{slips-apart}
@@ -37,7 +38,7 @@ module _ (p : Position) (z : standingRefusal p ≡ 0) (s : Shallow (manKind p)) 
     where
       go : (n ≤ 253) ⊎ (253 < n) → n < 256
       go (inl h) = omega arith
-      go (inr h) = let f = standing-facts p z in absurd (s n h (boardOf p, f .1, (manSquare p, alone-men p (f .0)), d))
+      go (inr h) = let f = standing-facts p z in absurd (s n h (boardOf p, f .1, keyed-lone (manKind p) p refl z, d))
 
   true-fits : (a : Answer) → TrueAnswer (boardOf p) a → AnswerFits a
   true-fits a (TrueAnswer.won n m w f e) =

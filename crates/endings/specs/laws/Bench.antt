@@ -16,14 +16,19 @@ use Rattle.board.specs.Reach.{line, reaches}
 use Rattle.board.specs.Sets.{squares}
 use Rattle.symmetry.specs.Symmetry.{mapped}
 use Rattle.rules.specs.Rules.{occupied, attacks, attacked, inCheck, apart, touching, stands, goesTo, goes, moved, canMove, movesOnto, movesFrom, allMoves, moves, mated}
-use Rattle.rules.specs.Changed.{swapped, changed}
+use Rattle.rules.specs.Changed.{other, swapped, changed}
+use Rattle.rules.specs.Reordered.{crossed}
 use Rattle.rules.specs.Chess.{chess}
 use Rattle.numbering.specs.Kings.{cornered, separate, kingRule, kingPair, pairOf}
-use Rattle.numbering.specs.Normal.{firstAbove, turn, swapsKings, normalMap, normalised}
-use Rattle.numbering.specs.Number.{keyFrom, keyOf, numberOf}
+use Rattle.numbering.specs.Normal.{turn, swapsKings}
+use Rattle.numbering.specs.KingMaps.{kingMap}
+use Rattle.numbering.specs.Keys.{keyFrom, keyOf}
+use Rattle.numbering.specs.Men.{exchangeable, crosses, firstBlack, like, falling, ordered, prefers}
+use Rattle.numbering.specs.Change.{changedBy}
+use Rattle.numbering.specs.Number.{arranged, rulingMap, rulingOrder, normalised, numberOf}
 use Rattle.position.specs.declared.Position.{Position}
 use Rattle.position.specs.Keyed.{boardOf, lone}
-use Rattle.position.specs.Refusals.{badSquare, sharedSquare, placingRefusal, standingRefusal}
+use Rattle.position.specs.Refusals.{badSide, badSquare, sharedSquare, placingRefusal, standingRefusal}
 use Rattle.index.specs.declared.NumberAnswer.{NumberAnswer}
 use Rattle.index.specs.declared.Placed.{Placed}
 use Rattle.index.specs.Answers.{numberAnswer, positionAt, unused, placedAt}
@@ -76,7 +81,7 @@ each no-more c m = absurd (List·Memᴰ·not-nil m)
 each (also h rest) c m = ⊎-elim (λ e. subst CaseHolds (sym e) h) (each rest c) (List·Memᴰ·cases-cons m)
 
 pub bench : (c : Case) → c ∈ starred → CaseHolds c
-unfolding numberAnswer numberOf keyOf keyFrom normalised normalMap turn swapsKings firstAbove changed swapped mapped boardOf badSquare sharedSquare placingRefusal standingRefusal apart positionAt unused pairOf rank kingPair kingRule cornered separate reaches any all numbers line shift stays touching mated moves allMoves movesFrom movesOnto flatMap filter squares canMove goes goesTo stands moved inCheck attacked attacks occupied
+unfolding numberAnswer numberOf keyOf keyFrom normalised arranged rulingMap rulingOrder changedBy crossed exchangeable crosses firstBlack like falling ordered prefers kingMap turn swapsKings badSide changed swapped other mapped boardOf badSquare sharedSquare placingRefusal standingRefusal apart positionAt unused pairOf rank kingPair kingRule cornered separate reaches any all numbers line shift stays touching mated moves allMoves movesFrom movesOnto flatMap filter squares canMove goes goesTo stands moved inCheck attacked attacks occupied
 bench =
     each
     (also refl

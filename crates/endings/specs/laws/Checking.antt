@@ -17,9 +17,9 @@ use Rattle.rules.specs.declared.Piece.{Piece}
 use Rattle.rules.specs.Rules.{Board, empty}
 use Rattle.rules.specs.Chess.{chess}
 use Rattle.position.specs.declared.Position.{Position}
-use Rattle.position.specs.Keyed.{boardOf, manKind, manSquare}
+use Rattle.position.specs.Keyed.{boardOf, manKind, colourOf, manSquare}
 use Rattle.position.specs.Refusals.{standingRefusal}
-use Rattle.position.specs.laws.Legality.{standing-facts, alone-men}
+use Rattle.position.specs.laws.Legality.{standing-facts, one-men}
 use Rattle.numbering.specs.Number.{numberOf}
 use Rattle.answers.specs.declared.Checked.{Checked}
 use Rattle.endings.specs.Ending.{Lone, Ending, tableSize, loneBoardAt, byteOf, ending}
@@ -39,7 +39,7 @@ byte-reads kind t = fun-ext (λ b. go (empty (b .men)) (getD t (numberOf b) 0))
 
 -- a keyed position of the ending that nothing refuses
 pub keyed-lone : (kind : ℕ) (p : Position) → manKind p ≡ kind → standingRefusal p ≡ 0 → Lone kind (boardOf p)
-keyed-lone kind p e z = (manSquare p, alone-men p (standing-facts p z .0) ∙ rw e)
+keyed-lone kind p e z = (colourOf p, (manSquare p, one-men p (standing-facts p z .0) ∙ rw e))
 
 pub keyed-ending : (kind : ℕ) (p : Position) → manKind p ≡ kind → standingRefusal p ≡ 0 → Ending kind (boardOf p)
 keyed-ending kind p e z = record { legality = standing-facts p z .1; men = inr (keyed-lone kind p e z) }
@@ -58,7 +58,7 @@ true-chess kind t = (forth, back)
     }
       where
         manned : (b : Board) → Lone kind b → T (not (empty (b .men)))
-        manned b m = subst (λ (l : List Piece). T (not (empty l))) (sym (m .1)) tt
+        manned b m = subst (λ (l : List Piece). T (not (empty l))) (sym (m .1 .1)) tt
 
     back : TrueTable kind t → True chess (ending kind) t
     back w = record {

@@ -1,7 +1,7 @@
 -- An ending's boards are closed under moves, and bare kings are drawn.
 use mathlib.Core.Path.{_≡_, sym, subst}
 use mathlib.Core.Bool.{false}
-use mathlib.Core.Logic.{_⊎_, inl, inr}
+use mathlib.Core.Logic.{_⊎_, inl, inr, ⊎-elim}
 use mathlib.Core.List.{List, [], _∷_}
 use Prim.Native.Nat.{ℕ}
 use lib.Dec.{T, not-T}
@@ -15,15 +15,15 @@ use Rattle.rules.specs.Rules.{Board, pieceOf, empty, legal, carried, carriedPie
 use Rattle.rules.specs.laws.Legal.{legal-facts}
 use Rattle.rules.specs.laws.Taken.{lone-man, bare-safe}
 use Rattle.rules.specs.Chess.{chess, played, of-moves, next-legal}
-use Rattle.endings.specs.Ending.{Lone, Ending}
+use Rattle.endings.specs.Ending.{LoneOf, Lone, Ending}
 
--- a move keeps the man or takes him
-men-next : (kind : ℕ) (b : Board) (from to : ℕ) → Lone kind b
-    → (moved b from to .men ≡ []) ⊎ Lone kind (moved b from to)
-men-next kind b from to l = go (lone-man b (pieceOf kind 0 (l .0)) from to (l .1))
+-- a move keeps the man, his kind and his colour, or takes him
+pub men-next : (kind colour : ℕ) (b : Board) (from to : ℕ) → LoneOf kind colour b
+    → (moved b from to .men ≡ []) ⊎ LoneOf kind colour (moved b from to)
+men-next kind colour b from to l = go (lone-man b (pieceOf kind colour (l .0)) from to (l .1))
   where
-    go : (moved b from to .men ≡ []) ⊎ (moved b from to .men ≡ carriedPiece from to (pieceOf kind 0 (l .0)) ∷ [])
-        → (moved b from to .men ≡ []) ⊎ Lone kind (moved b from to)
+    go : (moved b from to .men ≡ []) ⊎ (moved b from to .men ≡ carriedPiece from to (pieceOf kind colour (l .0)) ∷ [])
+        → (moved b from to .men ≡ []) ⊎ LoneOf kind colour (moved b from to)
     go (inl e) = inl e
     go (inr e) = inr (carried from to (l .0), e)
 
@@ -39,7 +39,7 @@ ending-closed kind b q d i =
     go : (b .men ≡ []) ⊎ Lone kind b → (from to : ℕ) → empty (b .men) ≡ false
         → (moved b from to .men ≡ []) ⊎ Lone kind (moved b from to)
     go (inl e) from to n = absurd (refuted n (subst (λ (l : List Piece). T (empty l)) (sym e) tt))
-    go (inr l) from to n = men-next kind b from to l
+    go (inr l) from to n = ⊎-elim inl (λ k. inr (l .0, k)) (men-next kind (l .0) b from to (l .1))
 
 -- ---- bare kings: the game is over, drawn
 

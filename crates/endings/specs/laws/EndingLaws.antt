@@ -1,6 +1,6 @@
 -- Each ending's boards, numbered: what `numbered` asks, met by the rules of chess and by the index.
 use mathlib.Core.Path.{_≡_, refl, sym, ap, subst, _∙_}
-use mathlib.Core.Bool.{false, not}
+use mathlib.Core.Bool.{Bool, false, not}
 use mathlib.Core.Logic.{_⊎_, inl, inr}
 use mathlib.Core.List.{List, [], map}
 use Prim.Native.Nat.{ℕ, _%_, _<_}
@@ -37,18 +37,20 @@ bare-of kind b d e = go (d .men)
   where
     go : (b .men ≡ []) ⊎ Lone kind b → b .men ≡ []
     go (inl h) = h
-    go (inr l) = absurd (refuted e (subst (λ (m : List Piece). T (not (empty m))) (sym (l .1)) tt))
+    go (inr l) = absurd (refuted e (subst (λ (m : List Piece). T (not (empty m))) (sym (l .1 .1)) tt))
 
--- ---- boards that one of the eight maps makes into one another
+-- ---- boards of an ending that a map, with the colours exchanged or not, makes into one another
 
-abbrev pub Turned : Board → Board → Type 0
-Turned b c = (m : Symmetry) × Image m false b c
+abbrev pub Turned : ℕ → Board → Board → Type 0
+Turned kind b c = Ending kind b × (m : Symmetry) × (x : Bool) × Image m x b c
 
-pub turned-alike : Alike chess chess Turned
-turned-alike = record {
-  forth = λ b c x q i. let r = image-alike (x .0) false .forth b c (x .1) q i in (r .0, r .1, (x .0, r .2));
-  back = λ b c x s i. let r = image-alike (x .0) false .back b c (x .1) s i in (r .0, r .1, (x .0, r .2));
-  mate = λ b c x. image-alike (x .0) false .mate b c (x .1);
+pub turned-alike : (kind : ℕ) → Alike chess chess (Turned kind)
+turned-alike kind = record {
+  forth = λ b c x q i. let r = image-alike (x .1) (x .2) .forth b c (x .3) q i in
+      (r .0, r .1, (ending-closed kind b q (x .0) i, x .1, x .2, r .2));
+  back = λ b c x s i. let r = image-alike (x .1) (x .2) .back b c (x .3) s i in
+      (r .0, r .1, (ending-closed kind b (r .0) (x .0) (r .1), x .1, x .2, r .2));
+  mate = λ b c x. image-alike (x .1) (x .2) .mate b c (x .3);
 }
 
 module _ (kind : ℕ) where
@@ -59,7 +61,7 @@ module _ (kind : ℕ) where
   live-at n h l = (
     record {
       legality = and-right (not (unused (positionAt kind n))) (legal (boardOf (positionAt kind n))) l;
-      men = inr (n % 64, refl);
+      men = inr (0, (n % 64, refl));
     },
     tt,
     number-at kind n h l,
@@ -80,13 +82,15 @@ module _ (kind : ℕ) where
     number-live = λ b d i. number-of-ending kind b (d .legality) (has-man kind b d i);
     live-at = live-at;
     outer-next = bare-stays;
-    Same = Turned;
-    alike = turned-alike;
+    Same = Turned kind;
+    alike = turned-alike kind;
     same-inside =
-        λ b c x. ap not (sym (bare-changed (x .0) false b) ∙ ap (λ (d : Board). empty (d .men)) (sym (x .1 .1)));
-    same-number = λ b c x i. sym (ap numberOf (x .1 .1) ∙ number-image (x .0) b (x .1 .0));
+        λ b c x. ap not (sym (bare-changed (x .1) (x .2) b) ∙ ap (λ (d : Board). empty (d .men)) (sym (x .3 .1)));
+    same-number =
+        λ b c x i. sym (ap numberOf (x .3 .1) ∙ number-image kind (x .1) (x .2) b (x .3 .0) (has-man kind b (x .0) i));
     same-outer = λ b c x e. refl;
-    same-at = λ b d i. let w = image-at kind b (d .legality) (has-man kind b d i) in (w .0, (d .legality, w .1));
+    same-at =
+        λ b d i. let w = image-at kind b (d .legality) (has-man kind b d i) in (d, w .0, w .1, (d .legality, w .2));
   }
 
   -- bare kings count as drawn, and are

@@ -48,7 +48,7 @@ module _ (kind : ℕ) (t : List ℕ) (known : kind < 4) (long : length t ≡ tab
       back n d = (
         d .0,
         record { legality = d .1; men = inr (d .2) },
-        subst (λ (l : List Piece). T (not (empty l))) (sym (d .2 .1)) tt,
+        subst (λ (l : List Piece). T (not (empty l))) (sym (d .2 .1 .1)) tt,
         d .3,
       )
 

@@ -3,7 +3,7 @@
 use mathlib.Core.Path.{_≡_, refl, sym, ap, subst, _∙_}
 use mathlib.Core.Bool.{Bool, true, false, cond}
 use mathlib.Core.Logic.{_⊎_, inl, inr}
-use mathlib.Core.List.{List, [], _∷_}
+use mathlib.Core.List.{List, [], _∷_, _++_}
 use mathlib.Core.Option.{Option, none, some}
 use Prim.Native.Nat.{ℕ, _-_, _%_}
 use lib.Dec.{T, leb, eqb}
@@ -18,9 +18,10 @@ use Rattle.rules.specs.declared.Piece.{Piece}
 use Rattle.rules.specs.declared.Move.{Move}
 use Rattle.rules.specs.Rules.{Board, pieceOf, empty, legal}
 use Rattle.rules.specs.Chess.{chess, played}
-use Rattle.position.specs.Keyed.{boardOf}
+use Rattle.position.specs.declared.Position.{Position}
+use Rattle.position.specs.Keyed.{slotMen, boardOf, oneMan, manKind}
 use Rattle.position.specs.Refusals.{standingRefusal}
-use Rattle.position.specs.laws.Legality.{lone-standing}
+use Rattle.position.specs.laws.Legality.{one-standing}
 use Rattle.answers.specs.declared.Answer.{Answer}
 use Rattle.answers.specs.declared.Checked.{Checked}
 use Rattle.endings.specs.Ending.{Lone, Ending, byteOf}
@@ -28,17 +29,37 @@ use Rattle.endings.specs.laws.EndingDrawn.{ending-closed, bare-over, bar
 use Rattle.endings.specs.Truth.{TrueAnswer}
 use Rattle.endings.specs.Answers.{checkOf, adviceOf, answerOf, lookUpOf}
 use Rattle.endings.specs.laws.LookingUp.{accepted-bytes, look-up-answers, look-up-true, over-none}
-use Rattle.endings.specs.GamePromise.{firstSquare, keyed, moveOfAnswer, deskMove, Told, GamePromise}
+use Rattle.endings.specs.GamePromise.{slotOf, others, keyed, moveOfAnswer, deskMove, Told, GamePromise}
 
 -- keying a board gives it back
-keyed-board : (kind : ℕ) (b : Board) → Lone kind b → boardOf (keyed kind b) ≡ b
+keyed-board : (kind : ℕ) (b : Board) → Lone kind b → boardOf (keyed b) ≡ b
 unfolding boardOf
-keyed-board kind b l = go (b .men) (l .1)
+keyed-board kind b l = go (b .men) (l .1 .1)
   where
-    go : (ms : List Piece) → ms ≡ pieceOf kind 0 (l .0) ∷ []
+    go : (ms : List Piece) → ms ≡ pieceOf kind (l .0) (l .1 .0) ∷ []
         → _≡_ {A = Board}
-        (record { side = b .side; white = b .white; black = b .black; men = pieceOf kind 0 (firstSquare ms) ∷ [] })
+        (record {
+          side = b .side;
+          white = b .white;
+          black = b .black;
+          men = slotMen (slotOf ms) ++ slotMen (slotOf (others ms));
+        })
         (record { side = b .side; white = b .white; black = b .black; men = ms })
+    go ms e = rw e
+
+keyed-one : (kind : ℕ) (b : Board) (l : Lone kind b)
+    → keyed b ≡ oneMan kind (l .0) (b .side) (b .white) (l .1 .0) (b .black)
+keyed-one kind b l = go (b .men) (l .1 .1)
+  where
+    go : (ms : List Piece) → ms ≡ pieceOf kind (l .0) (l .1 .0) ∷ []
+        → _≡_ {A = Position}
+        (record {
+          side = b .side;
+          «white_king» = b .white;
+          «black_king» = b .black;
+          first = slotOf ms;
+          second = slotOf (others ms);
+        }) (oneMan kind (l .0) (b .side) (b .white) (l .1 .0) (b .black))
     go ms e = rw e
 
 -- the move of an answer is the one advised
@@ -58,30 +79,36 @@ answer-move n o = go (leb n 1) (eqb (n % 2) 1) o
     go false false (some m) = refl
 
 module _ (kind : ℕ) (t : List ℕ) (ok : checkOf kind t ≡ Checked.Accepted) where
-  keyed-standing : (b : Board) → Ending kind b → Lone kind b → standingRefusal (keyed kind b) ≡ 0
+  keyed-standing : (b : Board) → Ending kind b → Lone kind b → standingRefusal (keyed b) ≡ 0
   keyed-standing b d l =
-      eqb-true (standingRefusal (keyed kind b)) 0
-      (sym (lone-standing kind (b .side) (b .white) (firstSquare (b .men)) (b .black))
-      ∙ ap legal (keyed-board kind b l) ∙ true-of (d .legality))
+      let p = oneMan kind (l .0) (b .side) (b .white) (l .1 .0) (b .black) in
+      ap standingRefusal (keyed-one kind b l)
+      ∙ eqb-true (standingRefusal p) 0
+      (sym (one-standing kind (l .0) (b .side) (b .white) (l .1 .0) (b .black))
+      ∙ ap (λ (q : Position). legal (boardOf q)) (sym (keyed-one kind b l)) ∙ ap legal (keyed-board kind b l)
+      ∙ true-of (d .legality))
+
+  keyed-kind : (b : Board) → Lone kind b → manKind (keyed b) ≡ kind
+  keyed-kind b l = ap manKind (keyed-one kind b l)
 
   -- the desk's move is the first suited one
-  desk-first : (b : Board) → Ending kind b → deskMove kind t b ≡ firstSuited chess (byteOf t) b
+  desk-first : (b : Board) → Ending kind b → deskMove t b ≡ firstSuited chess (byteOf t) b
   unfolding deskMove
   desk-first b d = go (d .men)
     where
       go : (b .men ≡ []) ⊎ Lone kind b
-          → cond (empty (b .men)) none (moveOfAnswer (lookUpOf t (keyed kind b))) ≡ firstSuited chess (byteOf t) b
+          → cond (empty (b .men)) none (moveOfAnswer (lookUpOf t (keyed b))) ≡ firstSuited chess (byteOf t) b
       go (inl e) =
-          subst (λ (ms : List Piece). cond (empty ms) none (moveOfAnswer (lookUpOf t (keyed kind b)))
+          subst (λ (ms : List Piece). cond (empty ms) none (moveOfAnswer (lookUpOf t (keyed b)))
           ≡ firstSuited chess (byteOf t) b) (sym e) (sym (over-none b t (bare-over b (d .legality) e)))
       go (inr l) =
-          subst (λ (ms : List Piece). cond (empty ms) none (moveOfAnswer (lookUpOf t (keyed kind b)))
-          ≡ firstSuited chess (byteOf t) b) (sym (l .1))
-          (ap moveOfAnswer (look-up-answers kind t ok (keyed kind b) refl (keyed-standing b d l))
-          ∙ answer-move (byteOf t (boardOf (keyed kind b))) (firstSuited chess (byteOf t) (boardOf (keyed kind b)))
+          subst (λ (ms : List Piece). cond (empty ms) none (moveOfAnswer (lookUpOf t (keyed b)))
+          ≡ firstSuited chess (byteOf t) b) (sym (l .1 .1))
+          (ap moveOfAnswer (look-up-answers kind t ok (keyed b) (keyed-kind b l) (keyed-standing b d l))
+          ∙ answer-move (byteOf t (boardOf (keyed b))) (firstSuited chess (byteOf t) (boardOf (keyed b)))
           ∙ ap (firstSuited chess (byteOf t)) (keyed-board kind b l))
 
-  desk-chooses : Chooses chess (Ending kind) (byteOf t) (deskMove kind t)
+  desk-chooses : Chooses chess (Ending kind) (byteOf t) (deskMove t)
   desk-chooses = record {
     sound = λ b d m e. first-chooses chess (Ending kind) (byteOf t) .sound b d m (sym (desk-first b d) ∙ e);
     total = λ b d m i s. let r = first-chooses chess (Ending kind) (byteOf t) .total b d m i s in
@@ -92,18 +119,18 @@ module _ (kind : ℕ) (t : List ℕ) (ok : checkOf kind t ≡ Checked.Accepted) 
   stays b [] d l = d
   stays b (m ∷ ms) d l = stays (played b m) ms (ending-closed kind b (played b m) d (map-in (played b) (l .0))) (l .1)
 
-  board-answer : (b : Board) → Ending kind b → empty (b .men) ≡ false → TrueAnswer b (lookUpOf t (keyed kind b))
+  board-answer : (b : Board) → Ending kind b → empty (b .men) ≡ false → TrueAnswer b (lookUpOf t (keyed b))
   board-answer b d e = go (d .men)
     where
-      go : (b .men ≡ []) ⊎ Lone kind b → TrueAnswer b (lookUpOf t (keyed kind b))
+      go : (b .men ≡ []) ⊎ Lone kind b → TrueAnswer b (lookUpOf t (keyed b))
       go (inl h) = absurd (refuted e (subst (λ (ms : List Piece). T (empty ms)) (sym h) tt))
       go (inr l) =
-          subst (λ (c : Board). TrueAnswer c (lookUpOf t (keyed kind b))) (keyed-board kind b l)
-          (look-up-true kind t ok (keyed kind b) refl (keyed-standing b d l))
+          subst (λ (c : Board). TrueAnswer c (lookUpOf t (keyed b))) (keyed-board kind b l)
+          (look-up-true kind t ok (keyed b) (keyed-kind b l) (keyed-standing b d l))
 
   -- from what is promised of a value to what is promised of its name
   told-by : (side : Bool) (b : Board) (ms : List Move) (a : Answer) → TrueAnswer b a
-      → Promised chess (byteOf t) (deskMove kind t) side b ms → Told a side b ms
+      → Promised chess (byteOf t) (deskMove t) side b ms → Told a side b ms
   told-by side b ms a (TrueAnswer.won n m w f e) p =
       subst (λ (c : Answer). Told c side b ms) (sym e) (p .won n w, p .won-other n w)
   told-by side b ms a (TrueAnswer.lost n m w f e) p =
@@ -115,10 +142,10 @@ module _ (kind : ℕ) (t : List ℕ) (ok : checkOf kind t ≡ Checked.Accepted) 
 
   -- The table is accepted for the ending; b is a legal board of it; ms is a game from b; the side plays the desk's moves in it.
   pub games : (b : Board) → T (legal b) → Lone kind b → (side : Bool) (ms : List Move) → LegalGame chess b ms
-      → Follows chess (deskMove kind t) side b ms → GamePromise kind t side b ms
+      → Follows chess (deskMove t) side b ms → GamePromise t side b ms
   games b l m side ms game follows = record {
     called = first-answer;
-    told = told-by side b ms (lookUpOf t (keyed kind b)) first-answer kept;
+    told = told-by side b ms (lookUpOf t (keyed b)) first-answer kept;
     answers = λ i h n. board-answer (atPly chess b ms i) (here i) n;
     bare = λ i h
         n. (bare-over (atPly chess b ms i) (here i .legality) n, bare-drawn (atPly chess b ms i) (here i .legality) n);
@@ -128,11 +155,11 @@ module _ (kind : ℕ) (t : List ℕ) (ok : checkOf kind t ≡ Checked.Accepted) 
       first : Ending kind b
       first = record { legality = l; men = inr m }
 
-      first-answer : TrueAnswer b (lookUpOf t (keyed kind b))
-      first-answer = board-answer b first (ap empty (m .1))
+      first-answer : TrueAnswer b (lookUpOf t (keyed b))
+      first-answer = board-answer b first (ap empty (m .1 .1))
 
-      kept : Promised chess (byteOf t) (deskMove kind t) side b ms
-      kept = promised chess (Ending kind) (ending-closed kind) (byteOf t) (accepted-bytes kind t ok) (deskMove kind t)
+      kept : Promised chess (byteOf t) (deskMove t) side b ms
+      kept = promised chess (Ending kind) (ending-closed kind) (byteOf t) (accepted-bytes kind t ok) (deskMove t)
           desk-chooses side b ms first game follows
 
       here : (i : ℕ) → Ending kind (atPly chess b ms i)

@@ -1,10 +1,10 @@
 -- Where a pass settles nothing: a depth above 0 is required only where a successor holds the depth before it, and successors' numbers lie in the
 -- other half of the table.
-use mathlib.Core.Path.{_≡_, sym, ap, subst, _∙_}
+use mathlib.Core.Path.{_≡_, refl, sym, ap, subst, _∙_}
 use mathlib.Core.Bool.{Bool, false, cond, not, _&&_}
 use mathlib.Core.Logic.{_⊎_, inl, inr}
 use mathlib.Core.List.{List, map}
-use Prim.Native.Nat.{ℕ, _+_, _-_, _/_, _<_, _≤_}
+use Prim.Native.Nat.{ℕ, _+_, _-_, _/_, _%_, _<_, _≤_}
 use native.Mathlib.Omega.{arith}
 use lib.Dec.{T, ltb, eqb, eqb→eq}
 use lib.ListN.{getD}
@@ -18,12 +18,14 @@ use Rattle.theory.specs.laws.RuleLaws.{required-rule, byte-before}
 use Rattle.table_theory.specs.Tables.{reads, settles, passByte}
 use Rattle.table_theory.specs.laws.Acceptance.{reads-inside, reads-outside}
 use Rattle.table_theory.specs.laws.Passing.{settles-in-place}
-use Rattle.rules.specs.Rules.{Board, empty, mated}
+use Rattle.rules.specs.Rules.{Board, empty, legal, mated}
 use Rattle.rules.specs.Chess.{chess}
 use Rattle.numbering.specs.Number.{numberOf}
-use Rattle.endings.specs.Ending.{Ending, tableSize, loneBoardAt, legalNumber, ending}
+use Rattle.position.specs.Keyed.{boardOf}
+use Rattle.index.specs.Answers.{positionAt}
+use Rattle.endings.specs.Ending.{LoneOf, tableSize, loneBoardAt, legalNumber, ending}
 use Rattle.endings.specs.laws.EndingDrawn.{ending-closed}
-use Rattle.endings.specs.laws.Halves.{side-at, side-next, number-side}
+use Rattle.endings.specs.laws.Halves.{side-at, side-next, white-next, number-side}
 use Rattle.endings.specs.laws.EndingLaws.{live-at}
 use Rattle.filling.specs.Quiet.{Absent, Quiet}
 
@@ -42,23 +44,28 @@ module _ (kind k : ℕ) (t : List ℕ) (n : ℕ) (h : n < tableSize) where
       let w = map-out (reads chess (ending kind) t) (b .0) (next chess (loneBoardAt kind n)) (b .1) in
       let d = ending-closed kind (loneBoardAt kind n) (w .0)
       (live-at kind n h (and-left (legalNumber kind n) (eqb byte (2 + k)) last) .0) (w .1) in
-      go (w .0) d (side-next (loneBoardAt kind n) (w .0) (w .1)) (sym (w .2) ∙ before (b .0) (sym e ∙ b .2))
+      go (w .0) (d .legality) (λ i. white-next kind (loneBoardAt kind n) (w .0) at-white (w .1) i)
+      (side-next (loneBoardAt kind n) (w .0) (w .1)) (sym (w .2) ∙ before (b .0) (sym e ∙ b .2))
       (decided (not (empty (w .0 .men))))
     where
       before : (b : ℕ) → 2 + k ≡ 1 + b → b ≡ 1 + k
       before b e = omega arith
 
-      go : (q : Board) → Ending kind q → q .side ≡ 1 - loneBoardAt kind n .side → reads chess (ending kind) t q ≡ 1 + k
+      at-white : LoneOf kind 0 (loneBoardAt kind n)
+      at-white = unfold loneBoardAt boardOf positionAt in (n % 64, refl)
+
+      go : (q : Board) → T (legal q) → (T (not (empty (q .men))) → LoneOf kind 0 q)
+          → q .side ≡ 1 - loneBoardAt kind n .side → reads chess (ending kind) t q ≡ 1 + k
           → T (not (empty (q .men))) ⊎ T (not (not (empty (q .men))))
           → (m : ℕ) × (m < tableSize) × (m / 64 / 462 ≡ 1 - n / 64 / 462) × (getD t m 0 ≡ 1 + k)
-      go q d side r (inl i) = let z = number-side kind q d i in (
+      go q l m side r (inl i) = let z = number-side kind q l (m i) in (
         numberOf q,
         z .0,
         z .1 ∙ side
             ∙ ap (λ (x : ℕ). 1 - x) (side-at kind n),
         sym (reads-inside chess (ending kind) t q i) ∙ r,
       )
-      go q d side r (inr o) = let one : reads chess (ending kind) t q ≡ 1 =
+      go q l m side r (inr o) = let one : reads chess (ending kind) t q ≡ 1 =
           reads-outside chess (ending kind) t q (false-of o) in absurd (omega (arith, one, r, some))
 
   pub quiet-white : n < 29568 → Quiet k t 29568 59136 → settles chess (ending kind) k t n ≡ false

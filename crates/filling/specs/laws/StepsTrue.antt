@@ -244,25 +244,26 @@ module _ (kind : ℕ) (t : List ℕ) (known : kind < 4) (long : length t ≡ tab
         ∙ runs.steps-zero chess (ending kind) (lawful kind) noneDeeper (outer-true kind) none-lent refl t sized n never
         i h v
 
-    -- The same of every legal position of the ending, whichever of the eight maps its number's own board is under.
+    -- The same of every legal position of the ending, whichever map, with colours exchanged or not, makes it its number's own board.
     pub steps-keyed : (p : Position) → manKind p ≡ kind → standingRefusal p ≡ 0
         → Settled chess n (boardOf p) (getD (run n .bytes) (numberOf (boardOf p)) 0)
     unfolding ending lawful boardOf
     steps-keyed p e z =
         let d = keyed-ending kind p e z in
         let i : T (not (empty (boardOf p .men))) =
-        subst (λ (l : List Piece). T (not (empty l))) (sym (keyed-lone kind p e z .1)) tt in
+        subst (λ (l : List Piece). T (not (empty l))) (sym (keyed-lone kind p e z .1 .1)) tt in
         let v = lawful kind .number-live (boardOf p) d i in
         go (getD (run n .bytes) (numberOf (boardOf p)) 0) (lawful kind .same-at (boardOf p) d i)
         (steps-true (numberOf (boardOf p)) (v .0) (v .1))
       where
-        go : (b : ℕ) → Turned (boardOf p) (loneBoardAt kind (numberOf (boardOf p)))
+        go : (b : ℕ) → Turned kind (boardOf p) (loneBoardAt kind (numberOf (boardOf p)))
             → Settled chess n (loneBoardAt kind (numberOf (boardOf p))) b → Settled chess n (boardOf p) b
         go b s (Settled.yet none y) =
             Settled.yet
             (λ m h x. none m h
-            (alike-depth chess chess Turned turned-alike m (boardOf p) (loneBoardAt kind (numberOf (boardOf p))) s x)) y
+            (alike-depth chess chess (Turned kind) (turned-alike kind) m (boardOf p)
+            (loneBoardAt kind (numberOf (boardOf p))) s x)) y
         go b s (Settled.done m h x z) =
             Settled.done m h
-            (alike-depth chess chess (λ c q. Turned q c) (flip turned-alike) m
+            (alike-depth chess chess (λ c q. Turned kind q c) (flip (turned-alike kind)) m
             (loneBoardAt kind (numberOf (boardOf p))) (boardOf p) s x) z

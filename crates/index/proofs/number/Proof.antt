@@ -3,6 +3,7 @@ use mathlib.Core.Path.{ap, sym, _∙_}
 use borrow.Author.Needs.{needs}
 use Rattle.index.specs.declared.NumberAnswer.{NumberAnswer}
 use Rattle.index.specs.laws.AnswerLaws.{numbered-is, numbered-refused}
+use Rattle.index.specs.laws.NumberLaws.{owned-number}
 use Rattle.index.proofs.number.Statement.{statement}
 use Rattle.index.proofs.number.Tie as tie
 
@@ -19,9 +20,9 @@ number-of-requires c κs = search needs
 
 returns-2 : tie.Need-returns-2
 returns-2 c =
-    ap NumberAnswer.Number (c .number-of .ensures)
-    ∙ sym (numbered-is (c .before .before .before .args .p)
-    (sym (c .before .before .placing-refusal .ensures) ∙ c .before .if1 .left))
+    let p = c .before .before .before .args .p in
+    let z = sym (c .before .before .placing-refusal .ensures) ∙ c .before .if1 .left in
+    ap NumberAnswer.Number (c .number-of .ensures ∙ owned-number p z) ∙ sym (numbered-is p z)
 
 pub number-spec : {M : Type 1} → statement M
 number-spec = tie.close (tie.spec placing-refusal-requires returns number-of-requires returns-2)

@@ -1,8 +1,13 @@
--- `index::number_of` meets its contract: the key of the normal position is the number. Assumes nothing.
+-- `index::number_of` meets its contract: the digits are the key of the normal position. Assumes nothing.
+use mathlib.Core.Path.{ap, _∙_}
 use borrow.Author.Needs.{needs}
-use Rattle.index.specs.laws.AnswerLaws.{number-key}
+use Rattle.position.specs.Maps.{normalPosition}
+use Rattle.index.specs.laws.AnswerLaws.{position-key}
 use Rattle.index.proofs.number_of.Statement.{statement}
 use Rattle.index.proofs.number_of.Tie as tie
+
+white-owned-requires : tie.Need-white-owned-requires
+white-owned-requires c κs = search needs
 
 normalised-requires : tie.Need-normalised-requires
 normalised-requires c κs = search needs
@@ -15,7 +20,9 @@ key-of-requires c κs = search needs
 
 returns : tie.Need-returns
 returns c =
-    number-key _ _ _ _ (c .before .before .normalised .ensures) (c .before .pair-of .ensures) (c .key-of .ensures)
+    position-key _ _ _ _
+    (c .before .before .normalised .ensures ∙ ap normalPosition (c .before .before .before .white-owned .ensures))
+    (c .before .pair-of .ensures) (c .key-of .ensures)
 
 pub number-of-spec : {M : Type 1} → statement M
-number-of-spec = tie.close (tie.spec normalised-requires pair-of-requires key-of-requires returns)
+number-of-spec = tie.close (tie.spec white-owned-requires normalised-requires pair-of-requires key-of-requires returns)

@@ -6,22 +6,21 @@ use Prim.Native.Nat.{ℕ, _+_, _*_, _/_, _%_, _<_, _≤_}
 use native.Mathlib.Omega.{arith}
 use lib.Dec.{T, eqb}
 use borrow.Author.Tests.{le-leb, lt-leb, eq-eqb, ne-eqb}
-use Rattle.finite.specs.Truth.{implies, true-of, eqb-sym}
+use Rattle.finite.specs.Truth.{refuted, eqb-sym}
 use Rattle.finite.specs.Members.{any}
 use Rattle.rules.specs.Rules.{apart}
 use Rattle.numbering.specs.Kings.{above, onDiagonal, kingRule, pairOf, kingsOf}
-use Rattle.numbering.specs.Normal.{firstAbove, normal, normalMap, normalised}
-use Rattle.numbering.specs.Number.{keyFrom, keyOf, numberOf, leading, menAt, boardAt, used}
+use Rattle.numbering.specs.Keys.{keyFrom, keyOf, leading, menAt, boardAt}
+use Rattle.numbering.specs.Number.{numberOf, used}
 use Rattle.numbering.specs.laws.PairLaws.{KingsOf, kings-of}
 use Rattle.numbering.specs.laws.Numberable.{separate-apart, ruled-separate}
+use Rattle.numbering.specs.laws.LoneLaws.{lone-bears}
 use Rattle.rules.specs.declared.Piece.{Piece}
 use Rattle.position.specs.declared.Slot.{Slot}
 use Rattle.position.specs.declared.Slot.the-variants.{Absent, Present}
 use Rattle.position.specs.declared.Position.{Position}
 use Rattle.position.specs.Keyed.{slotMen, boardOf, lone}
 use Rattle.position.specs.Refusals.{placingRefusal}
-use Rattle.position.specs.Maps.{normalPosition}
-use Rattle.position.specs.laws.MapLaws.{map-board}
 use Rattle.position.specs.laws.PlacedLaws.{endingWith}
 use Rattle.index.specs.declared.NumberAnswer.{NumberAnswer}
 use Rattle.index.specs.declared.Placed.{Placed}
@@ -40,17 +39,14 @@ pub by-slots : (n one two : ℕ) (f s : Slot) → one ≡ keyFrom n (slotMen f) 
     → two ≡ keyFrom n (slotMen f ++ slotMen s)
 by-slots n one two f s g h = h ∙ ap (λ (k : ℕ). keyFrom k (slotMen s)) g ∙ sym (key-append n (slotMen f) (slotMen s))
 
--- the key of the normal position is the number
-pub number-key : (p n : Position) (pair key : ℕ) → n ≡ normalPosition p
-    → pair ≡ pairOf (n .«white_king») (n .«black_king»)
-    → key ≡ keyFrom (n .side * 462 + pair) (slotMen (n .first) ++ slotMen (n .second)) → key ≡ numberOf (boardOf p)
-unfolding numberOf normalised normalPosition
-number-key p n pair key e f g =
+-- the digits of a position and the pair of its kings are its key
+pub position-key : (p n : Position) (pair key : ℕ) → n ≡ p → pair ≡ pairOf (n .«white_king») (n .«black_king»)
+    → key ≡ keyFrom (n .side * 462 + pair) (slotMen (n .first) ++ slotMen (n .second)) → key ≡ keyOf (boardOf p)
+position-key p n pair key e f g =
     g
     ∙ ap (λ (q : ℕ). keyFrom (n .side * 462 + q) (slotMen (n .first) ++ slotMen (n .second))) f
     ∙ key-slots n
     ∙ ap (λ (q : Position). keyOf (boardOf q)) e
-    ∙ ap keyOf (map-board (normalMap (boardOf p)) p)
   where
     key-slots : (q : Position)
         → keyFrom (q .side * 462 + pairOf (q .«white_king») (q .«black_king»))
@@ -111,34 +107,26 @@ module _ (kind n : ℕ) where
 
 -- ---- unused exactly where 01 says
 
-tests : (wb ws bs k dw db a o : Bool) → wb ≡ false → k ≡ true
-    → ((not (wb || (ws || false)) && (not (bs || false) && (not false && true)))
-    && (k && implies (dw && db) (not (a || (o && false))))) ≡ not (ws || (bs || (dw && (db && a))))
-tests wb ws bs k dw db a o p q = rw (p, q) (rest ws bs dw db a o)
-  where
-    rest : (ws bs dw db a o : Bool)
-        → ((not (ws || false) && (not (bs || false) && true)) && implies (dw && db) (not (a || (o && false))))
-        ≡ not (ws || (bs || (dw && (db && a))))
-    rest true bs dw db a o = refl
-    rest false true dw db a o = refl
-    rest false false false db a o = refl
-    rest false false true false a o = refl
-    rest false false true true true o = refl
-    rest false false true true false true = refl
-    rest false false true true false false = refl
+tests : (wb ws bs d : Bool) → wb ≡ false
+    → ((not (wb || (ws || false)) && (not (bs || false) && (not false && true))) && not d) ≡ not (ws || (bs || d))
+tests true ws bs d e = absurd (refuted e tt)
+tests false true bs d e = refl
+tests false false true d e = refl
+tests false false false d e = refl
 
--- with kings by the rule, a board with one man is used exactly if 01's sentence does not call it unused
-pub used-is : (kind side white square black : ℕ) → T (kingRule white black)
+-- with kings by the rule, a board with one man of White's is used exactly if 01's sentence does not call it unused
+pub used-is : (kind side white square black : ℕ) → T (kingRule white black) → square < 64
     → used (boardOf (lone kind side white square black)) ≡ not (unused (lone kind side white square black))
-unfolding used unused normal firstAbove apart any boardOf
-used-is kind side white square black t =
-    tests (eqb white black) (eqb white square) (eqb black square) (kingRule white black) (onDiagonal white)
-    (onDiagonal black) (above square) (onDiagonal square)
-    (separate-apart white black (ruled-separate white black t)) (true-of {b = kingRule white black} t)
+unfolding used unused apart any boardOf
+used-is kind side white square black t h =
+    rw (lone-bears kind side white square black t h)
+    (tests (eqb white black) (eqb white square) (eqb black square)
+    (onDiagonal white && (onDiagonal black && above square))
+    (separate-apart white black (ruled-separate white black t))
     ∙ ap (λ (x : Bool). not (eqb white square || (x || (onDiagonal white && (onDiagonal black && above square)))))
-    (eqb-sym black square)
+    (eqb-sym black square))
 
 pub unused-exactly : (kind n : ℕ) → used (boardOf (positionAt kind n)) ≡ not (unused (positionAt kind n))
 unfolding positionAt
 unused-exactly kind n = let kings = kingsOf (n / 64 % 462) in
-    used-is kind (n / 64 / 462) (kings / 64) (n % 64) (kings % 64) (kings-at kind n .ruled)
+    used-is kind (n / 64 / 462) (kings / 64) (n % 64) (kings % 64) (kings-at kind n .ruled) (omega arith)

@@ -1,5 +1,5 @@
 -- Numbers and positions, there and back: each used number leads back to a position that is placed and bears it; a placed position's number is
--- used, and what stands there is a map's image of it; no position bears an unused number.
+-- used, and what stands there is of its class; no position bears an unused number.
 use mathlib.Core.Path.{_≡_, refl, ap, subst, sym, _∙_}
 use mathlib.Core.Logic.{_⊎_, inl, inr}
 use mathlib.Core.Bool.{Bool, true, false, not, cond, _&&_, _||_}
@@ -10,10 +10,11 @@ use borrow.Author.Tests.{leb-false, lt-leb, lt-ltb}
 use Rattle.finite.specs.Truth.{and-left, by-test, of-true, true-of, fails, refuted, true-not-false}
 use Rattle.finite.specs.Members.{all}
 use Rattle.rules.specs.Rules.{Board, pieces, apart, touching}
-use Rattle.numbering.specs.Normal.{normal, normalMap, normalised}
-use Rattle.numbering.specs.Number.{numberOf, spread, boardAt, used}
+use Rattle.numbering.specs.Keys.{keyOf, spread, boardAt}
+use Rattle.numbering.specs.Men.{materialOf}
+use Rattle.numbering.specs.Number.{numberOf, used}
 use Rattle.numbering.specs.laws.Numberable.{separate-touching, ruled-separate}
-use Rattle.numbering.specs.laws.AtLaws.{used-number, at-number, number-used}
+use Rattle.numbering.specs.laws.AtLaws.{used-number, image-at, number-used}
 use Rattle.position.specs.declared.Position.{Position}
 use Rattle.position.specs.Keyed.{boardOf, manKind}
 use Rattle.position.specs.Refusals.{placingRefusal}
@@ -23,8 +24,13 @@ use Rattle.index.specs.declared.Placed.{Placed}
 use Rattle.index.specs.Answers.{numberAnswer, positionAt, unused, placedAt}
 use Rattle.index.specs.laws.AnswerLaws.{numbered-is, board-at, kings-at, placed-used, unused-exactly}
 use Rattle.index.specs.NumberLaws.{SameClass}
-use Rattle.index.specs.laws.NumberLaws.{board-numberable, number-below}
+use Rattle.index.specs.laws.NumberLaws.{board-has, number-below}
 use Rattle.index.specs.BackLaws.{Bears, Located}
+
+-- one man of White's is some board's material
+material : (kind : ℕ) → materialOf (endingWith kind) ≡ endingWith kind
+unfolding materialOf
+material kind = refl
 
 module _ (kind n : ℕ) (h : kind < 4) (k : n < 59136) (u : unused (positionAt kind n) ≡ false) where
   used-at : T (used (boardOf (positionAt kind n)))
@@ -44,7 +50,8 @@ module _ (kind n : ℕ) (h : kind < 4) (k : n < 59136) (u : unused (positionAt k
           lt-ltb (b .black) 64 (kings .black),
           lt-ltb (n % 64) 64 (omega arith),
         ) tt;
-        distinct = and-left (apart (pieces b)) (normal b) used-at;
+        distinct = and-left (apart (pieces b)) (eqb (numberOf b) (keyOf b)) used-at;
+        colours = tt;
         kings = separate-touching (b .white) (b .black) (ruled-separate (b .white) (b .black) (kings .ruled));
       }
 
@@ -53,12 +60,12 @@ module _ (kind n : ℕ) (h : kind < 4) (k : n < 59136) (u : unused (positionAt k
 
   -- what stands at a used number is placed and bears it
   pub used-bears : Bears kind n (positionAt kind n)
-  unfolding spread positionAt
+  unfolding positionAt
   used-bears = record {
     ending = refl;
     side = omega arith;
     placed = facts-placed (positionAt kind n) at-facts;
-    number = ap numberOf (board-at kind n) ∙ used-number (endingWith kind) n refl k at-used;
+    number = ap numberOf (board-at kind n) ∙ used-number (material kind) n at-used;
   }
 
 -- each number is unused, or its position is placed and bears it
@@ -95,15 +102,15 @@ module _ (p : Position) (z : placingRefusal p ≡ 0) where
   number-not-unused =
       flipped (unused (positionAt (manKind p) own))
       (sym (unused-exactly (manKind p) own) ∙ ap used (board-at (manKind p) own)
-      ∙ true-of (number-used (boardOf p) (board-numberable p z) (placed-facts p z .distinct)))
+      ∙ true-of (number-used (material (manKind p)) (boardOf p) (board-has p z) (placed-facts p z .distinct)))
     where
       flipped : (b : Bool) → not b ≡ true → b ≡ false
       flipped true e = sym e
       flipped false e = refl
 
   pub number-class : SameClass p (positionAt (manKind p) own)
-  unfolding normalised
-  number-class = (normalMap (boardOf p), board-at (manKind p) own ∙ at-number (boardOf p) (board-numberable p z))
+  number-class =
+      let i = image-at (material (manKind p)) (boardOf p) (board-has p z) in (i .0, board-at (manKind p) own ∙ i .1)
 
 pub back-number : (p : Position) → placingRefusal p ≡ 0 → Located p (numberOf (boardOf p))
 back-number p z = record {

@@ -13,10 +13,12 @@ use Rattle.symmetry.specs.Symmetry.{Symmetry, mapped}
 use Rattle.symmetry.specs.laws.SymmetryLaws.{mapped-off}
 use Rattle.rules.specs.Rules.{Board}
 use Rattle.numbering.specs.Kings.{above, onDiagonal}
-use Rattle.numbering.specs.Normal.{firstAbove, turn, swapsKings, normalMap, normalised}
+use Rattle.numbering.specs.Normal.{firstAbove, turn, swapsKings, normalMap}
 use Rattle.numbering.specs.KingMaps.{swapping}
 use Rattle.numbering.specs.laws.NormalLaws.{stays-diagonal}
-use Rattle.numbering.specs.Number.{keyFrom, keyOf, numberOf}
+use Rattle.numbering.specs.laws.LoneLaws.{lone-normal}
+use Rattle.numbering.specs.Keys.{keyFrom, keyOf}
+use Rattle.numbering.specs.Number.{normalised, numberOf}
 use Rattle.pairs.specs.Tables.{pairs, pairIn}
 use Rattle.pairs.specs.laws.TableLaws.{lent-pair}
 use Rattle.position.specs.Keyed.{boardOf, lone}
@@ -124,11 +126,11 @@ by-two : (list : List ℕ) (m n : Symmetry) (kind side white square black : ℕ)
     → numberBy list (boardOf (lone kind side white square black))
     ≡ (side * 462 + pairIn list (mapped n (mapped m white)) (mapped n (mapped m black))) * 64 + mapped n
     (mapped m square)
-unfolding numberBy normalised normalPosition mappedPosition keyFrom boardOf
+unfolding numberBy normalPosition mappedPosition keyFrom boardOf
 by-two list m n kind side white square black e =
     let p = lone kind side white square black in
     ap (λ (b : Board). keyFrom (b .side * 462 + pairIn list (b .white) (b .black)) (b .men))
-    (sym (map-board (normalMap (boardOf p)) p) ∙ ap boardOf (sym e))
+    (lone-normal kind side white square black ∙ sym (map-board (normalMap (boardOf p)) p) ∙ ap boardOf (sym e))
 
 pub frame-number : (list : List ℕ) (kind side white square black : ℕ)
     → numberIn (frameOf list side white black) square ≡ numberBy list (boardOf (lone kind side white square black))

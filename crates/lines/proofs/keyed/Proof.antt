@@ -5,11 +5,20 @@ use borrow.Author.Needs.{needs}
 use Rattle.lines.proofs.keyed.Statement.{statement}
 use Rattle.lines.proofs.keyed.Tie as tie
 
-shared-slice-read-man-code : tie.Need-shared-slice-read-man-code
-shared-slice-read-man-code c = search needs
+shared-slice-read-as-white : tie.Need-shared-slice-read-as-white
+shared-slice-read-as-white c = search needs
+
+as-white-requires : tie.Need-as-white-requires
+as-white-requires c κs = search needs
 
 man-code-requires : tie.Need-man-code-requires
 man-code-requires c κs = search needs
+
+shared-slice-read-colour-code : tie.Need-shared-slice-read-colour-code
+shared-slice-read-colour-code c = search needs
+
+colour-code-requires : tie.Need-colour-code-requires
+colour-code-requires c κs = search needs
 
 shared-slice-read-side-code : tie.Need-shared-slice-read-side-code
 shared-slice-read-side-code c = search needs
@@ -44,20 +53,23 @@ shared-slice-read-square-named-6 c = search needs
 square-named-requires-3 : tie.Need-square-named-requires-3
 square-named-requires-3 c κs = search needs
 
-lone-requires : tie.Need-lone-requires
-lone-requires c κs = search needs
+one-man-requires : tie.Need-one-man-requires
+one-man-requires c κs = search needs
 
 returns : tie.Need-returns
 unfolding keyedOf
-returns c = c .lone .ensures
-    ∙ rw (c .before .before .before .before .before .before .before .before .before .before .before .before .man-code .ensures, c .before .before .before .before .before .before .before .before .before .before .side-code .ensures, c .before .before .before .before .before .before .before .square-named .ensures, c .before .before .before .before .square-named2 .ensures, c .before .square-named3 .ensures)
+returns c = c .one-man .ensures
+    ∙ rw (c .before .before .before .before .before .before .before .before .before .before .before .before .before .before .man-code .ensures, c .before .before .before .before .before .before .before .before .before .before .before .before .before .before .before .as-white .ensures, c .before .before .before .before .before .before .before .before .before .before .before .before .colour-code .ensures, c .before .before .before .before .before .before .before .before .before .before .side-code .ensures, c .before .before .before .before .before .before .before .square-named .ensures, c .before .before .before .before .square-named2 .ensures, c .before .square-named3 .ensures)
 
 pub keyed-spec : {M : Type 1} → statement M
 keyed-spec =
     tie.close
     (tie.spec
-    shared-slice-read-man-code
+    shared-slice-read-as-white
+    as-white-requires
     man-code-requires
+    shared-slice-read-colour-code
+    colour-code-requires
     shared-slice-read-side-code
     side-code-requires
     shared-slice-read-square-named
@@ -69,5 +81,5 @@ keyed-spec =
     shared-slice-read-square-named-5
     shared-slice-read-square-named-6
     square-named-requires-3
-    lone-requires
+    one-man-requires
     returns)

@@ -17,6 +17,9 @@ returns-2 c = refused-length _ _ _ (c .before .before .standing-refusal .ensures
 pair-list-requires : tie.Need-pair-list-requires
 pair-list-requires c κs = tt
 
+white-owned-requires : tie.Need-white-owned-requires
+white-owned-requires c κs = tt
+
 man-in-requires : tie.Need-man-in-requires
 man-in-requires c κs = tt
 
@@ -38,21 +41,15 @@ answer-requires c κs = tt
 returns-3 : tie.Need-returns-3
 returns-3 c =
     refused-byte _ _ _
-    (c .before .before .before .before .before .before .before .before .before .before .standing-refusal .ensures)
-    (c .before .before .before .before .before .before .before .before .before .if1 .left) _
-    (c .before .before .before .before .before .before .man-in .ensures) _ _ _
-    (c .before .before .before .before .before .before .before .before .if2 .left)
-    (c .before .before .before .before .before .before .before .pair-list .ensures)
-    (c .before .before .before .before .byte-of .ensures _) (c .before .before .verdict-on .ensures)
-    (c .enum-told .given .1)
+    (c .before .before .before .before .before .before .before .before .before .before .before .standing-refusal .ensures) (c .before .before .before .before .before .before .before .before .before .before .if1 .left) _ _ (c .before .before .before .before .before .before .before .white-owned .ensures) (c .before .before .before .before .before .before .man-in .ensures) _ _ _ (c .before .before .before .before .before .before .before .before .before .if2 .left) (c .before .before .before .before .before .before .before .before .pair-list .ensures) (c .before .before .before .before .byte-of .ensures _) (c .before .before .verdict-on .ensures) (c .enum-told .given .1)
 
 returns-4 : tie.Need-returns-4
 returns-4 c = c .answer .ensures
     ∙ answered _ _ _
-    (c .before .before .before .before .before .before .before .before .before .before .before .before .standing-refusal .ensures) (c .before .before .before .before .before .before .before .before .before .before .before .if1 .left) _ (c .before .before .before .before .before .before .before .before .man-in .ensures) _ _ _ (c .before .before .before .before .before .before .before .before .before .before .if2 .left) (c .before .before .before .before .before .before .before .before .before .pair-list .ensures) (c .before .before .before .before .before .before .byte-of .ensures _) (c .before .before .before .before .verdict-on .ensures) _ (c .before .before .verdict .given .1)
+    (c .before .before .before .before .before .before .before .before .before .before .before .before .before .standing-refusal .ensures) (c .before .before .before .before .before .before .before .before .before .before .before .before .if1 .left) _ _ (c .before .before .before .before .before .before .before .before .before .white-owned .ensures) (c .before .before .before .before .before .before .before .before .man-in .ensures) _ _ _ (c .before .before .before .before .before .before .before .before .before .before .before .if2 .left) (c .before .before .before .before .before .before .before .before .before .before .pair-list .ensures) (c .before .before .before .before .before .before .byte-of .ensures _) (c .before .before .before .before .verdict-on .ensures) _ (c .before .before .verdict .given .1)
 
 pub look-up-spec : {M : Type 1} → statement M
 look-up-spec =
     tie.close
-    (tie.spec standing-refusal-requires returns returns-2 pair-list-requires man-in-requires byte-of-requires
-    verdict-on-requires enum-told enum-known-verdict answer-requires returns-3 returns-4)
+    (tie.spec standing-refusal-requires returns returns-2 pair-list-requires white-owned-requires man-in-requires
+    byte-of-requires verdict-on-requires enum-told enum-known-verdict answer-requires returns-3 returns-4)

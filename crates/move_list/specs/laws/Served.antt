@@ -9,9 +9,9 @@ use Rattle.limit.specs.laws.Limit.{moves-most, moves-35}
 use Rattle.position.specs.declared.Slot.{Slot}
 use Rattle.position.specs.declared.Slot.the-variants.{Absent, Present}
 use Rattle.position.specs.declared.Position.{Position}
-use Rattle.position.specs.Keyed.{slotMen, boardOf, manKind, manSquare}
+use Rattle.position.specs.Keyed.{slotMen, boardOf, manKind, colourOf, manSquare}
 use Rattle.position.specs.Refusals.{standingRefusal}
-use Rattle.position.specs.laws.Legality.{standing-facts, alone-men}
+use Rattle.position.specs.laws.Legality.{standing-facts, one-men}
 use Rattle.move_list.specs.Lists.{room}
 
 -- two slots hold at most two men
@@ -27,12 +27,12 @@ few-moves p = omega (arith, moves-most (boardOf p), two-men (p .first) (p .secon
 
 module _ (p : Position) (z : standingRefusal p ≡ 0) where
   -- the one man
-  men : boardOf p .men ≡ pieceOf (manKind p) 0 (manSquare p) ∷ []
-  men = alone-men p (standing-facts p z .0)
+  men : boardOf p .men ≡ pieceOf (manKind p) (colourOf p) (manSquare p) ∷ []
+  men = one-men p (standing-facts p z .0)
 
   pub served-moves : moves (boardOf p) ≡ allMoves (boardOf p)
   unfolding moves
   served-moves = rw men
 
   pub served-room : length (allMoves (boardOf p)) ≤ room
-  served-room = moves-35 (boardOf p) (pieceOf (manKind p) 0 (manSquare p)) men
+  served-room = moves-35 (boardOf p) (pieceOf (manKind p) (colourOf p) (manSquare p)) men

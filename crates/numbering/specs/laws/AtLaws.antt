@@ -1,24 +1,30 @@
--- The board of a number: it bears it, and every board with a number has its normal image there. For any list of men.
-use mathlib.Core.Path.{_≡_, refl, ap, subst, subst⁻¹, _∙_}
-use mathlib.Core.Bool.{false}
+-- The board of a number: it bears it, and every board with a number has the normal board of its class there. For one man and for two.
+use mathlib.Core.Path.{_≡_, refl, ap, subst, sym, _∙_}
+use mathlib.Core.Bool.{_&&_}
 use mathlib.Core.List.{List, [], _∷_, map}
 use Prim.Native.Nat.{ℕ, _+_, _*_, _/_, _%_, _<_}
 use native.Mathlib.Nat.{mul-assoc}
 use native.Mathlib.Omega.{arith}
-use lib.Dec.{T, lt→ltb}
-use Rattle.finite.specs.Truth.{and-right, and-both}
+use lib.Dec.{T, eqb, eqb→eq, lt→ltb}
+use borrow.Author.Tests.{eq-eqb}
+use Rattle.finite.specs.Truth.{and-left, and-right, and-both, of-true, true-of}
 use Rattle.finite.specs.Members.{all}
 use Rattle.rules.specs.declared.Piece.{Piece}
 use Rattle.rules.specs.Rules.{Board, pieceOf, pieces, apart}
+use Rattle.rules.specs.Reordered.{reordered}
 use Rattle.rules.specs.laws.ChangedRules.{apart-changed}
+use Rattle.rules.specs.laws.ReorderedLaws.{apart-crossed}
 use Rattle.numbering.specs.Kings.{kingRule, pairOf, kingsOf}
-use Rattle.numbering.specs.Normal.{normal, normalMap, normalised}
-use Rattle.numbering.specs.Number.{keyFrom, keyOf, numberOf, unplaced, endingOf, spread, leading, menAt, boardAt, used}
+use Rattle.numbering.specs.Keys.{keyFrom, keyOf, unplaced, endingOf, spread, leading, menAt, boardAt}
+use Rattle.numbering.specs.Men.{exchangeable, standard, materialOf}
+use Rattle.numbering.specs.Change.{Change, changedBy}
+use Rattle.numbering.specs.Number.{normalised, numberOf, used}
 use Rattle.numbering.specs.laws.PairLaws.{KingsOf, kings-of}
 use Rattle.numbering.specs.laws.MenLaws.{onBoard}
 use Rattle.numbering.specs.laws.Numberable.{Numberable, ruled-separate}
-use Rattle.numbering.specs.laws.NormalLaws.{normal-kings, normalised-numberable, normalised-normal}
-use Rattle.numbering.specs.laws.ClassLaws.{key-own, number-lt, normal-number}
+use Rattle.numbering.specs.laws.KeyLaws.{key-own}
+use Rattle.numbering.specs.laws.ChangeLaws.{HasNumber}
+use Rattle.numbering.specs.laws.ClassLaws.{standing, normalising, normal-image, normal-has, normal-ruled, number-lt, number-along}
 
 -- ---- the digits of a number
 
@@ -49,13 +55,13 @@ unplaced-twice : (l : List Piece) → map unplaced (map unplaced l) ≡ map unpl
 unplaced-twice [] = refl
 unplaced-twice (a ∷ l) = ap (λ (k : List Piece). unplaced a ∷ k) (unplaced-twice l)
 
--- ---- the board at a number
+-- ---- the board at a number, of any list of men
 
 kings-at : (ending : List Piece) (n : ℕ) → KingsOf (leading ending n % 462)
 kings-at ending n = kings-of (leading ending n % 462) (omega arith)
 
 -- it has that number for its key
-pub key-at : (ending : List Piece) (n : ℕ) → keyOf (boardAt ending n) ≡ n
+key-at : (ending : List Piece) (n : ℕ) → keyOf (boardAt ending n) ≡ n
 unfolding keyOf boardAt
 key-at ending n =
     let q = kings-at ending n .bears in
@@ -63,12 +69,12 @@ key-at ending n =
     (kingsOf (leading ending n % 462) % 64) ≡ leading ending n = omega arith in
     ap (λ (k : ℕ). keyFrom k (menAt ending n)) e ∙ men-key ending n
 
-pub ruled-at : (ending : List Piece) (n : ℕ) → T (kingRule (boardAt ending n .white) (boardAt ending n .black))
+ruled-at : (ending : List Piece) (n : ℕ) → T (kingRule (boardAt ending n .white) (boardAt ending n .black))
 unfolding boardAt
 ruled-at ending n = kings-at ending n .ruled
 
 -- a list of men is an ending where it is some board's
-pub numberable-at : (ending : List Piece) (n : ℕ) → map unplaced ending ≡ ending → n < 924 * spread ending
+numberable-at : (ending : List Piece) (n : ℕ) → map unplaced ending ≡ ending → n < 924 * spread ending
     → Numberable ending (boardAt ending n)
 unfolding boardAt endingOf
 numberable-at ending n p h =
@@ -83,30 +89,63 @@ numberable-at ending n p h =
       kings = ruled-separate w b (ruled-at ending n);
     }
 
--- a used number leads back to a board that bears it
-pub used-number : (ending : List Piece) (n : ℕ) → map unplaced ending ≡ ending → n < 924 * spread ending
-    → T (used (boardAt ending n)) → numberOf (boardAt ending n) ≡ n
-unfolding used
-used-number ending n p h u =
-    let b = boardAt ending n in
-    normal-number b (numberable-at ending n p h) (and-right (apart (pieces b)) (normal b) u) ∙ key-at ending n
+-- ---- material
 
-module _ {ending : List Piece} (b : Board) (s : Numberable ending b) where
-  -- a board's normal image stands at its number
-  pub at-number : boardAt ending (numberOf b) ≡ normalised b
-  unfolding numberOf endingOf
+-- it has no squares
+material-unplaced : (l : List Piece) → map unplaced (materialOf l) ≡ materialOf l
+unfolding materialOf
+material-unplaced [] = refl
+material-unplaced (a ∷ []) = refl
+material-unplaced (a ∷ c ∷ []) = refl
+material-unplaced (a ∷ c ∷ d ∷ l) = unplaced-twice (a ∷ c ∷ d ∷ l)
+
+-- ---- the board at a number; a list of men is a material if it is some board's
+
+module _ {material : List Piece} (w : materialOf material ≡ material) (n : ℕ) where
+  bare : map unplaced material ≡ material
+  bare = subst (λ (m : List Piece). map unplaced m ≡ m) (w) (material-unplaced material)
+
+  -- a used number leads back to a board that bears it
+  pub used-number : T (used (boardAt material n)) → numberOf (boardAt material n) ≡ n
+  unfolding used
+  used-number u =
+      eqb→eq (numberOf (boardAt material n)) (keyOf (boardAt material n))
+      (and-right (apart (pieces (boardAt material n))) _ u) ∙ key-at material n
+
+module _ {material : List Piece} (w : materialOf material ≡ material) (b : Board) (h : HasNumber material b) where
+  -- a board's normal image stands at its number ..
+  pub at-number : boardAt material (numberOf b) ≡ normalised b
+  unfolding numberOf
   at-number =
-      let p : map unplaced ending ≡ ending =
-      subst (λ (e : List Piece). map unplaced e ≡ e) (s .men) (unplaced-twice (b .men)) in
-      key-own (boardAt ending (numberOf b)) (numberable-at ending (numberOf b) p (number-lt b s)) (normalised b)
-      (normalised-numberable b s) (ruled-at ending (numberOf b))
-      (normal-kings (normalised b) (normalised-normal b s))
-      (key-at ending (numberOf b))
+      let r = normal-ruled b h in
+      let s = standing (normalised b) (normal-has b h)
+      (and-right (kingRule (normalised b .white) (normalised b .black)) (standard (normalised b .men)) r) in
+      key-own (boardAt material (numberOf b))
+      (numberable-at material (numberOf b) (bare w (numberOf b)) (number-lt b h)) (normalised b) s
+      (ruled-at material (numberOf b))
+      (and-left (kingRule (normalised b .white) (normalised b .black)) (standard (normalised b .men)) r)
+      (key-at material (numberOf b))
 
-  -- and its number is used
-  pub number-used : T (apart (pieces b)) → T (used (boardAt ending (numberOf b)))
-  unfolding used normalised
+  -- .. and that is an image of it
+  pub image-at : (s : Change) × (boardAt material (numberOf b) ≡ changedBy s b)
+  image-at = (normalising b, at-number ∙ normal-image b)
+
+-- ---- used numbers
+
+apart-by : (s : Change) (b : Board) → apart (pieces (changedBy s b)) ≡ apart (pieces b)
+unfolding changedBy
+apart-by s b = apart-changed (s .symmetry) (s .colours && exchangeable (b .men)) (reordered (s .order) b)
+    ∙ apart-crossed (s .order) b
+
+module _ {material : List Piece} (w : materialOf material ≡ material) (b : Board) (h : HasNumber material b) where
+  -- the number of a board is used, if no two of its men share a square
+  pub number-used : T (apart (pieces b)) → T (used (boardAt material (numberOf b)))
+  unfolding used
   number-used t =
-      subst⁻¹ (λ (c : Board). T (used c)) at-number
-      (and-both (apart (pieces (normalised b))) (normal (normalised b)) (rw (apart-changed (normalMap b) false b) t)
-      (normalised-normal b s))
+      let e = at-number w b h ∙ normal-image b in
+      let n : numberOf (boardAt material (numberOf b)) ≡ keyOf (boardAt material (numberOf b)) = ap numberOf e
+      ∙ number-along (normalising b) b h ∙ sym (key-at material (numberOf b)) in
+      and-both (apart (pieces (boardAt material (numberOf b))))
+      (eqb (numberOf (boardAt material (numberOf b))) (keyOf (boardAt material (numberOf b))))
+      (of-true (ap (λ (c : Board). apart (pieces c)) e ∙ apart-by (normalising b) b ∙ true-of {b = apart (pieces b)} t))
+      (of-true (eq-eqb (numberOf (boardAt material (numberOf b))) (keyOf (boardAt material (numberOf b))) n))

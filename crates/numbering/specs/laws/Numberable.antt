@@ -1,22 +1,19 @@
 -- Boards that have a number: of one ending, all pieces on the board, the kings apart.
-use mathlib.Core.Path.{_≡_, refl, ap, _∙_}
+use mathlib.Core.Path.{_≡_}
 use mathlib.Core.Bool.{false, not, _&&_, xor}
-use mathlib.Core.List.{List, [], _∷_, map}
+use mathlib.Core.List.{List}
 use Prim.Native.Nat.{ℕ, _<_}
 use lib.Dec.{T, ltb, eqb, ltb→lt}
 use Rattle.finite.specs.Truth.{and-left, and-right, implies, false-of}
 use Rattle.finite.specs.Members.{all}
 use Rattle.board.specs.Reach.{reaches}
 use Rattle.symmetry.specs.Symmetry.{Symmetry, composed}
-use Rattle.symmetry.specs.laws.SymmetryLaws.{ltb-mapped}
 use Rattle.rules.specs.declared.Piece.{Piece}
 use Rattle.rules.specs.Rules.{Board}
-use Rattle.rules.specs.Changed.{swapped, changedPiece, changed}
+use Rattle.rules.specs.Changed.{changed}
 use Rattle.rules.specs.laws.Changed.{changed-composed}
-use Rattle.rules.specs.laws.ChangedRules.{all-map}
 use Rattle.numbering.specs.Kings.{above, onDiagonal, inTriangle, cornered, separate, kingRule}
-use Rattle.numbering.specs.Number.{unplaced, endingOf}
-use Rattle.numbering.specs.laws.KingMaps.{separate-mapped}
+use Rattle.numbering.specs.Keys.{endingOf}
 use Rattle.numbering.specs.laws.MenLaws.{onBoard}
 
 pub record Numberable (ending : List Piece) (b : Board) : Type 0 where
@@ -72,22 +69,7 @@ unfolding cornered
 ruled-triangle white black t =
     and-left (inTriangle white) (implies (onDiagonal white) (not (above black))) (ruled-cornered white black t)
 
--- ---- the maps keep them
-
-unplaced-mapped : (m : Symmetry) (l : List Piece) → map unplaced (map (changedPiece m false) l) ≡ map unplaced l
-unfolding swapped
-unplaced-mapped m [] = refl
-unplaced-mapped m (a ∷ l) = ap (λ (k : List Piece). unplaced a ∷ k) (unplaced-mapped m l)
-
-pub numberable-mapped : {ending : List Piece} (m : Symmetry) (b : Board) → Numberable ending b
-    → Numberable ending (changed m false b)
-unfolding changed swapped endingOf
-numberable-mapped m b s = record {
-  men = unplaced-mapped m (b .men) ∙ s .men;
-  side = s .side;
-  squares = rw (all-map m false onBoard onBoard (λ a. ltb-mapped m (a .square)) (b .men)) (s .squares);
-  kings = rw (separate-mapped m (b .white) (b .black)) (s .kings);
-}
+-- ---- maps compose
 
 pub maps-compose : (m n : Symmetry) (b : Board) → changed n false (changed m false b) ≡ changed (composed m n) false b
 unfolding xor

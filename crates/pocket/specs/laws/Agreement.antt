@@ -8,23 +8,23 @@ use native.Mathlib.Omega.{arith}
 use lib.Dec.{T, leb, eqb}
 use lib.ListN.{length, getD}
 use borrow.Author.Tests.{eq-eqb, eqb-true, leb-true}
-use Rattle.finite.specs.Truth.{decided, of-true, true-of, false-of}
+use Rattle.finite.specs.Truth.{decided, true-of, false-of}
 use Rattle.theory.specs.Value.{TrueByte}
 use Rattle.rules.specs.Rules.{Board, empty}
 use Rattle.rules.specs.Chess.{chess}
 use Rattle.position.specs.declared.Position.{Position}
 use Rattle.position.specs.Keyed.{boardOf, manKind}
 use Rattle.position.specs.Refusals.{standingRefusal}
-use Rattle.position.specs.laws.Legality.{standing-facts, alone-men}
+use Rattle.position.specs.laws.Legality.{standing-facts, one-men}
 use Rattle.numbering.specs.Number.{numberOf}
 use Rattle.answers.specs.declared.BestMove.{BestMove}
 use Rattle.answers.specs.declared.Answer.{Answer}
 use Rattle.answers.specs.declared.Checked.{Checked}
 use Rattle.endings.specs.Ending.{tableSize, byteOf}
-use Rattle.endings.specs.laws.Halves.{number-side}
+use Rattle.endings.specs.laws.IndexLaws.{number-of-ending}
 use Rattle.endings.specs.Truth.{TrueAnswer}
 use Rattle.endings.specs.Answers.{checkOf, answerOf, lookUpOf}
-use Rattle.endings.specs.laws.Checking.{keyed-lone, keyed-ending, accepts-true-only}
+use Rattle.endings.specs.laws.Checking.{keyed-lone, accepts-true-only}
 use Rattle.endings.specs.laws.LookingUp.{adviceAt, look-up-answers, look-up-true}
 use Rattle.pocket.specs.Pocket.{pocketSize, entryOf, entryAt, packOf, toldIn, entryTells, pocketLookUpOf}
 use Rattle.pocket.specs.TrueValue.{TrueValue}
@@ -53,10 +53,10 @@ module _ (kind : ℕ) (t : List ℕ) (ok : checkOf kind t ≡ Checked.Accepted) 
       go (TrueByte.draw w z) = omega arith
 
   manned : (p : Position) → standingRefusal p ≡ 0 → empty (boardOf p .men) ≡ false
-  manned p z = ap empty (alone-men p (standing-facts p z .0))
+  manned p z = ap empty (one-men p (standing-facts p z .0))
 
   keyed-number : (p : Position) → manKind p ≡ kind → standingRefusal p ≡ 0 → numberOf (boardOf p) < tableSize
-  keyed-number p e z = number-side kind (boardOf p) (keyed-ending kind p e z) (of-true (ap not (manned p z))) .0
+  keyed-number p e z = number-of-ending kind (boardOf p) (standing-facts p z .1) (keyed-lone kind p e z) .0
 
   own-byte : (p : Position) → standingRefusal p ≡ 0 → byteOf t (boardOf p) ≡ getD t (numberOf (boardOf p)) 0
   unfolding byteOf

@@ -8,7 +8,11 @@ use borrow.Author.Tests.{eq-eqb, ne-eqb}
 use Rattle.position.specs.declared.Position.{Position}
 use Rattle.position.specs.Keyed.{boardOf}
 use Rattle.position.specs.Refusals.{standingRefusal}
-use Rattle.numbering.specs.Number.{numberOf}
+use Rattle.position.specs.Maps.{normalPosition}
+use Rattle.position.specs.Owned.{whiteOwned}
+use Rattle.position.specs.laws.PlacedLaws.{standing-placed}
+use Rattle.numbering.specs.Keys.{keyOf}
+use Rattle.index.specs.laws.NumberLaws.{owned-number}
 use Rattle.pocket.specs.Pocket.{pocketSize, entryAt, Told, refusing, entryTells, pocketLookUpOf}
 
 -- ---- an entry beyond the pocket's end
@@ -32,8 +36,10 @@ module _ (pocket : List ℕ) (p : Position) where
     unfolding pocketLookUpOf
     refused-length h = sym (rw (← e, eq-eqb n 0 z, ne-eqb (length pocket) pocketSize h))
 
-    pub answered : (r : Told) (k entry : ℕ) → length pocket ≡ pocketSize → k ≡ numberOf (boardOf p)
-        → entry ≡ entryAt pocket k → r ≡ entryTells entry → r ≡ pocketLookUpOf pocket p
+    pub answered : (r : Told) (k entry : ℕ) → length pocket ≡ pocketSize
+        → k ≡ keyOf (boardOf (normalPosition (whiteOwned p))) → entry ≡ entryAt pocket k → r ≡ entryTells entry
+        → r ≡ pocketLookUpOf pocket p
     unfolding pocketLookUpOf
-    answered r k entry l q f a = a ∙ ap entryTells (f ∙ ap (entryAt pocket) q)
+    answered r k entry l q f a = a
+        ∙ ap entryTells (f ∙ ap (entryAt pocket) (q ∙ owned-number p (standing-placed p (sym e ∙ z))))
         ∙ sym (rw (← e, eq-eqb n 0 z, eq-eqb (length pocket) pocketSize l))

@@ -4,7 +4,7 @@ use mathlib.Core.Bool.{Bool, true, false, cond, not, _&&_, _||_}
 use mathlib.Core.List.{[], _∷_, _++_}
 use Prim.Native.Nat.{ℕ, _-_}
 use lib.Dec.{T, leb, ltb, eqb}
-use borrow.Author.Tests.{lt-ltb, leb-false, eqb-true, eq-eqb}
+use borrow.Author.Tests.{lt-ltb, leb-false, eq-eqb}
 use Rattle.finite.specs.Truth.{and-left, and-right, true-of, of-true, false-of, refuted}
 use Rattle.finite.specs.Members.{all}
 use Rattle.rules.specs.Rules.{pieceOf, pieces, known, touching, inCheck, apart, legal}
@@ -12,73 +12,60 @@ use Rattle.rules.specs.laws.Legal.{legal-facts}
 use Rattle.position.specs.declared.Slot.{Slot}
 use Rattle.position.specs.declared.Slot.the-variants.{Absent, Present}
 use Rattle.position.specs.declared.Position.{Position}
-use Rattle.position.specs.Keyed.{slotMen, boardOf, lone, manIn, manKind, manSquare}
+use Rattle.position.specs.Keyed.{slotMen, boardOf, oneMan, manIn, manKind, colourOf, manSquare}
 use Rattle.position.specs.laws.SlotLaws.{leb-not}
-use Rattle.position.specs.Refusals.{badMen, badMan, badSquare, sharedSquare, placingRefusal, standingRefusal}
+use Rattle.position.specs.Refusals.{badMen, badMan, badSide, badSquare, sharedSquare, placingRefusal, standingRefusal}
 
--- ---- men that have a table: one of White's
+-- ---- men that have a table: one, of either side
 
-neither : (a b : Bool) → (a || not b) ≡ false → (a ≡ false) × (b ≡ true)
-neither true b e = absurd (refuted e tt)
-neither false true e = (refl, refl)
-neither false false e = absurd (refuted e tt)
-
--- what is in the slots is the lone man
-slots-alone : (side white black : ℕ) (f s : Slot) → badMen f s ≡ false
+-- what is in the slots is one man
+slots-one : (side white black : ℕ) (f s : Slot) → badMen f s ≡ false
     → _≡_ {A = Position} (record { side = side; «white_king» = white; «black_king» = black; first = f; second = s })
-    (lone (manIn f .kind) side white (manIn f .square) black)
-slots-alone side white black Absent s e = absurd (refuted e tt)
-slots-alone side white black (Present m) (Present n) e = absurd (refuted e tt)
-slots-alone side white black (Present m) Absent e =
-    let c = eqb-true (m .colour) 0 (neither (leb 4 (m .kind)) (eqb (m .colour) 0) e .1) in
-    ap (λ (k : ℕ). record {
-      side = side;
-      «white_king» = white;
-      «black_king» = black;
-      first = Present (pieceOf (m .kind) k (m .square));
-      second = Absent;
-    }) c
+    (oneMan (manIn f .kind) (manIn f .colour) side white (manIn f .square) black)
+slots-one side white black Absent s e = absurd (refuted e tt)
+slots-one side white black (Present m) (Present n) e = absurd (refuted e tt)
+slots-one side white black (Present m) Absent e = refl
 
-pub alone : (p : Position) → badMan p ≡ false
-    → p ≡ lone (manKind p) (p .side) (p .«white_king») (manSquare p) (p .«black_king»)
-alone p e = slots-alone (p .side) (p .«white_king») (p .«black_king») (p .first) (p .second) e
+pub one-alone : (p : Position) → badMan p ≡ false
+    → p ≡ oneMan (manKind p) (colourOf p) (p .side) (p .«white_king») (manSquare p) (p .«black_king»)
+one-alone p e = slots-one (p .side) (p .«white_king») (p .«black_king») (p .first) (p .second) e
 
--- they are known to the rules
-slots-known : (f s : Slot) → badMen f s ≡ false → all known (slotMen f ++ slotMen s) ≡ true
+-- the rules know them if they have a colour
+slots-known : (f s : Slot) → badMen f s ≡ false
+    → all known (slotMen f ++ slotMen s) ≡ all (λ m. ltb (m .colour) 2) (slotMen f ++ slotMen s)
 unfolding all
 slots-known Absent s e = absurd (refuted e tt)
 slots-known (Present m) (Present n) e = absurd (refuted e tt)
-slots-known (Present m) Absent e =
-    let n = neither (leb 4 (m .kind)) (eqb (m .colour) 0) e in
-    rw (lt-ltb (m .kind) 4 (leb-false 4 (m .kind) (n .0)), eqb-true (m .colour) 0 (n .1))
+slots-known (Present m) Absent e = rw (lt-ltb (m .kind) 4 (leb-false 4 (m .kind) e))
 
--- ---- the chain, over the tests: men, side, squares on the board, apart, touching kings, check
+-- ---- the chain, over the tests: men, side, colours, squares on the board, apart, touching kings, check
 
-chain : Bool → Bool → Bool → Bool → Bool → ℕ
-chain m s q a t = cond m 1 (cond (not s) 2 (cond (not q) 3 (cond (not a) 4 (cond t 5 0))))
+chain : Bool → Bool → Bool → Bool → Bool → Bool → ℕ
+chain m s h q a t = cond m 1 (cond (not s || not h) 2 (cond (not q) 3 (cond (not a) 4 (cond t 5 0))))
 
-agree : (m s k q a t c : Bool) → (m ≡ false → k ≡ true)
+agree : (m s k h q a t c : Bool) → (m ≡ false → k ≡ h)
     → (not m && (s && k && q && a && not t && not c))
-    ≡ eqb (cond (eqb (chain m s q a t) 0) (cond c 6 0) (chain m s q a t)) 0
+    ≡ eqb (cond (eqb (chain m s h q a t) 0) (cond c 6 0) (chain m s h q a t)) 0
 unfolding chain
-agree true s k q a t c h = refl
-agree false s k q a t c h = rw (h refl) (rest s q a t c)
+agree true s k h q a t c e = refl
+agree false s k h q a t c e = rw (e refl) (rest s h q a t c)
   where
-    rest : (s q a t c : Bool)
-        → (s && true && q && a && not t && not c)
-        ≡ eqb (cond (eqb (chain false s q a t) 0) (cond c 6 0) (chain false s q a t)) 0
-    rest false q a t c = refl
-    rest true false a t c = refl
-    rest true true false t c = refl
-    rest true true true true c = refl
-    rest true true true false true = refl
-    rest true true true false false = refl
+    rest : (s h q a t c : Bool)
+        → (s && h && q && a && not t && not c)
+        ≡ eqb (cond (eqb (chain false s h q a t) 0) (cond c 6 0) (chain false s h q a t)) 0
+    rest false h q a t c = refl
+    rest true false q a t c = refl
+    rest true true false a t c = refl
+    rest true true true false t c = refl
+    rest true true true true true c = refl
+    rest true true true true false true = refl
+    rest true true true true false false = refl
 
 pub legal-standing : (p : Position) → (not (badMan p) && legal (boardOf p)) ≡ eqb (standingRefusal p) 0
-unfolding legal standingRefusal placingRefusal badSquare sharedSquare boardOf chain
+unfolding legal standingRefusal placingRefusal badSide badSquare sharedSquare boardOf chain
 legal-standing p =
     rw (leb-not 2 (p .side))
-    (agree (badMan p) (ltb (p .side) 2) (all known (boardOf p .men))
+    (agree (badMan p) (ltb (p .side) 2) (all known (boardOf p .men)) (all (λ m. ltb (m .colour) 2) (boardOf p .men))
     (all (λ m. ltb (m .square) 64) (pieces (boardOf p))) (apart (pieces (boardOf p))) (touching (boardOf p))
     (inCheck (boardOf p) (1 - p .side))
     (slots-known (p .first) (p .second)))
@@ -90,19 +77,21 @@ standing-facts p z =
     let t : T (not (badMan p) && legal (boardOf p)) = of-true (legal-standing p ∙ eq-eqb (standingRefusal p) 0 z) in
     (false-of (and-left (not (badMan p)) (legal (boardOf p)) t), and-right (not (badMan p)) (legal (boardOf p)) t)
 
-pub alone-men : (p : Position) → badMan p ≡ false → boardOf p .men ≡ pieceOf (manKind p) 0 (manSquare p) ∷ []
+pub one-men : (p : Position) → badMan p ≡ false → boardOf p .men ≡ pieceOf (manKind p) (colourOf p) (manSquare p) ∷ []
 unfolding boardOf
-alone-men p e = ap (λ (q : Position). boardOf q .men) (alone p e)
+one-men p e = ap (λ (q : Position). boardOf q .men) (one-alone p e)
 
--- a lone man: legality alone tells
-pub lone-standing : (kind side white square black : ℕ)
-    → legal (boardOf (lone kind side white square black)) ≡ eqb (standingRefusal (lone kind side white square black)) 0
+-- one man: legality alone tells
+pub one-standing : (kind colour side white square black : ℕ)
+    → legal (boardOf (oneMan kind colour side white square black))
+    ≡ eqb (standingRefusal (oneMan kind colour side white square black)) 0
 unfolding boardOf all
-lone-standing kind side white square black =
-    let p = lone kind side white square black in
+one-standing kind colour side white square black =
+    let p = oneMan kind colour side white square black in
     let b = boardOf p in
     sym (implied (not (badMan p)) (legal b)
-    (λ t. known-man kind (and-left (ltb kind 4) true (and-left (ltb kind 4 && true) true (legal-facts b t .men)))))
+    (λ t. known-man kind
+    (and-left (ltb kind 4) (ltb colour 2) (and-left (ltb kind 4 && ltb colour 2) true (legal-facts b t .men)))))
     ∙ legal-standing p
   where
     implied : (a c : Bool) → (T c → T a) → (a && c) ≡ c
@@ -110,5 +99,5 @@ lone-standing kind side white square black =
     implied false true h = absurd (h tt)
     implied false false h = refl
 
-    known-man : (k : ℕ) → T (ltb k 4) → T (not (leb 4 k || false))
+    known-man : (k : ℕ) → T (ltb k 4) → T (not (leb 4 k))
     known-man k t = rw (leb-not 4 k, true-of {b = ltb k 4} t) tt

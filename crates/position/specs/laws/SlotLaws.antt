@@ -1,4 +1,4 @@
--- Refusals 3 and 4 slot by slot, as code asks them.
+-- Refusals 2 to 4 slot by slot, as code asks them.
 use mathlib.Core.Path.{_≡_, refl}
 use mathlib.Core.Logic.{⊎-elim}
 use mathlib.Core.Bool.{Bool, true, false, not, _&&_, _||_}
@@ -13,7 +13,7 @@ use Rattle.position.specs.declared.Slot.{Slot}
 use Rattle.position.specs.declared.Slot.the-variants.{Absent, Present}
 use Rattle.position.specs.declared.Position.{Position}
 use Rattle.position.specs.Keyed.{slotMen, boardOf}
-use Rattle.position.specs.Refusals.{badSquare, sharedSquare, slotOff, slotOn, slotsShare}
+use Rattle.position.specs.Refusals.{badSide, badSquare, sharedSquare, slotForeign, slotOff, slotOn, slotsShare}
 
 pub leb-not : (m n : ℕ) → leb m n ≡ not (ltb n m)
 leb-not m n = ⊎-elim (λ h. rw (le-leb m n h, le-ltb n m h)) (λ h. rw (lt-leb m n h, lt-ltb n m h)) (le-or-lt m n)
@@ -40,7 +40,23 @@ shared-four false false false false true mn = refl
 shared-four false false false false false true = refl
 shared-four false false false false false false = refl
 
+-- a side and two men
+foreign-three : (s a b : Bool) → (s || (not a || not b)) ≡ (s || not (a && (b && true)))
+foreign-three true a b = refl
+foreign-three false false b = refl
+foreign-three false true false = refl
+foreign-three false true true = refl
+
 -- ---- the men in two slots
+
+foreign-slots : (s : Bool) (f k : Slot)
+    → (s || (slotForeign f || slotForeign k)) ≡ (s || not (all (λ m. ltb (m .colour) 2) (slotMen f ++ slotMen k)))
+unfolding all
+foreign-slots s Absent Absent = foreign-three s true true
+foreign-slots s Absent (Present n) = rw (leb-not 2 (n .colour)) (foreign-three s true (ltb (n .colour) 2))
+foreign-slots s (Present m) Absent = rw (leb-not 2 (m .colour)) (foreign-three s (ltb (m .colour) 2) true)
+foreign-slots s (Present m) (Present n) =
+    rw (leb-not 2 (m .colour), leb-not 2 (n .colour)) (foreign-three s (ltb (m .colour) 2) (ltb (n .colour) 2))
 
 module _ (white black : ℕ) where
   off-slots : (f s : Slot)
@@ -73,6 +89,10 @@ module _ (white black : ℕ) where
       (eqb black (n .square)) (eqb (m .square) (n .square))
 
 module _ (p : Position) where
+  pub foreign-by-slots : (leb 2 (p .side) || (slotForeign (p .first) || slotForeign (p .second))) ≡ badSide p
+  unfolding badSide boardOf
+  foreign-by-slots = foreign-slots (leb 2 (p .side)) (p .first) (p .second)
+
   pub off-by-slots : (leb 64
       (p .«white_king») || (leb 64 (p .«black_king») || (slotOff (p .first) || slotOff (p .second)))) ≡ badSquare p
   unfolding badSquare boardOf

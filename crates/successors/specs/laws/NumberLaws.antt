@@ -14,7 +14,7 @@ use Rattle.numbering.specs.Kings.{kingsOf}
 use Rattle.position.specs.declared.Position.{Position}
 use Rattle.position.specs.Keyed.{boardOf, lone, manKind, manSquare}
 use Rattle.position.specs.Refusals.{standingRefusal}
-use Rattle.position.specs.laws.Legality.{lone-standing}
+use Rattle.position.specs.laws.Legality.{one-standing}
 use Rattle.index.specs.declared.Placed.{Placed}
 use Rattle.index.specs.Answers.{positionAt, unused, placedAt}
 use Rattle.endings.specs.Ending.{loneBoardAt, legalNumber}
@@ -78,7 +78,7 @@ module _ (kind n : ℕ) where
       where
         at-standing : legal (boardOf (positionAt kind n)) ≡ eqb (standingRefusal p) 0
         at-standing = unfold positionAt in let kings = kingsOf (n / 64 % 462) in
-            lone-standing kind (n / 64 / 462) (kings / 64) (n % 64) (kings % 64)
+            one-standing kind 0 (n / 64 / 462) (kings / 64) (n % 64) (kings % 64)
             ∙ ap (λ (q : Position). eqb (standingRefusal q) 0) (sym own)
 
   -- what the code finds: a position that is refused, one that is not, or none

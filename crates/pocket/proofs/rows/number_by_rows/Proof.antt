@@ -1,8 +1,13 @@
--- `pocket::number_by_rows` meets its contract: the key of the normal position is the number.
+-- `pocket::number_by_rows` meets its contract: the digits are the key of the normal position.
+use mathlib.Core.Path.{ap, _∙_}
 use borrow.Author.Needs.{needs}
-use Rattle.index.specs.laws.AnswerLaws.{number-key}
+use Rattle.position.specs.Maps.{normalPosition}
+use Rattle.index.specs.laws.AnswerLaws.{position-key}
 use Rattle.pocket.proofs.rows.number_by_rows.Statement.{statement}
 use Rattle.pocket.proofs.rows.number_by_rows.Tie as tie
+
+white-owned-requires : tie.Need-white-owned-requires
+white-owned-requires c κs = search needs
 
 normalised-requires : tie.Need-normalised-requires
 normalised-requires c κs = search needs
@@ -15,7 +20,10 @@ key-of-requires c κs = search needs
 
 returns : tie.Need-returns
 returns c =
-    number-key _ _ _ _ (c .before .before .normalised .ensures) (c .before .pair-of .ensures) (c .key-of .ensures)
+    position-key _ _ _ _
+    (c .before .before .normalised .ensures ∙ ap normalPosition (c .before .before .before .white-owned .ensures))
+    (c .before .pair-of .ensures) (c .key-of .ensures)
 
 pub number-by-rows-spec : {M : Type 1} → statement M
-number-by-rows-spec = tie.close (tie.spec normalised-requires pair-of-requires key-of-requires returns)
+number-by-rows-spec =
+    tie.close (tie.spec white-owned-requires normalised-requires pair-of-requires key-of-requires returns)

@@ -21,9 +21,7 @@ returns : tie.Need-returns
 returns c = search needs
 
 returns-2 : tie.Need-returns-2
-returns-2 c =
-    sym (ap₂ badMen (c .before .before .before .before .before .first .given .1)
-    (c .before .before .enum-told2 .given .1))
+returns-2 c = sym (ap₂ badMen (c .before .before .before .before .first .given .1) (c .before .enum-told2 .given .1))
 
 returns-3 : tie.Need-returns-3
 returns-3 c = search needs

@@ -1,7 +1,6 @@
 -- `position::placing_refusal` meets its contract: each return by the tests that led there.
 use mathlib.Core.Path.{_≡_, sym, _∙_}
 use mathlib.Core.Bool.{false}
-use borrow.Author.Tests.{le-leb, lt-leb}
 use Rattle.board.specs.Sets.{has}
 use Rattle.board.specs.laws.ReachLaws.{reaches-has, king-reaches}
 use Rattle.rules.specs.Rules.{touching}
@@ -18,13 +17,16 @@ returns : tie.Need-returns
 unfolding placingRefusal
 returns c = sym (rw (sym (c .before .bad-men .ensures) ∙ c .if1 .taken))
 
+bad-side-requires : tie.Need-bad-side-requires
+bad-side-requires c κs = search needs
+
 returns-2 : tie.Need-returns-2
 unfolding placingRefusal
 returns-2 c =
     sym (rw (
       sym (c .before .before .before .bad-men .ensures)
           ∙ c .before .before .if1 .left,
-      le-leb _ _ (c .if2 .taken),
+      sym (c .before .bad-side .ensures) ∙ c .if2 .taken,
     ))
 
 bad-square-requires : tie.Need-bad-square-requires
@@ -36,7 +38,8 @@ returns-3 c =
     sym (rw (
       sym (c .before .before .before .before .before .bad-men .ensures)
           ∙ c .before .before .before .before .if1 .left,
-      lt-leb _ _ (c .before .before .if2 .left),
+      sym (c .before .before .before .bad-side .ensures)
+          ∙ c .before .before .if2 .left,
       sym (c .before .bad-square .ensures) ∙ c .if3 .taken,
     ))
 
@@ -49,7 +52,8 @@ returns-4 c =
     sym (rw (
       sym (c .before .before .before .before .before .before .before .bad-men .ensures)
           ∙ c .before .before .before .before .before .before .if1 .left,
-      lt-leb _ _ (c .before .before .before .before .if2 .left),
+      sym (c .before .before .before .before .before .bad-side .ensures)
+          ∙ c .before .before .before .before .if2 .left,
       sym (c .before .before .before .bad-square .ensures)
           ∙ c .before .before .if3 .left,
       sym (c .before .shared-square .ensures) ∙ c .if4 .taken,
@@ -75,7 +79,8 @@ returns-5 c =
     sym (rw (
       sym (c .before .before .before .before .before .before .before .before .before .before .bad-men .ensures)
           ∙ c .before .before .before .before .before .before .before .before .before .if1 .left,
-      lt-leb _ _ (c .before .before .before .before .before .before .before .if2 .left),
+      sym (c .before .before .before .before .before .before .before .before .bad-side .ensures)
+          ∙ c .before .before .before .before .before .before .before .if2 .left,
       sym (c .before .before .before .before .before .before .bad-square .ensures)
           ∙ c .before .before .before .before .before .if3 .left,
       sym (c .before .before .before .before .shared-square .ensures)
@@ -89,7 +94,8 @@ returns-6 c =
     sym (rw (
       sym (c .before .before .before .before .before .before .before .before .before .before .bad-men .ensures)
           ∙ c .before .before .before .before .before .before .before .before .before .if1 .left,
-      lt-leb _ _ (c .before .before .before .before .before .before .before .if2 .left),
+      sym (c .before .before .before .before .before .before .before .before .bad-side .ensures)
+          ∙ c .before .before .before .before .before .before .before .if2 .left,
       sym (c .before .before .before .before .before .before .bad-square .ensures)
           ∙ c .before .before .before .before .before .if3 .left,
       sym (c .before .before .before .before .shared-square .ensures)
@@ -103,6 +109,7 @@ placing-refusal-spec =
     (tie.spec
     bad-men-requires
     returns
+    bad-side-requires
     returns-2
     bad-square-requires
     returns-3

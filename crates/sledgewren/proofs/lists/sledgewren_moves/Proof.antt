@@ -9,8 +9,8 @@ use Rattle.sledgewren.proofs.lists.sledgewren_moves.Tie as tie
 returns : tie.Need-returns
 returns c = not-listed _ _ (c .if1 .taken)
 
-lone-requires : tie.Need-lone-requires
-lone-requires c κs = search needs
+position-read-requires : tie.Need-position-read-requires
+position-read-requires c κs = search needs
 
 legal-moves-requires : tie.Need-legal-moves-requires
 legal-moves-requires c κs = search needs
@@ -40,14 +40,14 @@ returns-2 c =
     let w = c .before .before .before .before in
     let l = w .before .before .before in
     listed-bytes _ _ _ _ (l .before .before .if1 .left)
-    (l .legal-moves .ensures ∙ ap listed (l .before .lone .ensures)) (w .write-moves .ensures)
+    (l .legal-moves .ensures ∙ ap listed (l .before .position-read .ensures)) (w .write-moves .ensures)
 
 pub sledgewren-moves-spec : {M : Type 1} → statement M
 sledgewren-moves-spec =
     tie.close
     (tie.spec
     returns
-    lone-requires
+    position-read-requires
     legal-moves-requires
     write-moves-requires
     cast-result

@@ -6,8 +6,8 @@ use Rattle.sledgewren.specs.Words.{countWord}
 use Rattle.sledgewren.proofs.numbers.sledgewren_count.Statement.{statement}
 use Rattle.sledgewren.proofs.numbers.sledgewren_count.Tie as tie
 
-lone-requires : tie.Need-lone-requires
-lone-requires c κs = search needs
+position-read-requires : tie.Need-position-read-requires
+position-read-requires c κs = search needs
 
 move-count-requires : tie.Need-move-count-requires
 move-count-requires c κs = search needs
@@ -17,7 +17,7 @@ count-word-requires c κs = search needs
 
 returns : tie.Need-returns
 returns c = c .count-word .ensures
-    ∙ ap countWord (c .before .move-count .ensures .answer ∙ ap countAnswer (c .before .before .lone .ensures))
+    ∙ ap countWord (c .before .move-count .ensures .answer ∙ ap countAnswer (c .before .before .position-read .ensures))
 
 pub sledgewren-count-spec : {M : Type 1} → statement M
-sledgewren-count-spec = tie.close (tie.spec lone-requires move-count-requires count-word-requires returns)
+sledgewren-count-spec = tie.close (tie.spec position-read-requires move-count-requires count-word-requires returns)

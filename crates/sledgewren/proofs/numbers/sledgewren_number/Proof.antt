@@ -6,8 +6,8 @@ use Rattle.sledgewren.specs.Words.{numberWord}
 use Rattle.sledgewren.proofs.numbers.sledgewren_number.Statement.{statement}
 use Rattle.sledgewren.proofs.numbers.sledgewren_number.Tie as tie
 
-lone-requires : tie.Need-lone-requires
-lone-requires c κs = search needs
+position-read-requires : tie.Need-position-read-requires
+position-read-requires c κs = search needs
 
 number-requires : tie.Need-number-requires
 number-requires c κs = search needs
@@ -17,7 +17,7 @@ number-word-requires c κs = search needs
 
 returns : tie.Need-returns
 returns c = c .number-word .ensures
-    ∙ ap numberWord (c .before .number .ensures ∙ ap numberAnswer (c .before .before .lone .ensures))
+    ∙ ap numberWord (c .before .number .ensures ∙ ap numberAnswer (c .before .before .position-read .ensures))
 
 pub sledgewren-number-spec : {M : Type 1} → statement M
-sledgewren-number-spec = tie.close (tie.spec lone-requires number-requires number-word-requires returns)
+sledgewren-number-spec = tie.close (tie.spec position-read-requires number-requires number-word-requires returns)

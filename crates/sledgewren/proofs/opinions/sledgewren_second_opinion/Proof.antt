@@ -7,8 +7,8 @@ use Rattle.sledgewren.specs.OpinionWord.{opinionWord}
 use Rattle.sledgewren.proofs.opinions.sledgewren_second_opinion.Statement.{statement}
 use Rattle.sledgewren.proofs.opinions.sledgewren_second_opinion.Tie as tie
 
-lone-requires : tie.Need-lone-requires
-lone-requires c κs = search needs
+position-read-requires : tie.Need-position-read-requires
+position-read-requires c κs = search needs
 
 second-opinion-requires : tie.Need-second-opinion-requires
 second-opinion-requires c κs = search needs
@@ -20,8 +20,9 @@ returns : tie.Need-returns
 returns c = c .opinion-word .ensures
     ∙ ap opinionWord
     (c .before .second-opinion .ensures
-    ∙ ap (λ (p : Position). opinionOf p (c .before .before .before .args .plies)) (c .before .before .lone .ensures))
+    ∙ ap (λ (p : Position). opinionOf p (c .before .before .before .args .plies))
+    (c .before .before .position-read .ensures))
 
 pub sledgewren-second-opinion-spec : {M : Type 1} → statement M
 sledgewren-second-opinion-spec =
-    tie.close (tie.spec lone-requires second-opinion-requires opinion-word-requires returns)
+    tie.close (tie.spec position-read-requires second-opinion-requires opinion-word-requires returns)

@@ -6,8 +6,8 @@ use Rattle.sledgewren.specs.Words.{answerWord}
 use Rattle.sledgewren.proofs.tables.sledgewren_look_up.Statement.{statement}
 use Rattle.sledgewren.proofs.tables.sledgewren_look_up.Tie as tie
 
-lone-requires : tie.Need-lone-requires
-lone-requires c κs = search needs
+position-read-requires : tie.Need-position-read-requires
+position-read-requires c κs = search needs
 
 look-up-requires : tie.Need-look-up-requires
 look-up-requires c κs = search needs
@@ -17,7 +17,7 @@ answer-word-requires c κs = search needs
 
 returns : tie.Need-returns
 returns c = c .answer-word .ensures
-    ∙ ap answerWord (c .before .look-up .ensures ∙ ap (lookUpOf _) (c .before .before .lone .ensures))
+    ∙ ap answerWord (c .before .look-up .ensures ∙ ap (lookUpOf _) (c .before .before .position-read .ensures))
 
 pub sledgewren-look-up-spec : {M : Type 1} → statement M
-sledgewren-look-up-spec = tie.close (tie.spec lone-requires look-up-requires answer-word-requires returns)
+sledgewren-look-up-spec = tie.close (tie.spec position-read-requires look-up-requires answer-word-requires returns)

@@ -1,0 +1,32 @@
+// Men as words, and the position that a host gives with two of them.
+use position::Position;
+use position::Slot;
+use rules::Piece;
+ghost use mathlib.Core.Path.{_≡_};
+ghost use Rattle.words.specs.Men.{manRead, positionRead};
+
+// The man of a word; none where its highest byte is 0.
+fn man_read(word: u32) -> Slot
+    ensures { λ r. ⌜ r ≡ manRead word ⌝ }
+{
+    if word / 0x100_0000 % 0x100 == 0 {
+        return Slot::Absent;
+    }
+    Slot::Present(Piece {
+        kind: (word % 0x100) as u8,
+        colour: (word / 0x100 % 0x100) as u8,
+        square: (word / 0x1_0000 % 0x100) as u8,
+    })
+}
+
+pub fn position_read(side: u8, white: u8, black: u8, first: u32, second: u32) -> Position
+    ensures { λ r. ⌜ r ≡ positionRead side white black first second ⌝ }
+{
+    Position {
+        side,
+        white_king: white,
+        black_king: black,
+        first: man_read(first),
+        second: man_read(second),
+    }
+}

@@ -1,0 +1,193 @@
+//! The C functions that take a position, given any words as men: whole answers, bit for bit.
+
+use second::number::number;
+use second::pocket::{self, PocketAnswer};
+use second::position::{Keyed, KeyedMan, Refused};
+use second::rule::Value;
+use second::rules::{legal_position, moves, Move};
+use second::search::{search, Opinion};
+use second::table::{look_up, Answer};
+use sledgewren::{ffi, MOVES_BYTES, POCKET_BYTES};
+
+use crate::calls::{filled, Tally};
+use crate::sequence::Sequence;
+
+/// How many positions are given.
+const POSITIONS: usize = 1_000_000;
+
+/// Plies that take no time, and too many.
+const PLIES: [u8; 6] = [0, 1, 2, 7, 8, 255];
+
+/// A position as C gives it: the side, the kings' squares, and a word for each man.
+#[derive(Clone, Copy, Debug)]
+struct Given {
+    side: u8,
+    white: u8,
+    black: u8,
+    first: u32,
+    second: u32,
+}
+
+/// What a man's word says: he is absent where bits 24-31 are 0.
+fn man(word: u32) -> Option<KeyedMan> {
+    let [kind, colour, square, there] = word.to_le_bytes();
+    (there != 0).then_some(KeyedMan { kind, colour, square })
+}
+
+impl Given {
+    /// Bytes that are most often right, with one man, in the first word.
+    fn random(sequence: &mut Sequence) -> Given {
+        let mut byte = |right: usize| match sequence.below(24) {
+            0 => sequence.byte(),
+            _ => sequence.below(right) as u8,
+        };
+        let [side, white, black] = [byte(2), byte(64), byte(64)];
+        let mut word = |often: bool| {
+            let low = [byte(4), byte(2), byte(64)];
+            let there = match byte(16) {
+                0 => byte(2),
+                1 => byte(255),
+                _ => often as u8,
+            };
+            u32::from_le_bytes([low[0], low[1], low[2], there])
+        };
+        Given { side, white, black, first: word(true), second: word(false) }
+    }
+
+    fn keyed(self) -> Keyed {
+        let Given { side, white, black, first, second } = self;
+        Keyed { side, white_king: white, black_king: black, men: [man(first), man(second)] }
+    }
+}
+
+/// A refusal's number in the lowest byte and nothing else, or the answer's word.
+fn word<T>(answer: Result<T, Refused>, said: impl FnOnce(T) -> u64) -> u64 {
+    answer.map_or_else(|Refused(code)| code as u64, said)
+}
+
+fn number_word(answer: Result<usize, Refused>) -> u64 {
+    answer.map_or_else(|Refused(code)| 0x8000_0000 + code as u64, |number| number as u64)
+}
+
+/// A move's four bytes, the lowest first.
+fn move_word(Move { from, to, takes }: Move) -> u32 {
+    u32::from_le_bytes([from, to, takes as u8, 0])
+}
+
+fn answer_word(Answer { value, best }: Answer) -> u64 {
+    let (value, depth) = match value {
+        Value::Win(depth) => (1, depth),
+        Value::Loss(depth) => (2, depth),
+        Value::Draw => (3, 0),
+    };
+    let given = best.map_or(0, |best| 1 << 24 | (move_word(best) as u64) << 32);
+    value << 8 | (depth as u64) << 16 | given
+}
+
+fn pocket_word(answer: PocketAnswer) -> u64 {
+    match answer {
+        PocketAnswer::Win => 1 << 8,
+        PocketAnswer::Loss => 2 << 8,
+        PocketAnswer::Draw => 3 << 8,
+    }
+}
+
+fn opinion_word(opinion: Opinion) -> u64 {
+    match opinion {
+        Opinion::Win(depth) => 1 << 8 | (depth as u64) << 16,
+        Opinion::Loss(depth) => 2 << 8 | (depth as u64) << 16,
+        Opinion::NotWithin => 4 << 8,
+    }
+}
+
+/// The list's bytes and the answer.
+fn list_of(keyed: &Keyed) -> ([u8; MOVES_BYTES], u64) {
+    let mut list = [0; MOVES_BYTES];
+    let answer = word(legal_position(keyed), |position| {
+        let found = moves(&position);
+        for (place, &chosen) in list.chunks_exact_mut(4).zip(found.as_slice()) {
+            place.copy_from_slice(&move_word(chosen).to_le_bytes());
+        }
+        (found.as_slice().len() as u64) << 8
+    });
+    (list, answer)
+}
+
+fn our_list(given: Given) -> ([u8; MOVES_BYTES], u64) {
+    let Given { side, white, black, first, second } = given;
+    let mut list = [165; MOVES_BYTES];
+    let (start, len) = (list.as_mut_ptr(), list.len());
+    // SAFETY: `start` leads to `len` bytes that nothing else refers to.
+    let answer = unsafe { ffi::sledgewren_moves(side, white, black, first, second, start, len) };
+    (list, answer as u64)
+}
+
+/// The number, the count and the moves.
+fn compare_moves(given: Given, tally: &mut Tally) {
+    let Given { side, white, black, first, second } = given;
+    let keyed = given.keyed();
+    // SAFETY: no pointers.
+    let (numbered, counted) = unsafe {
+        (
+            ffi::sledgewren_number(side, white, black, first, second),
+            ffi::sledgewren_count(side, white, black, first, second),
+        )
+    };
+    let due = list_of(&keyed);
+    tally.add("number's word", &given, numbered as u64, number_word(number(&keyed)));
+    tally.add("count's word", &given, counted as u64, due.1);
+    tally.add("moves' bytes and word", &given, our_list(given), due);
+}
+
+/// The look-up in a table.
+fn compare_look_up(given: Given, table: &[u8], tally: &mut Tally) {
+    let Given { side, white, black, first, second } = given;
+    let (start, len) = (table.as_ptr(), table.len());
+    // SAFETY: the slice's pointer leads to as many bytes as its length says.
+    let found = unsafe { ffi::sledgewren_look_up(start, len, side, white, black, first, second) };
+    let due = word(look_up(table, &given.keyed()), answer_word);
+    tally.add("look-up's word", &given, found, due);
+}
+
+/// The look-up in a pocket.
+fn compare_pocket(given: Given, packed: &[u8], tally: &mut Tally) {
+    let Given { side, white, black, first, second } = given;
+    let (start, len) = (packed.as_ptr(), packed.len());
+    // SAFETY: the slice's pointer leads to as many bytes as its length says.
+    let found =
+        unsafe { ffi::sledgewren_pocket_look_up(start, len, side, white, black, first, second) };
+    let due = word(pocket::look_up(packed, &given.keyed()), pocket_word);
+    tally.add("pocket look-up's word", &given, found as u64, due);
+}
+
+/// The search without a table.
+fn compare_opinion(given: Given, plies: u8, tally: &mut Tally) {
+    let Given { side, white, black, first, second } = given;
+    // SAFETY: no pointers.
+    let found = unsafe { ffi::sledgewren_second_opinion(side, white, black, first, second, plies) };
+    let due = word(search(&given.keyed(), plies), opinion_word);
+    tally.add("second opinion's word", &(given, plies), found as u64, due);
+}
+
+/// Random words: kinds, colours and squares in range or not, men there or not, first, second or
+/// both.
+pub fn random_words(sequence: &mut Sequence, tally: &mut Tally) {
+    let tables: Vec<Vec<u8>> = (0..4).map(filled).collect();
+    let packed: Vec<Vec<u8>> = tables
+        .iter()
+        .map(|table| {
+            let mut packed = vec![165; POCKET_BYTES];
+            // Both lengths are right.
+            let _ = pocket::pack(table, &mut packed);
+            packed
+        })
+        .collect();
+    for _ in 0..POSITIONS {
+        let given = Given::random(sequence);
+        let (kind, plies) = (given.first as usize % 4, PLIES[sequence.below(PLIES.len())]);
+        compare_moves(given, tally);
+        compare_look_up(given, &tables[kind], tally);
+        compare_pocket(given, &packed[kind], tally);
+        compare_opinion(given, plies, tally);
+    }
+}
