@@ -22,19 +22,19 @@ pub enum Answer {
     Win {
         /// In this many plies.
         depth: u8,
-        /// The first move in list order that leads to a loss in one ply less.
+        /// The first move on the normalised board, carried back, that leads to a loss in one ply less.
         best: Option<Move>,
     },
     /// The side to move is mated.
     Loss {
         /// In this many plies.
         depth: u8,
-        /// The first move in list order that leads to a win in one ply less.
+        /// The first move on the normalised board, carried back, that leads to a win in one ply less.
         best: Option<Move>,
     },
     /// A draw.
     Draw {
-        /// The first move in list order that leads to a draw.
+        /// The first move on the normalised board, carried back, that leads to a draw.
         best: Option<Move>,
     },
 }
@@ -76,7 +76,7 @@ impl fmt::Display for Value {
     }
 }
 
-/// As on the desk's slip: `win 1 h2g1`, `loss 0`, `draw a1xb2`.
+/// As on the desk's slip: `win 1 h2a2`, `loss 0`, `draw a1xb2`.
 impl fmt::Display for Answer {
     fn fmt(&self, out: &mut fmt::Formatter) -> fmt::Result {
         match self.best() {

@@ -22,7 +22,7 @@
 //! };
 //! let answer = table.look_up(position)?;
 //! assert_eq!(answer.depth(), Some(1));
-//! assert_eq!(answer.to_string(), "win 1 h2g1");
+//! assert_eq!(answer.to_string(), "win 1 h2a2");
 //! # Ok::<(), Box<dyn std::error::Error>>(())
 //! ```
 //!

@@ -14,7 +14,7 @@ Q # 0204962
 ";
 
 const OUTPUT: &str = "\
-win 1 h2g1
+win 1 h2a2
 loss 0
 draw
 draw a1xb2

@@ -81,7 +81,7 @@ fn every_byte_of_the_slip_is_written() {
     let mut slip = [DIRT; 16];
     let answer = answer_line(b"Q w b3 h2 a1", 200, &mut table, &mut slip);
     assert_eq!(answer, 11, "the queen, 0, is held, and the slip has 11 bytes");
-    assert_eq!(&slip, b"win 1 h2g1\n\0\0\0\0\0");
+    assert_eq!(&slip, b"win 1 h2a2\n\0\0\0\0\0");
     assert!(!table.contains(&DIRT));
 }
 

@@ -174,7 +174,7 @@ fn owned_and_lent() {
     let owned = Set::from_bytes(bytes.clone()).unwrap();
     assert!(owned == lent && owned.borrowed() == lent);
     let found = owned.look_up(position("Q w b3 h2 a1")).unwrap();
-    assert_eq!(found.to_string(), "win 1 h2g1");
+    assert_eq!(found.to_string(), "win 1 h2a2");
     assert_eq!(owned.look_up(position("R w b3 h2 a1")), Err(Refusal::NotInSet));
     assert_eq!(owned.into_bytes(), bytes);
 }

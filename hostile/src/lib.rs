@@ -8,6 +8,7 @@ pub mod lines;
 pub mod pocket;
 pub mod sequence;
 pub mod steps;
+pub mod turns;
 pub mod typed;
 pub mod words;
 pub mod written;

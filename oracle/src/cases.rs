@@ -19,7 +19,7 @@ Q # 0204962
 ";
 
 pub const RUN_OUTPUT: &str = "\
-win 1 h2g1
+win 1 h2a2
 loss 0
 draw
 draw a1xb2

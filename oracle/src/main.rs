@@ -40,6 +40,7 @@ mod tests_search;
 mod tests_set;
 mod tests_steps;
 mod tests_table;
+mod tests_turns;
 
 use std::ffi::OsString;
 use std::io::{self, Write};

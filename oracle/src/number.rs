@@ -74,16 +74,18 @@ fn must_exchange(position: &Position) -> bool {
     above_diagonal(man_square)
 }
 
-/// The one position of its class that is numbered.
-pub fn normalised(position: &Position) -> Position {
+/// The map to the one position of the class that is numbered. File and rank are exchanged only
+/// where they must be, so that where two maps fit it is the one without the exchange.
+pub fn normal_map(position: &Position) -> u8 {
     let files = if file(position.white_king) > 3 { 1 } else { 0 };
     let ranks = if rank(position.white_king) > 3 { 2 } else { 0 };
     let turned = position_mapped(files | ranks, position);
-    if must_exchange(&turned) {
-        position_mapped(4, &turned)
-    } else {
-        turned
-    }
+    files | ranks | if must_exchange(&turned) { 4 } else { 0 }
+}
+
+/// The one position of its class that is numbered.
+pub fn normalised(position: &Position) -> Position {
+    position_mapped(normal_map(position), position)
 }
 
 /// The pair of two kings' squares, if they form one.

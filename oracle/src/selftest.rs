@@ -9,7 +9,7 @@ use crate::number::NUMBERS;
 use crate::position::{Keyed, Man, Side, MEN, SIDES};
 use crate::{
     tests_board, tests_check_digits, tests_desk, tests_games, tests_number, tests_pocket,
-    tests_search, tests_set, tests_steps, tests_table,
+    tests_search, tests_set, tests_steps, tests_table, tests_turns,
 };
 
 /// The four tables by the plain fill, made once for all tests.
@@ -66,6 +66,7 @@ pub fn run(output: &mut impl Write) -> Done {
         tests_number::TESTS,
         tests_table::TESTS,
         tests_steps::TESTS,
+        tests_turns::TESTS,
         tests_games::TESTS,
         tests_pocket::TESTS,
         tests_check_digits::TESTS,

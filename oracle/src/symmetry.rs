@@ -27,6 +27,12 @@ pub const fn mapped(map: u8, square: Square) -> Square {
     }
 }
 
+/// The square that a map takes to this one: its parts undone, the last first.
+pub const fn mapped_back(map: u8, square: Square) -> Square {
+    let square = if map & 4 != 0 { exchanged(square) } else { square };
+    mapped(map & 3, square)
+}
+
 /// "A map is a change of a position into a position."
 pub fn position_mapped(map: u8, position: &Position) -> Position {
     Position {

@@ -1,9 +1,10 @@
 //! Tables: their size, the byte required at a number, checking, looking up.
 
-use crate::number::{number_of, position_of, NUMBERS};
+use crate::number::{normal_map, number_of, position_of, NUMBERS};
 use crate::position::{Keyed, Man, Position, Refused};
 use crate::rule::{value, Successors, Value, DRAW, UNUSED};
 use crate::rules::{in_check, legal, legal_position, moves, play, Move};
+use crate::symmetry::{mapped_back, position_mapped};
 
 /// One byte a number.
 pub type Table = [u8; NUMBERS];
@@ -74,6 +75,22 @@ fn wanted(held: Value) -> Option<Value> {
     }
 }
 
+/// "Break ties on the normalised board, not on the board as keyed, and carry the move back": the
+/// first move in list order there that leads to the value wanted.
+fn first_leading(table: &Table, position: &Position, after: Value) -> Option<Move> {
+    let map = normal_map(position);
+    let normal = position_mapped(map, position);
+    let list = moves(&normal);
+    let found = list
+        .as_slice()
+        .iter()
+        .find(|&&chosen| value(successor_byte(table, &normal, chosen)) == after);
+    found.map(|&Move { from, to, takes }| {
+        let (from, to) = (mapped_back(map, from), mapped_back(map, to));
+        Move { from, to, takes }
+    })
+}
+
 /// Looking up: refusals 1 to 7 and 11.
 pub fn look_up(bytes: &[u8], keyed: &Keyed) -> Result<Answer, Refused> {
     let position = legal_position(keyed)?;
@@ -83,14 +100,6 @@ pub fn look_up(bytes: &[u8], keyed: &Keyed) -> Result<Answer, Refused> {
         return Err(Refused(11));
     }
     let held = value(byte);
-    // "The move is the first in list order, on the board as keyed."
-    let best = wanted(held).and_then(|after| {
-        let list = moves(&position);
-        let found = list
-            .as_slice()
-            .iter()
-            .find(|&&chosen| value(successor_byte(table, &position, chosen)) == after);
-        found.copied()
-    });
+    let best = wanted(held).and_then(|after| first_leading(table, &position, after));
     Ok(Answer { value: held, best })
 }

@@ -92,7 +92,7 @@ const ODD_LINES: &[(&str, &str)] = &[
     ("X y z9 z9 z ", "refused 12"),
     ("P y z9 z9 z9", "refused 1"),
     // 01's run with Black's man: colours, kings and side exchanged.
-    ("q b a1 h2 b3", "win 1 h2g1"),
+    ("q b a1 h2 b3", "win 1 h2a2"),
     ("q w a1 b2 b3", "loss 0"),
     ("q w a1 b3 e5", "draw"),
     ("q w a1 b2 h8", "draw a1xb2"),

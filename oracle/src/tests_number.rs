@@ -86,7 +86,7 @@ fn number_of_back(_: &Truth) -> Verdict {
 }
 
 /// 01's three sentences on the position that is numbered, word for word.
-fn is_numbered(position: &Position) -> bool {
+pub fn is_numbered(position: &Position) -> bool {
     let Position { white_king, man_square, black_king, .. } = *position;
     let in_octant = file(white_king) <= 3 && rank(white_king) <= file(white_king);
     let black_right = !on_diagonal(white_king) || !above_diagonal(black_king);

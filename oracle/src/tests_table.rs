@@ -11,7 +11,9 @@ use crate::rule::{value, Value, DRAW, GREATEST_DEPTH, MATED};
 use crate::rules::{in_check, legal, legal_position, moves, play, Move};
 use crate::samples::Sequence;
 use crate::selftest::{every_keyed, expect, Test, Truth, Verdict};
+use crate::symmetry::{mapped, position_mapped};
 use crate::table::{check, look_up, required, sized, Checked, Table};
+use crate::tests_number::is_numbered;
 
 pub const TESTS: &[Test] = &[
     ("both fills give one table, whatever the buffer held", fills_alike),
@@ -23,7 +25,11 @@ pub const TESTS: &[Test] = &[
     ("checking refuses 1, then 7", check_refusals),
     ("checking names the lowest wrong number after each of 3,000 damages", check_damage),
     ("a depth above 253: every byte is wrong, and refused 11 at look-up", too_deep),
-    ("look-up is refused on no legal position, and its answer is the byte's", look_up_all),
+    (
+        "look-up is refused on no legal position, its answer is the byte's, its move the first on \
+         the numbered board",
+        look_up_all,
+    ),
     ("with both colours each value is the one 01's words give of those after it", values_plain),
     ("look-up refuses 1 to 6 before 7", look_up_refusals),
 ];
@@ -229,6 +235,20 @@ fn leads(table: &[u8], position: &Position, held: Value, chosen: Move) -> bool {
     }
 }
 
+/// P5's rule from 01's words alone: of the maps to the board that is numbered the one without the
+/// exchange where two fit, the first move there that leads where it must, and the squares that the
+/// map takes to that move's.
+fn first_when_numbered(table: &[u8], position: &Position, held: Value) -> Option<Move> {
+    let fits = |&map: &u8| is_numbered(&position_mapped(map, position));
+    // Maps 0 to 3 do not exchange.
+    let map = (0..8).find(fits)?;
+    let numbered = position_mapped(map, position);
+    let back = |square: u8| (0..64).find(|&from| mapped(map, from) == square);
+    let list = moves(&numbered);
+    let first = list.as_slice().iter().find(|&&chosen| leads(table, &numbered, held, chosen))?;
+    Some(Move { from: back(first.from)?, to: back(first.to)?, takes: first.takes })
+}
+
 fn look_up_all(truth: &Truth) -> Verdict {
     for man in MEN {
         let table = truth.table(man);
@@ -239,8 +259,8 @@ fn look_up_all(truth: &Truth) -> Verdict {
             };
             let byte = table[number_of(&position)];
             let list = moves(&position);
-            let first = list.as_slice().iter().find(|&&m| leads(table, &position, answer.value, m));
-            let right = answer.value == value(byte) && answer.best == first.copied();
+            let first = first_when_numbered(table, &position, answer.value);
+            let right = answer.value == value(byte) && answer.best == first;
             let moved = answer.best.is_none() == list.as_slice().is_empty();
             expect(right && moved, || format!("{keyed:?}: {answer:?}, byte {byte}"))?;
         }

@@ -9,13 +9,19 @@ use Rattle.finite.specs.Lowest.{lowest}
 use Rattle.theory.specs.Required.{requiredAt}
 use Rattle.theory.specs.Play.{firstSuited}
 use Rattle.table_theory.specs.Tables.{Result, undecided, deepest, tooDeep, wrongAt, filled}
+use Rattle.symmetry.specs.Symmetry.{Symmetry, inverse}
 use Rattle.rules.specs.declared.Move.{Move}
+use Rattle.rules.specs.Rules.{Board}
+use Rattle.rules.specs.Changed.{mappedMove}
 use Rattle.rules.specs.Chess.{chess}
+use Rattle.numbering.specs.Number.{normalBy, normalised}
 use Rattle.position.specs.declared.Position.{Position}
 use Rattle.position.specs.Keyed.{boardOf}
 use Rattle.position.specs.Refusals.{standingRefusal}
 use Rattle.answers.specs.declared.BestMove.{BestMove}
+use Rattle.answers.specs.declared.BestMove.the-variants.{Play, NoMove}
 use Rattle.answers.specs.declared.Answer.{Answer}
+use Rattle.answers.specs.declared.Answer.the-variants.{Win, Loss, Draw, Refused}
 use Rattle.answers.specs.declared.Checked.{Checked}
 use Rattle.answers.specs.declared.Filled.{Filled}
 use Rattle.endings.specs.Ending.{tableSize, byteOf, ending}
@@ -57,10 +63,26 @@ adviceOf (some m) = BestMove.Play m
 unfoldable pub answerOf : ℕ → BestMove → Answer
 answerOf b a = cond (leb b 1) (Answer.Draw a) (cond (eqb (b % 2) 1) (Answer.Win (b - 2) a) (Answer.Loss (b - 2) a))
 
+-- an answer with its move under a map
+abbrev pub mappedAdvice : Symmetry → BestMove → BestMove
+mappedAdvice m (Play v) = Play (mappedMove m v)
+mappedAdvice m NoMove = NoMove
+
+abbrev pub mappedAnswer : Symmetry → Answer → Answer
+mappedAnswer m (Win n a) = Win n (mappedAdvice m a)
+mappedAnswer m (Loss n a) = Loss n (mappedAdvice m a)
+mappedAnswer m (Draw a) = Draw (mappedAdvice m a)
+mappedAnswer m (Refused n) = Refused n
+
+-- "break ties on the normalised board .. and carry the move back" (02, P5): the first move in list order that suits there, by the inverse of the map
+-- by which the board is made normal
+unfoldable pub chosen : (Board → ℕ) → Board → BestMove
+chosen reads b = mappedAdvice (inverse (normalBy b)) (adviceOf (firstSuited chess reads (normalised b)))
+
 unfoldable pub lookUpOf : List ℕ → Position → Answer
 lookUpOf t p =
     let b = boardOf p in
     cond (not (eqb (standingRefusal p) 0)) (Answer.Refused (standingRefusal p))
     (cond (not (eqb (length t) tableSize)) (Answer.Refused 7)
     (cond (not (eqb (byteOf t b) (requiredAt chess (byteOf t) b))) (Answer.Refused 11)
-    (answerOf (byteOf t b) (adviceOf (firstSuited chess (byteOf t) b)))))
+    (answerOf (byteOf t b) (chosen (byteOf t) b))))

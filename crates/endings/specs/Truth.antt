@@ -9,8 +9,9 @@ use Rattle.finite.specs.Members.{_∈_}
 use Rattle.theory.specs.Value.{WonIn, LostIn, Drawn, TrueByte}
 use Rattle.rules.specs.declared.Move.{Move}
 use Rattle.rules.specs.Rules.{Board, legal, moves}
+use Rattle.rules.specs.Changed.{mappedMove}
 use Rattle.rules.specs.Chess.{chess, played}
-use Rattle.numbering.specs.Number.{numberOf}
+use Rattle.numbering.specs.Number.{normalBy, normalised, numberOf}
 use Rattle.answers.specs.declared.BestMove.{BestMove}
 use Rattle.answers.specs.declared.Answer.{Answer}
 use Rattle.endings.specs.Ending.{Lone, tableSize, legalNumber}
@@ -28,11 +29,18 @@ pub record First (Sought : Move → Type 0) (ms : List Move) (m : Move) : Type 0
   pub sought : Sought m
   pub none-earlier : (v : Move) → v ∈ before → Sought v → ⊥
 
--- The answer is the board's true value and depth, with the first move "that leads to a loss in n - 1 (from a win), a win in n - 1 (from a
+-- "break ties on the normalised board" (02, P5): m is legal and leads to what is sought; and the map that makes the board normal makes it the first
+-- such move there
+pub record Chosen (Sought : Board → Type 0) (b : Board) (m : Move) : Type 0 where
+  pub legal : m ∈ moves b
+  pub leads : Sought (played b m)
+  pub there : First (λ v. Sought (played (normalised b) v)) (moves (normalised b)) (mappedMove (normalBy b) m)
+
+-- The answer is the board's true value and depth, with the chosen move "that leads to a loss in n - 1 (from a win), a win in n - 1 (from a
 -- loss), or a draw", or none for mate and stalemate. No table is spoken of.
 pub data TrueAnswer (b : Board) (a : Answer) : Type 0 where
-  won : (n : ℕ) (m : Move) → WonIn chess n b → First (λ v. LostIn chess (n - 1) (played b v)) (moves b) m → a ≡ Answer.Win n (BestMove.Play m) → TrueAnswer b a
-  lost : (n : ℕ) (m : Move) → LostIn chess n b → First (λ v. WonIn chess (n - 1) (played b v)) (moves b) m → a ≡ Answer.Loss n (BestMove.Play m) → TrueAnswer b a
+  won : (n : ℕ) (m : Move) → WonIn chess n b → Chosen (LostIn chess (n - 1)) b m → a ≡ Answer.Win n (BestMove.Play m) → TrueAnswer b a
+  lost : (n : ℕ) (m : Move) → LostIn chess n b → Chosen (WonIn chess (n - 1)) b m → a ≡ Answer.Loss n (BestMove.Play m) → TrueAnswer b a
   mate : LostIn chess 0 b → moves b ≡ [] → a ≡ Answer.Loss 0 BestMove.NoMove → TrueAnswer b a
-  drawn : (m : Move) → Drawn chess b → First (λ v. Drawn chess (played b v)) (moves b) m → a ≡ Answer.Draw (BestMove.Play m) → TrueAnswer b a
+  drawn : (m : Move) → Drawn chess b → Chosen (Drawn chess) b m → a ≡ Answer.Draw (BestMove.Play m) → TrueAnswer b a
   stalemate : Drawn chess b → moves b ≡ [] → a ≡ Answer.Draw BestMove.NoMove → TrueAnswer b a

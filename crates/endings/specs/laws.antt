@@ -4,8 +4,10 @@ pub mod EndingLaws
 pub mod Halves
 pub mod Checking
 pub mod Exchanged
+pub mod Turning
 pub mod LookingUp
 pub mod OneAnswer
+pub mod MoveTurned
 pub mod Games
 pub mod FilledTrue
 pub mod LastNumbers

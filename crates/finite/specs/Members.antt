@@ -132,11 +132,6 @@ module _ {A : Type 0} where
       go true d r = (y, rw d)
       go false d r = (r .0, rw d (r .1))
 
-  pub first-same : (f g : A → Bool) (l : List A) → ((x : A) → x ∈ l → f x ≡ g x) → first f l ≡ first g l
-  unfolding first
-  first-same f g [] h = refl
-  first-same f g (x ∷ l) h = rw (h x (List·Memᴰ·head refl), first-same f g l (λ y m. h y (List·Memᴰ·tail m)))
-
 module _ {A B : Type 0} (f : A → B) where
   pub map-in : {x : A} {l : List A} → x ∈ l → f x ∈ map f l
   map-in (List·Memᴰ·head e) = List·Memᴰ·head (ap f e)

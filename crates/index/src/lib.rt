@@ -75,7 +75,8 @@ pub fn key_of(p: Position, pair: u16) -> u32
 pub fn number_of(p: Position) -> u32
     ensures { λ r. ⌜ r ≡ keyOf (boardOf (normalPosition (whiteOwned p))) ⌝ }
 {
-    let n = p.white_owned().normalised();
+    let normal = p.white_owned().normalised();
+    let n = normal.position;
     key_of(n, pairs::pair_of(n.white_king, n.black_king))
 }
 

@@ -5,4 +5,5 @@ pub mod Keys
 pub mod Men
 pub mod Change
 pub mod Number
+pub mod Fits
 pub mod laws

@@ -27,9 +27,13 @@ rulingMap b = kingMap (b .white) (b .black) (prefers (changed (turn (b .white)) 
 unfoldable pub rulingOrder : Board → Bool
 rulingOrder b = falling (map (changedPiece (rulingMap b) false) (b .men)) && like (b .men)
 
+-- the map by which a board is made normal
+abbrev pub normalBy : Board → Symmetry
+normalBy b = rulingMap (arranged b)
+
 -- the normal board of the class
 unfoldable pub normalised : Board → Board
-normalised b = changedBy (change (rulingOrder (arranged b)) false (rulingMap (arranged b))) (arranged b)
+normalised b = changedBy (change (rulingOrder (arranged b)) false (normalBy b)) (arranged b)
 
 -- the number of a board: the key of the normal board of its class
 unfoldable pub numberOf : Board → ℕ

@@ -10,3 +10,4 @@ pub mod OrderLaws
 pub mod ClassLaws
 pub mod AtLaws
 pub mod LoneLaws
+pub mod FitLaws

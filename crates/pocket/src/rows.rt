@@ -68,6 +68,7 @@ fn pair_of(white: u8, black: u8) -> u16
 pub fn number_by_rows(p: Position) -> u32
     ensures { λ r. ⌜ r ≡ keyOf (boardOf (normalPosition (whiteOwned p))) ⌝ }
 {
-    let n = p.white_owned().normalised();
+    let normal = p.white_owned().normalised();
+    let n = normal.position;
     key_of(n, pair_of(n.white_king, n.black_king))
 }

@@ -5,3 +5,4 @@ pub mod Pieces
 pub mod MapLaws
 pub mod PlacedLaws
 pub mod OwnerLaws
+pub mod ChangedRefusals

@@ -69,7 +69,20 @@ pub struct Position {
     pub second: Slot,
 }
 
-// The same, each as a piece; an absent one stands off the board and has no steps.
+// One of the board's eight maps: the files reversed, the ranks reversed, then file and rank exchanged, each or not.
+pub struct Map {
+    pub files: bool,
+    pub ranks: bool,
+    pub swap: bool,
+}
+
+// The normal position of a class, and the map that makes a position of it into that.
+pub struct Normal {
+    pub position: Position,
+    pub via: Map,
+}
+
+// A position's kings and men, each as a piece; an absent one stands off the board and has no steps.
 pub struct Pieces {
     pub white: Piece,
     pub black: Piece,

@@ -1,13 +1,15 @@
 // A position under the board's maps. What is off the board stays where it is.
+use crate::Map;
+use crate::Normal;
 use crate::Position;
 use crate::Slot;
 use rules::Piece;
 ghost use mathlib.Core.Path.{_≡_};
 ghost use mathlib.Core.List.{_++_};
-ghost use Rattle.symmetry.specs.Symmetry.{mapped, filesReversed, ranksReversed, exchange};
+ghost use Rattle.symmetry.specs.Symmetry.{mapped, inverse, filesReversed, ranksReversed, exchange};
 ghost use Rattle.numbering.specs.Normal.{firstAbove, turn, swaps as swapsOf};
 ghost use Rattle.position.specs.Keyed.{slotMen, boardOf};
-ghost use Rattle.position.specs.Maps.{mappedSlot, mappedPosition, normalPosition};
+ghost use Rattle.position.specs.Maps.{mappedSlot, mappedPosition, reversals, symmetryOf, normalOf};
 
 // The square with its file reversed.
 fn file_reversed(s: u8) -> u8
@@ -37,6 +39,36 @@ pub fn transposed(s: u8) -> u8
         return s;
     }
     s % 8 * 8 + s / 8
+}
+
+// The square with its file reversed or not, and its rank.
+fn reversed(files: bool, ranks: bool, s: u8) -> u8
+    ensures { λ r. ⌜ r ≡ mapped (reversals files ranks) s ⌝ }
+{
+    if files {
+        if ranks {
+            return rank_reversed(file_reversed(s));
+        }
+        return file_reversed(s);
+    }
+    if ranks {
+        return rank_reversed(s);
+    }
+    s
+}
+
+impl Map {
+    // The square that the map brings to this one.
+    pub fn back(self, s: u8) -> u8
+        ensures { λ r. ⌜ r ≡ mapped (inverse (symmetryOf self)) s ⌝ }
+    {
+        let files = self.files;
+        let ranks = self.ranks;
+        if self.swap {
+            return reversed(files, ranks, transposed(s));
+        }
+        reversed(files, ranks, s)
+    }
 }
 
 // The men in a slot, likewise.
@@ -188,14 +220,28 @@ impl Position {
         men_above(first, second)
     }
 
-    // The normal position of the same class.
-    pub fn normalised(self) -> Position
-        ensures { λ r. ⌜ r ≡ normalPosition self ⌝ }
+    // The normal position of the same class, and the map that makes it.
+    pub fn normalised(self) -> Normal
+        ensures { λ r. ⌜ r ≡ normalOf self ⌝ }
     {
+        let white = self.white_king;
         let p = self.turned();
-        if p.swaps() {
-            return p.exchanged();
+        let swap = p.swaps();
+        let via = Map {
+            files: 3 < white % 8,
+            ranks: 3 < white / 8,
+            swap: swap,
+        };
+        if swap {
+            let q = p.exchanged();
+            return Normal {
+                position: q,
+                via: via,
+            };
         }
-        p
+        Normal {
+            position: p,
+            via: via,
+        }
     }
 }

@@ -4,7 +4,8 @@ use mathlib.Core.List.{map}
 use Prim.Native.Nat.{ℕ, zero, suc}
 use Rattle.symmetry.specs.Symmetry.{Symmetry, mapped}
 use Rattle.rules.specs.declared.Piece.{Piece}
-use Rattle.rules.specs.Rules.{Board, pieceOf}
+use Rattle.rules.specs.declared.Move.{Move}
+use Rattle.rules.specs.Rules.{Board, pieceOf, moveOf}
 
 unfoldable pub other : ℕ → ℕ
 other zero = 1
@@ -24,3 +25,7 @@ changed m x b = record {
   black = mapped m (cond x (b .white) (b .black));
   men = map (changedPiece m x) (b .men);
 }
+
+-- a move on the board under a map; the exchange of colours leaves it as it is
+abbrev pub mappedMove : Symmetry → Move → Move
+mappedMove m v = moveOf (mapped m (v .from)) (mapped m (v .to)) (v .takes)

@@ -14,14 +14,14 @@ use Rattle.theory.specs.Alike.{Alike, Automorphism}
 use Rattle.theory.specs.laws.Alike.{automorphism-alike, alike-won, alike-lost, alike-byte}
 use Rattle.symmetry.specs.Symmetry.{Symmetry, mapped, inverse}
 use Rattle.rules.specs.declared.Move.{Move}
-use Rattle.rules.specs.Rules.{Board, empty, inCheck, legal, moved, canMove, moveOn, allMoves, moves, mated}
+use Rattle.rules.specs.Rules.{Board, empty, inCheck, legal, moved, canMove, moveOf, moveOn, allMoves, moves, mated}
 use Rattle.rules.specs.laws.MoveLists.{ListedMove, in-allMoves, of-allMoves}
 use Rattle.rules.specs.laws.Legal.{legal-facts}
 use Rattle.rules.specs.laws.CanMove.{can-on}
 use Rattle.rules.specs.laws.Closed.{closed, moved-side}
-use Rattle.rules.specs.Changed.{changed}
+use Rattle.rules.specs.Changed.{changed, mappedMove}
 use Rattle.rules.specs.laws.Changed.{changed-back, changed-forth}
-use Rattle.rules.specs.laws.ChangedRules.{legal-changed, check-changed, moved-changed, canMove-changed, bare-changed}
+use Rattle.rules.specs.laws.ChangedRules.{legal-changed, check-changed, moved-changed, canMove-changed, taking-changed, bare-changed}
 
 empty-nil : {A : Type 0} (l : List A) → T (empty l) → l ≡ []
 empty-nil [] t = refl
@@ -82,19 +82,26 @@ next-legal b q l h =
 -- ---- symmetry
 
 module _ (m : Symmetry) (x : Bool) (b : Board) (l : T (legal b)) where
-  move-forth : (v : Move) → v ∈ moves b → moveOn (changed m x b) (mapped m (v .from)) (mapped m (v .to)) ∈ moves (changed m x b)
-  move-forth v h =
+  pub moves-changed : (v : Move) → v ∈ moves b → mappedMove m v ∈ moves (changed m x b)
+  moves-changed v h =
       let c = of-moves b v h in
-      in-moves (changed m x b) (mapped m (v .from)) (mapped m (v .to)) (bare-changed m x b ∙ c .0) (rw (canMove-changed m x b (v .from) (v .to) (legal-facts b l .side)) (c .1 .can))
+      let can : T (canMove (changed m x b) (mapped m (v .from)) (mapped m (v .to))) =
+      rw (canMove-changed m x b (v .from) (v .to) (legal-facts b l .side)) (c .1 .can) in
+      let mark = taking-changed m x b (v .from) (v .to) (legal-facts b l .side) ∙ sym (c .1 .mark) in
+      subst (λ (k : Bool). moveOf (mapped m (v .from)) (mapped m (v .to)) k ∈ moves (changed m x b)) mark
+      (in-moves (changed m x b) (mapped m (v .from)) (mapped m (v .to)) (bare-changed m x b ∙ c .0) can)
+
+  pub played-changed : (v : Move) → played (changed m x b) (mappedMove m v) ≡ changed m x (played b v)
+  played-changed v = moved-changed m x b (v .from) (v .to) (legal-facts b l .side)
 
   next-forth : (q : Board) → q ∈ next chess b → changed m x q ∈ next chess (changed m x b)
   next-forth q h =
       let w = map-out (played b) q (moves b) h in
-      let e = ap (changed m x) (w .2) ∙ sym (moved-changed m x b (w .0 .from) (w .0 .to) (legal-facts b l .side)) in
-      rw e (map-in (played (changed m x b)) (move-forth (w .0) (w .1)))
+      let e = ap (changed m x) (w .2) ∙ sym (played-changed (w .0)) in
+      rw e (map-in (played (changed m x b)) (moves-changed (w .0) (w .1)))
 
   stuck-back : T (empty (moves (changed m x b))) → T (empty (moves b))
-  stuck-back t = empty-if (moves b) (λ v h. empty-out (moves (changed m x b)) (moveOn (changed m x b) (mapped m (v .from)) (mapped m (v .to))) (move-forth v h) t)
+  stuck-back t = empty-if (moves b) (λ v h. empty-out (moves (changed m x b)) (mappedMove m v) (moves-changed v h) t)
 
 stuck-same : (m : Symmetry) (x : Bool) (b : Board) → T (legal b) → empty (moves (changed m x b)) ≡ empty (moves b)
 stuck-same m x b l =

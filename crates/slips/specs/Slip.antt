@@ -48,7 +48,7 @@ unfoldable pub adviceText : BestMove → List ℕ
 adviceText (Play m) = gapped (m .from) ++ markText (m .takes) ++ squareName (m .to)
 adviceText NoMove = []
 
--- `win 1 h2g1`, `loss 0`, `draw`, `draw a1xb2`, `refused 6`
+-- `win 1 h2a2`, `loss 0`, `draw`, `draw a1xb2`, `refused 6`
 unfoldable pub answerText : Answer → List ℕ
 answerText (Answer.Win n a) = wordAndNumber (bytes "win ") n ++ adviceText a
 answerText (Answer.Loss n a) = wordAndNumber (bytes "loss ") n ++ adviceText a

@@ -1,7 +1,6 @@
 -- A slip tells the true answer: no two legal positions with different true answers have the same slip.
 use mathlib.Core.Path.{_≡_, refl, sym, subst}
 use mathlib.Core.Logic.{_⊎_, inl, inr}
-use mathlib.Core.List.{List, List·Memᴰ·head, Memᴰ·append-right}
 use Prim.Native.Nat.{ℕ, _≤_, _<_}
 use native.Mathlib.Omega.{arith}
 use Rattle.finite.specs.Truth.{le-or-lt}
@@ -17,19 +16,15 @@ use Rattle.position.specs.Keyed.{boardOf, manKind}
 use Rattle.position.specs.Refusals.{standingRefusal}
 use Rattle.position.specs.laws.Legality.{standing-facts}
 use Rattle.endings.specs.FilledTrue.{Shallow}
-use Rattle.endings.specs.Truth.{First, TrueAnswer}
+use Rattle.endings.specs.Truth.{TrueAnswer}
 use Rattle.endings.specs.laws.Checking.{keyed-lone}
 use Rattle.slips.specs.Slip.{slipOf}
 use Rattle.slips.specs.Fits.{AdviceFits, AnswerFits}
 use Rattle.slips.specs.laws.Apart.{slips-apart}
 
--- the squares of a listed move are on the board
-move-fits : (Sought : Move → Type 0) (b : Board) (m : Move) → First Sought (moves b) m → AdviceFits (BestMove.Play m)
-move-fits Sought b m f =
-    let i : m ∈ moves b =
-    subst (λ (l : List Move). m ∈ l) (sym (f .split)) (Memᴰ·append-right (f .before) (List·Memᴰ·head refl)) in
-    let on = of-moves b m i .1 in
-    (on .from-on, on .to-on)
+-- the squares of a legal move are on the board
+move-fits : (b : Board) (m : Move) → m ∈ moves b → AdviceFits (BestMove.Play m)
+move-fits b m i = let on = of-moves b m i .1 in (on .from-on, on .to-on)
 
 module _ (p : Position) (z : standingRefusal p ≡ 0) (s : Shallow (manKind p)) where
   -- no depth is greater than 253
@@ -42,11 +37,11 @@ module _ (p : Position) (z : standingRefusal p ≡ 0) (s : Shallow (manKind p)) 
 
   true-fits : (a : Answer) → TrueAnswer (boardOf p) a → AnswerFits a
   true-fits a (TrueAnswer.won n m w f e) =
-      subst AnswerFits (sym e) (depth-fits n (DepthIs.win w), move-fits _ (boardOf p) m f)
+      subst AnswerFits (sym e) (depth-fits n (DepthIs.win w), move-fits (boardOf p) m (f .legal))
   true-fits a (TrueAnswer.lost n m w f e) =
-      subst AnswerFits (sym e) (depth-fits n (DepthIs.loss w), move-fits _ (boardOf p) m f)
+      subst AnswerFits (sym e) (depth-fits n (DepthIs.loss w), move-fits (boardOf p) m (f .legal))
   true-fits a (TrueAnswer.mate w o e) = subst AnswerFits (sym e) (omega arith, tt)
-  true-fits a (TrueAnswer.drawn m w f e) = subst AnswerFits (sym e) (move-fits _ (boardOf p) m f)
+  true-fits a (TrueAnswer.drawn m w f e) = subst AnswerFits (sym e) (move-fits (boardOf p) m (f .legal))
   true-fits a (TrueAnswer.stalemate w o e) = subst AnswerFits (sym e) tt
 
 pub one-answer-a-slip : (p q : Position) (a c : Answer) → standingRefusal p ≡ 0 → Shallow (manKind p)

@@ -4,15 +4,15 @@ use mathlib.Core.Path.{_≡_, refl, sym, ap, subst, _∙_}
 use mathlib.Core.Bool.{Bool, true, false, cond}
 use mathlib.Core.Logic.{_⊎_, inl, inr}
 use mathlib.Core.List.{List, [], _∷_, _++_}
-use mathlib.Core.Option.{Option, none, some}
+use mathlib.Core.Option.{none}
 use Prim.Native.Nat.{ℕ, _-_, _%_}
 use lib.Dec.{T, leb, eqb}
 use lib.ListN.{take}
 use borrow.Author.Tests.{eqb-true}
 use Rattle.finite.specs.Truth.{true-of, refuted}
 use Rattle.finite.specs.Members.{map-in}
-use Rattle.theory.specs.Play.{LegalGame, Follows, after, atPly, firstSuited, Chooses, Promised}
-use Rattle.theory.specs.laws.Choice.{first-chooses, legal-take}
+use Rattle.theory.specs.Play.{LegalGame, Follows, after, atPly, Chooses, Promised}
+use Rattle.theory.specs.laws.Choice.{legal-take}
 use Rattle.theory.specs.laws.Games.{promised}
 use Rattle.rules.specs.declared.Piece.{Piece}
 use Rattle.rules.specs.declared.Move.{Move}
@@ -22,14 +22,16 @@ use Rattle.position.specs.declared.Position.{Position}
 use Rattle.position.specs.Keyed.{slotMen, boardOf, oneMan, manKind}
 use Rattle.position.specs.Refusals.{standingRefusal}
 use Rattle.position.specs.laws.Legality.{one-standing}
+use Rattle.answers.specs.declared.BestMove.{BestMove}
 use Rattle.answers.specs.declared.Answer.{Answer}
 use Rattle.answers.specs.declared.Checked.{Checked}
 use Rattle.endings.specs.Ending.{Lone, Ending, byteOf}
 use Rattle.endings.specs.laws.EndingDrawn.{ending-closed, bare-over, bare-drawn}
 use Rattle.endings.specs.Truth.{TrueAnswer}
-use Rattle.endings.specs.Answers.{checkOf, adviceOf, answerOf, lookUpOf}
+use Rattle.endings.specs.Answers.{checkOf, answerOf, chosen, lookUpOf}
+use Rattle.endings.specs.laws.Turning.{chosen-chooses}
 use Rattle.endings.specs.laws.LookingUp.{accepted-bytes, look-up-answers, look-up-true, over-none}
-use Rattle.endings.specs.GamePromise.{slotOf, others, keyed, moveOfAnswer, deskMove, Told, GamePromise}
+use Rattle.endings.specs.GamePromise.{slotOf, others, keyed, given, moveOfAnswer, deskMove, Told, GamePromise}
 
 -- keying a board gives it back
 keyed-board : (kind : ℕ) (b : Board) → Lone kind b → boardOf (keyed b) ≡ b
@@ -63,20 +65,15 @@ keyed-one kind b l = go (b .men) (l .1 .1)
     go ms e = rw e
 
 -- the move of an answer is the one advised
-answer-move : (n : ℕ) (o : Option Move) → moveOfAnswer (answerOf n (adviceOf o)) ≡ o
+answer-move : (n : ℕ) (a : BestMove) → moveOfAnswer (answerOf n a) ≡ given a
 unfolding answerOf
-answer-move n o = go (leb n 1) (eqb (n % 2) 1) o
+answer-move n a = go (leb n 1) (eqb (n % 2) 1)
   where
-    go : (a b : Bool) (o : Option Move)
-        → moveOfAnswer
-        (cond a (Answer.Draw (adviceOf o))
-        (cond b (Answer.Win (n - 2) (adviceOf o)) (Answer.Loss (n - 2) (adviceOf o)))) ≡ o
-    go true b none = refl
-    go true b (some m) = refl
-    go false true none = refl
-    go false true (some m) = refl
-    go false false none = refl
-    go false false (some m) = refl
+    go : (x y : Bool) → moveOfAnswer (cond x (Answer.Draw a)
+        (cond y (Answer.Win (n - 2) a) (Answer.Loss (n - 2) a))) ≡ given a
+    go true y = refl
+    go false true = refl
+    go false false = refl
 
 module _ (kind : ℕ) (t : List ℕ) (ok : checkOf kind t ≡ Checked.Accepted) where
   keyed-standing : (b : Board) → Ending kind b → Lone kind b → standingRefusal (keyed b) ≡ 0
@@ -91,29 +88,29 @@ module _ (kind : ℕ) (t : List ℕ) (ok : checkOf kind t ≡ Checked.Accepted) 
   keyed-kind : (b : Board) → Lone kind b → manKind (keyed b) ≡ kind
   keyed-kind b l = ap manKind (keyed-one kind b l)
 
-  -- the desk's move is the first suited one
-  desk-first : (b : Board) → Ending kind b → deskMove t b ≡ firstSuited chess (byteOf t) b
+  -- the desk's move is the chosen one
+  desk-chosen : (b : Board) → Ending kind b → deskMove t b ≡ given (chosen (byteOf t) b)
   unfolding deskMove
-  desk-first b d = go (d .men)
+  desk-chosen b d = go (d .men)
     where
-      go : (b .men ≡ []) ⊎ Lone kind b
-          → cond (empty (b .men)) none (moveOfAnswer (lookUpOf t (keyed b))) ≡ firstSuited chess (byteOf t) b
-      go (inl e) =
-          subst (λ (ms : List Piece). cond (empty ms) none (moveOfAnswer (lookUpOf t (keyed b)))
-          ≡ firstSuited chess (byteOf t) b) (sym e) (sym (over-none b t (bare-over b (d .legality) e)))
+      Desk : List Piece → Type 0
+      Desk ms = cond (empty ms) none (moveOfAnswer (lookUpOf t (keyed b))) ≡ given (chosen (byteOf t) b)
+
+      go : (b .men ≡ []) ⊎ Lone kind b → Desk (b .men)
+      go (inl e) = subst Desk (sym e) (sym (ap given (over-none kind t b d (bare-over b (d .legality) e))))
       go (inr l) =
-          subst (λ (ms : List Piece). cond (empty ms) none (moveOfAnswer (lookUpOf t (keyed b)))
-          ≡ firstSuited chess (byteOf t) b) (sym (l .1 .1))
+          subst Desk (sym (l .1 .1))
           (ap moveOfAnswer (look-up-answers kind t ok (keyed b) (keyed-kind b l) (keyed-standing b d l))
-          ∙ answer-move (byteOf t (boardOf (keyed b))) (firstSuited chess (byteOf t) (boardOf (keyed b)))
-          ∙ ap (firstSuited chess (byteOf t)) (keyed-board kind b l))
+          ∙ answer-move (byteOf t (boardOf (keyed b))) (chosen (byteOf t) (boardOf (keyed b)))
+          ∙ ap (λ (c : Board). given (chosen (byteOf t) c)) (keyed-board kind b l))
 
   desk-chooses : Chooses chess (Ending kind) (byteOf t) (deskMove t)
-  desk-chooses = record {
-    sound = λ b d m e. first-chooses chess (Ending kind) (byteOf t) .sound b d m (sym (desk-first b d) ∙ e);
-    total = λ b d m i s. let r = first-chooses chess (Ending kind) (byteOf t) .total b d m i s in
-        (r .0, desk-first b d ∙ r .1);
-  }
+  desk-chooses =
+      let rule = chosen-chooses kind t in
+      record {
+        sound = λ b d m e. rule .sound b d m (sym (desk-chosen b d) ∙ e);
+        total = λ b d m i s. let r = rule .total b d m i s in (r .0, desk-chosen b d ∙ r .1);
+      }
 
   stays : (b : Board) (ms : List Move) → Ending kind b → LegalGame chess b ms → Ending kind (after chess b ms)
   stays b [] d l = d

@@ -17,9 +17,6 @@ returns-2 c = refused-length _ _ _ (c .before .before .standing-refusal .ensures
 pair-list-requires : tie.Need-pair-list-requires
 pair-list-requires c κs = tt
 
-white-owned-requires : tie.Need-white-owned-requires
-white-owned-requires c κs = tt
-
 man-in-requires : tie.Need-man-in-requires
 man-in-requires c κs = tt
 
@@ -38,18 +35,55 @@ enum-known-verdict c = search needs
 answer-requires : tie.Need-answer-requires
 answer-requires c κs = tt
 
+white-owned-requires : tie.Need-white-owned-requires
+white-owned-requires c κs = tt
+
+normalised-requires : tie.Need-normalised-requires
+normalised-requires c κs = tt
+
+carried-back-requires : tie.Need-carried-back-requires
+carried-back-requires c κs = tt
+
 returns-3 : tie.Need-returns-3
 returns-3 c =
-    refused-byte _ _ _
-    (c .before .before .before .before .before .before .before .before .before .before .before .standing-refusal .ensures) (c .before .before .before .before .before .before .before .before .before .before .if1 .left) _ _ (c .before .before .before .before .before .before .before .white-owned .ensures) (c .before .before .before .before .before .before .man-in .ensures) _ _ _ (c .before .before .before .before .before .before .before .before .before .if2 .left) (c .before .before .before .before .before .before .before .before .pair-list .ensures) (c .before .before .before .before .byte-of .ensures _) (c .before .before .verdict-on .ensures) (c .enum-told .given .1)
+    let n = c .before .before .before .before .before .before .before .before in
+    refused-byte _ _ _ (n .before .before .before .before .before .standing-refusal .ensures)
+    (n .before .before .before .before .if1 .left)
+    _ _ (n .before .white-owned .ensures) (n .normalised .ensures) _
+    (c .before .before .before .before .before .before .man-in .ensures)
+    _ _ _ (n .before .before .before .if2 .left) (n .before .before .pair-list .ensures)
+    (c .before .before .before .before .byte-of .ensures _) (c .before .before .verdict-on .ensures)
+    (c .enum-told .given .1)
 
 returns-4 : tie.Need-returns-4
-returns-4 c = c .answer .ensures
-    ∙ answered _ _ _
-    (c .before .before .before .before .before .before .before .before .before .before .before .before .before .standing-refusal .ensures) (c .before .before .before .before .before .before .before .before .before .before .before .before .if1 .left) _ _ (c .before .before .before .before .before .before .before .before .before .white-owned .ensures) (c .before .before .before .before .before .before .before .before .man-in .ensures) _ _ _ (c .before .before .before .before .before .before .before .before .before .before .before .if2 .left) (c .before .before .before .before .before .before .before .before .before .before .pair-list .ensures) (c .before .before .before .before .before .before .byte-of .ensures _) (c .before .before .before .before .verdict-on .ensures) _ (c .before .before .verdict .given .1)
+returns-4 c =
+    let d = c .before .before .before in
+    let n = d .before .before .before .before .before .before .before .before in
+    c .answer .ensures
+    ∙ answered _ _ _ (n .before .before .before .before .before .standing-refusal .ensures)
+    (n .before .before .before .before .if1 .left)
+    _ _ (n .before .white-owned .ensures) (n .normalised .ensures) _
+    (d .before .before .before .before .before .before .man-in .ensures)
+    _ _ _ (n .before .before .before .if2 .left) (n .before .before .pair-list .ensures)
+    (d .before .before .before .before .byte-of .ensures _) (d .before .before .verdict-on .ensures)
+    _ _ (d .verdict .given .1) (c .before .carried-back .ensures)
 
 pub look-up-spec : {M : Type 1} → statement M
 look-up-spec =
     tie.close
-    (tie.spec standing-refusal-requires returns returns-2 pair-list-requires white-owned-requires man-in-requires
-    byte-of-requires verdict-on-requires enum-told enum-known-verdict answer-requires returns-3 returns-4)
+    (tie.spec
+    standing-refusal-requires
+    returns
+    returns-2
+    pair-list-requires
+    white-owned-requires
+    normalised-requires
+    man-in-requires
+    byte-of-requires
+    verdict-on-requires
+    enum-told
+    enum-known-verdict
+    carried-back-requires
+    answer-requires
+    returns-3
+    returns-4)

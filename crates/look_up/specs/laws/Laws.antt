@@ -1,36 +1,44 @@
 -- Look-up's answer by the tests that lead to it.
-use mathlib.Core.Path.{_≡_, refl, sym, ap, ap₂, _∙_}
-use mathlib.Core.Bool.{cond, false}
+use mathlib.Core.Path.{_≡_, refl, sym, ap, _∙_}
 use mathlib.Core.List.{List}
-use mathlib.Core.Option.{Option}
 use Prim.Native.Nat.{ℕ}
-use lib.Dec.{eqb}
 use lib.ListN.{length}
 use borrow.Author.Tests.{eq-eqb, ne-eqb}
+use Rattle.theory.specs.Required.{requiredAt}
 use Rattle.theory.specs.Play.{firstSuited}
+use Rattle.symmetry.specs.Symmetry.{Symmetry, mapped, inverse}
 use Rattle.rules.specs.declared.Piece.{Piece}
 use Rattle.rules.specs.declared.Move.{Move}
-use Rattle.rules.specs.Rules.{Board}
-use Rattle.rules.specs.Changed.{changed}
-use Rattle.numbering.specs.KingMaps.{swapping}
+use Rattle.rules.specs.Rules.{Board, moveOf}
+use Rattle.rules.specs.Chess.{chess}
+use Rattle.numbering.specs.Number.{normalBy, normalised}
 use Rattle.answers.specs.declared.BestMove.{BestMove}
 use Rattle.answers.specs.declared.Answer.{Answer}
-use Rattle.position.specs.declared.Slot.{Slot}
 use Rattle.position.specs.declared.Position.{Position}
-use Rattle.position.specs.Keyed.{boardOf, lone, manIn, manKind, manSquare}
+use Rattle.position.specs.declared.Map.{Map}
+use Rattle.position.specs.declared.Normal.{Normal}
+use Rattle.position.specs.Keyed.{boardOf, manIn, manKind}
 use Rattle.position.specs.Refusals.{standingRefusal}
-use Rattle.position.specs.Owned.{blackOwns, whiteOwned}
-use Rattle.position.specs.laws.PlacedLaws.{placed-facts, placed-colour, standing-placed}
-use Rattle.position.specs.laws.OwnerLaws.{owned-board, owned-lone}
+use Rattle.position.specs.Owned.{whiteOwned}
+use Rattle.position.specs.Maps.{symmetryOf, normalOf}
 use Rattle.pairs.specs.Tables.{pairs}
-use Rattle.endings.specs.Ending.{Ending, tableSize, byteOf}
-use Rattle.endings.specs.Answers.{adviceOf, answerOf, lookUpOf}
+use Rattle.endings.specs.Ending.{tableSize, byteOf}
+use Rattle.endings.specs.Answers.{adviceOf, mappedAdvice, answerOf, chosen, lookUpOf}
+use Rattle.endings.specs.laws.EndingLaws.{Turned}
 use Rattle.endings.specs.laws.Checking.{keyed-ending}
-use Rattle.endings.specs.laws.Exchanged.{same-byte, same-required, same-suited}
+use Rattle.endings.specs.laws.Turning.{turned-normal, byte-turned, required-turned}
 use Rattle.successors.specs.declared.Verdict.{Verdict}
 use Rattle.successors.specs.Successors.{byteBy, suitedFrom, verdictOf}
 use Rattle.successors.specs.laws.ByteLaws.{lent-byte}
 use Rattle.successors.specs.laws.VerdictLaws.{told-wrong, told-right, lent-verdict}
+use Rattle.look_up.specs.laws.Asked.{own, via-is, board-is}
+
+-- a move, its two squares carried back
+pub back-on-the-board : (via : Map) (advice : BestMove) (m v : Move) (from to : ℕ) → advice ≡ BestMove.Play m
+    → from ≡ mapped (inverse (symmetryOf via)) (m .from) → to ≡ mapped (inverse (symmetryOf via)) (m .to)
+    → v ≡ moveOf from to (m .takes) → BestMove.Play v ≡ mappedAdvice (inverse (symmetryOf via)) advice
+back-on-the-board via advice m v from to e f g h =
+    ap BestMove.Play (h ∙ rw (f, g)) ∙ ap (mappedAdvice (inverse (symmetryOf via))) (sym e)
 
 module _ (t : List ℕ) (p : Position) where
   pub refused-standing : (n : ℕ) → n ≡ standingRefusal p → (n ≡ 0 → ⊥) → Answer.Refused n ≡ lookUpOf t p
@@ -42,49 +50,51 @@ module _ (t : List ℕ) (p : Position) where
     unfolding lookUpOf
     refused-length h = sym (rw (← e, eq-eqb n 0 z, ne-eqb (length t) tableSize h))
 
-    -- the position with the man White's, as the code hands it on
-    abbrev own : Position → Piece → Position
-    own q m = lone (m .kind) (q .side) (q .«white_king») (m .square) (q .«black_king»)
+    module _ (q : Position) (n′ : Normal) (o : q ≡ whiteOwned p) (r : n′ ≡ normalOf q) (m : Piece)
+        (f : m ≡ manIn (n′ .position .first)) (list : List ℕ) (byte : ℕ) (v : Verdict) (l : length t ≡ tableSize)
+        (k : list ≡ pairs) (b : byte ≡ byteBy list t (boardOf (own (n′ .position) m)))
+        (g : v ≡ verdictOf (byteBy list t) byte (boardOf (own (n′ .position) m))) where
+      abbrev c : Board
+      c = normalised (boardOf p)
 
-    owned : whiteOwned p ≡ lone (manKind p) (whiteOwned p .side) (whiteOwned p .«white_king») (manSquare p) (whiteOwned
-        p .«black_king»)
-    owned = let w = placed-facts p (standing-placed p (sym e ∙ z)) in owned-lone p (w .men) (placed-colour p w)
+      asked : boardOf (own (n′ .position) m) ≡ c
+      asked = board-is p (sym e ∙ z) q n′ o r m f
 
-    own-is : (q : Position) (m : Piece) → q ≡ whiteOwned p → m ≡ manIn (q .first)
-        → boardOf (own q m) ≡ changed (swapping false) (blackOwns p) (boardOf p)
-    own-is q m o f =
-        ap boardOf (ap (own q) f ∙ ap (λ (r : Position). own r (manIn (r .first))) o
-        ∙ ap (λ (s : Slot). own (whiteOwned p) (manIn s)) (ap (λ (r : Position). r .first) owned) ∙ sym owned)
-        ∙ owned-board p
+      turned : Turned (manKind p) (boardOf p) c
+      turned = turned-normal (manKind p) (boardOf p) (keyed-ending (manKind p) p refl (sym e ∙ z))
 
-    here : Ending (manKind p) (boardOf p)
-    here = keyed-ending (manKind p) p refl (sym e ∙ z)
-
-    module _ (q : Position) (m : Piece) (o : q ≡ whiteOwned p) (f : m ≡ manIn (q .first)) (list : List ℕ) (byte : ℕ)
-        (v : Verdict) (l : length t ≡ tableSize) (k : list ≡ pairs) (b : byte ≡ byteBy list t (boardOf (own q m)))
-        (g : v ≡ verdictOf (byteBy list t) byte (boardOf (own q m))) where
       at-number : byte ≡ byteOf t (boardOf p)
-      at-number = b ∙ ap₂ (λ (f : Board → ℕ) (c : Board). f c) (lent-byte list t k) (own-is q m o f)
-          ∙ same-byte (blackOwns p) (manKind p) t (boardOf p) here
+      at-number =
+          b ∙ ap (byteBy list t) asked ∙ ap (λ (h : Board → ℕ). h c) (lent-byte list t k)
+          ∙ byte-turned (manKind p) t (boardOf p) c turned
 
-      -- the verdict on the board as keyed
-      on-board : v ≡ verdictOf (byteOf t) byte (boardOf p)
-      unfolding verdictOf suitedFrom
-      on-board =
-          lent-verdict list t byte (boardOf (own q m)) v k g
-          ∙ ap (verdictOf (byteOf t) byte) (own-is q m o f)
-          ∙ ap₂ (λ (r : ℕ) (s : Option Move). cond (eqb byte r) (Verdict.Right (adviceOf s)) Verdict.Wrong)
-          (same-required (blackOwns p) (manKind p) t (boardOf p) here)
-          (same-suited (blackOwns p) (manKind p) t (boardOf p) here byte)
+      told : v ≡ verdictOf (byteOf t) byte c
+      told = lent-verdict list t byte c v k (g ∙ ap (verdictOf (byteBy list t) byte) asked)
+
+      required : requiredAt chess (byteOf t) c ≡ requiredAt chess (byteOf t) (boardOf p)
+      required = required-turned (manKind p) t (boardOf p) c turned
 
       pub refused-byte : v ≡ Verdict.Wrong → Answer.Refused 11 ≡ lookUpOf t p
       unfolding lookUpOf
       refused-byte w =
-          let q = told-wrong (byteOf t) (boardOf p) byte v on-board w in
-          sym (rw (← e, eq-eqb n 0 z, eq-eqb (length t) tableSize l, ← at-number, q))
+          sym (rw (
+            ← e,
+            eq-eqb n 0 z,
+            eq-eqb (length t) tableSize l,
+            ← at-number,
+            ← required,
+            told-wrong (byteOf t) c byte v told w,
+          ))
 
-      pub answered : (a : BestMove) → v ≡ Verdict.Right a → answerOf byte a ≡ lookUpOf t p
-      unfolding lookUpOf suitedFrom firstSuited
-      answered a w =
-          let r = told-right (byteOf t) (boardOf p) byte v a on-board w in
-          sym (rw (← e, eq-eqb n 0 z, eq-eqb (length t) tableSize l, ← at-number, r .0, ← r .1))
+      -- the advice carried back by the map
+      pub answered : (a d : BestMove) → v ≡ Verdict.Right a → d ≡ mappedAdvice (inverse (symmetryOf (n′ .via))) a
+          → answerOf byte d ≡ lookUpOf t p
+      unfolding lookUpOf chosen suitedFrom firstSuited
+      answered a d w u =
+          let j = told-right (byteOf t) c byte v a told w in
+          let x : d ≡ chosen (byteOf t) (boardOf p) =
+          u ∙ ap (λ (h : Symmetry). mappedAdvice (inverse h) a) (via-is p (sym e ∙ z) q n′ o r)
+          ∙ ap (mappedAdvice (inverse (normalBy (boardOf p)))) (j .1)
+          ∙ ap (λ (h : ℕ). mappedAdvice (inverse (normalBy (boardOf p))) (adviceOf (suitedFrom (byteOf t) h c)))
+          (at-number ∙ sym (byte-turned (manKind p) t (boardOf p) c turned)) in
+          sym (rw (← e, eq-eqb n 0 z, eq-eqb (length t) tableSize l, ← at-number, ← required, j .0, ← x))

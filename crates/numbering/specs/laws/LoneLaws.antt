@@ -116,7 +116,7 @@ module _ (kind side white square black : ℕ) where
   in-place : (s : ℕ) → mapped (swapping false) s ≡ s
   in-place s = stays-diagonal false s (λ t. absurd t)
 
-  is-arranged : arranged board ≡ board
+  pub is-arranged : arranged board ≡ board
   unfolding arranged crosses crossed firstBlack changedBy changed swapped
   is-arranged =
       board-eq refl (in-place white) (in-place black) (ap (λ (s : ℕ). pieceOf kind 0 s ∷ []) (in-place square))
@@ -148,6 +148,13 @@ module _ (kind side white square black : ℕ) where
   plain : changedBy (change (rulingOrder board) false (rulingMap board)) board ≡ changed (rulingMap board) false board
   unfolding changedBy rulingOrder falling crossed
   plain = refl
+
+  -- on the board the two maps are one
+  pub lone-map : square < 64 → rulingMap board ≡ normalMap board
+  unfolding rulingMap normalMap kingMap changed swapped
+  lone-map h =
+      ap (λ (p : Bool). kingMap white black p)
+      (one-prefers kind turned ∙ lower turned (mapped-on (turn white) square h) ∙ sym (one-above kind turned))
 
   -- the image by 01's map, so that the number is the one of 01
   pub lone-normal : normalised board ≡ changed (normalMap board) false board

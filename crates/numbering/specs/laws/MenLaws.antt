@@ -14,11 +14,11 @@ use Rattle.numbering.specs.Keys.{keyFrom, spread, unplaced}
 abbrev pub onBoard : Piece → Bool
 onBoard m = ltb (m .square) 64
 
-head-on : (a : Piece) (l : List Piece) → T (all onBoard (a ∷ l)) → a .square < 64
+pub head-on : (a : Piece) (l : List Piece) → T (all onBoard (a ∷ l)) → a .square < 64
 unfolding all
 head-on a l t = ltb→lt (a .square) 64 (and-left (onBoard a) (all onBoard l) t)
 
-tail-on : (a : Piece) (l : List Piece) → T (all onBoard (a ∷ l)) → T (all onBoard l)
+pub tail-on : (a : Piece) (l : List Piece) → T (all onBoard (a ∷ l)) → T (all onBoard l)
 unfolding all
 tail-on a l t = and-right (onBoard a) (all onBoard l) t
 

@@ -23,9 +23,9 @@ use Rattle.answers.specs.declared.Checked.{Checked}
 use Rattle.endings.specs.Ending.{tableSize, byteOf}
 use Rattle.endings.specs.laws.IndexLaws.{number-of-ending}
 use Rattle.endings.specs.Truth.{TrueAnswer}
-use Rattle.endings.specs.Answers.{checkOf, answerOf, lookUpOf}
+use Rattle.endings.specs.Answers.{checkOf, answerOf, chosen, lookUpOf}
 use Rattle.endings.specs.laws.Checking.{keyed-lone, accepts-true-only}
-use Rattle.endings.specs.laws.LookingUp.{adviceAt, look-up-answers, look-up-true}
+use Rattle.endings.specs.laws.LookingUp.{look-up-answers, look-up-true}
 use Rattle.pocket.specs.Pocket.{pocketSize, entryOf, entryAt, packOf, toldIn, entryTells, pocketLookUpOf}
 use Rattle.pocket.specs.TrueValue.{TrueValue}
 use Rattle.pocket.specs.laws.Unpacking.{packed-length, packed-entry}
@@ -75,8 +75,8 @@ module _ (kind : ℕ) (t : List ℕ) (ok : checkOf kind t ≡ Checked.Accepted) 
       ) in
       here
       ∙ ap entryTells (packed-entry t pocket long k (numberOf (boardOf p)) (keyed-number p e z))
-      ∙ value-same (getD t (numberOf (boardOf p)) 0) (adviceAt (boardOf p) t) (byte-some p e z)
-      ∙ ap (λ (b : ℕ). toldIn (answerOf b (adviceAt (boardOf p) t))) (sym (own-byte p z))
+      ∙ value-same (getD t (numberOf (boardOf p)) 0) (chosen (byteOf t) (boardOf p)) (byte-some p e z)
+      ∙ ap (λ (b : ℕ). toldIn (answerOf b (chosen (byteOf t) (boardOf p)))) (sym (own-byte p z))
       ∙ ap toldIn (sym (look-up-answers kind t ok p e z))
 
   agrees-refused : (p : Position) → eqb (standingRefusal p) 0 ≡ false

@@ -6,7 +6,7 @@ use Prim.Native.Nat.{ℕ, _/_, _%_}
 use native.Mathlib.Omega.{arith}
 use lib.Dec.{ltb}
 use borrow.Author.Tests.{le-ltb, eq-eqb, ne-eqb}
-use Rattle.symmetry.specs.Symmetry.{Symmetry, mapped, composed, filesReversed, ranksReversed}
+use Rattle.symmetry.specs.Symmetry.{Symmetry, mapped, inverse, composed, filesReversed, ranksReversed, exchange}
 use Rattle.symmetry.specs.laws.SymmetryLaws.{mapped-composed}
 use Rattle.rules.specs.declared.Piece.{Piece}
 use Rattle.rules.specs.Rules.{Board, pieceOf}
@@ -19,8 +19,10 @@ use Rattle.numbering.specs.laws.NormalLaws.{turn-then, stays-diagonal}
 use Rattle.position.specs.declared.Slot.{Slot}
 use Rattle.position.specs.declared.Slot.the-variants.{Absent, Present}
 use Rattle.position.specs.declared.Position.{Position}
+use Rattle.position.specs.declared.Map.{Map}
+use Rattle.position.specs.declared.Normal.{Normal}
 use Rattle.position.specs.Keyed.{slotMen, boardOf}
-use Rattle.position.specs.Maps.{mappedSlot, mappedPosition, normalPosition}
+use Rattle.position.specs.Maps.{mappedSlot, mappedPosition, normalPosition, symmetryOf, reversals, normalOf}
 
 -- a position from its fields
 position-eq : (side : ℕ) {w w′ k k′ : ℕ} {f f′ s s′ : Slot} → w ≡ w′ → k ≡ k′ → f ≡ f′ → s ≡ s′
@@ -76,7 +78,7 @@ unfolding composed xor
 half-turn p = maps-twice filesReversed ranksReversed p
 
 -- a map that does nothing
-still : (s : ℕ) → mapped (swapping false) s ≡ s
+pub still : (s : ℕ) → mapped (swapping false) s ≡ s
 still s = stays-diagonal false s (λ t. absurd t)
 
 slot-unmoved : (s : Slot) → mappedSlot (swapping false) s ≡ s
@@ -106,6 +108,67 @@ normal-by p q e h k =
     (record { files = turn (p .«white_king») .files; ranks = turn (p .«white_king») .ranks; swap = x }) p)
     (k ∙ ap (λ (x : Position). swaps (boardOf x)) h
     ∙ ap (λ (b : Board). swaps b) (map-board (turn (p .«white_king»)) p))
+
+-- whether it is
+swap-is : (p q : Position) (e : Bool) → q ≡ mappedPosition (turn (p .«white_king»)) p → e ≡ swaps (boardOf q)
+    → e ≡ normalMap (boardOf p) .swap
+unfolding normalMap boardOf
+swap-is p q e h k =
+    k ∙ ap (λ (x : Position). swaps (boardOf x)) h ∙ ap (λ (b : Board). swaps b) (map-board (turn (p .«white_king»)) p)
+
+-- the normal position, and the map by its three parts
+pub normal-made : (p q n : Position) (e x : Bool) → q ≡ mappedPosition (turn (p .«white_king»)) p
+    → e ≡ swaps (boardOf q) → e ≡ x → n ≡ mappedPosition (swapping x) q
+    → _≡_ {A = Normal}
+    (record {
+      position = n;
+      via = record { files = ltb 3 (p .«white_king» % 8); ranks = ltb 3 (p .«white_king» / 8); swap = e };
+    })
+    (normalOf p)
+unfolding normalOf normalMap turn boardOf
+normal-made p q n e x h k f g =
+    let there : n ≡ normalPosition p = g ∙ normal-by p q x h (sym f ∙ k) in
+    let swap = swap-is p q e h k in
+    λ i. record {
+      position = there i;
+      via = record { files = ltb 3 (p .«white_king» % 8); ranks = ltb 3 (p .«white_king» / 8); swap = swap i };
+    }
+
+pub normal-position : (n : Normal) (p : Position) → n ≡ normalOf p → n .position ≡ normalPosition p
+unfolding normalOf
+normal-position n p e = ap (λ (x : Normal). x .position) e
+
+pub normal-via : (n : Normal) (p : Position) → n ≡ normalOf p → symmetryOf (n .via) ≡ normalMap (boardOf p)
+unfolding normalOf
+normal-via n p e = ap (λ (x : Normal). symmetryOf (x .via)) e
+
+-- ---- a square carried back
+
+pub both-reversed : (s : ℕ) → mapped ranksReversed (mapped filesReversed s) ≡ mapped (reversals true true) s
+unfolding composed xor
+both-reversed s = mapped-composed filesReversed ranksReversed s
+
+pub as-told : (files ranks f r : Bool) (s : ℕ) → files ≡ f → ranks ≡ r
+    → mapped (reversals f r) s ≡ mapped (reversals files ranks) s
+as-told files ranks f r s a b = rw (a, b)
+
+pub back-exchanged : (m : Map) (s : ℕ) → m .swap ≡ true
+    → mapped (reversals (m .files) (m .ranks)) (mapped exchange s) ≡ mapped (inverse (symmetryOf m)) s
+unfolding inverse
+back-exchanged m s e = mapped-composed exchange (reversals (m .files) (m .ranks)) s
+    ∙ ap (λ (k : Symmetry). mapped k s) (go (m .files) (m .ranks) (m .swap) e)
+  where
+    go : (f r x : Bool) → x ≡ true
+        → composed exchange (reversals f r) ≡ inverse (record { files = f; ranks = r; swap = x })
+    go true true x h = unfold composed xor in rw h
+    go true false x h = unfold composed xor in rw h
+    go false true x h = unfold composed xor in rw h
+    go false false x h = unfold composed xor in rw h
+
+pub back-plain : (m : Map) (s : ℕ) → m .swap ≡ false
+    → mapped (reversals (m .files) (m .ranks)) s ≡ mapped (inverse (symmetryOf m)) s
+unfolding inverse
+back-plain m s e = rw e
 
 -- ---- the first man off the diagonal, slot by slot
 

@@ -43,13 +43,17 @@ men-recoloured (Present a) (Present b) = ap₂ (λ (m n : Piece). m ∷ n ∷ []
 
 -- ---- the same exchange as the rules'
 
+pub recoloured-board : (p : Position) → boardOf (recoloured p) ≡ changed (swapping false) true (boardOf p)
+unfolding boardOf recoloured changed swapped
+recoloured-board p =
+    board-eq refl (stays (p .«black_king»)) (stays (p .«white_king»)) (men-recoloured (p .first) (p .second))
+
 pub owned-board : (p : Position) → boardOf (whiteOwned p) ≡ changed (swapping false) (blackOwns p) (boardOf p)
 unfolding whiteOwned
 owned-board p = go (blackOwns p)
   where
     go : (x : Bool) → boardOf (cond x (recoloured p) p) ≡ changed (swapping false) x (boardOf p)
-    go true = unfold boardOf recoloured changed swapped in
-        board-eq refl (stays (p .«black_king»)) (stays (p .«white_king»)) (men-recoloured (p .first) (p .second))
+    go true = recoloured-board p
     go false = unfold boardOf changed swapped in
         board-eq refl (stays (p .«white_king»)) (stays (p .«black_king»))
         (men-kept (slotMen (p .first) ++ slotMen (p .second)))

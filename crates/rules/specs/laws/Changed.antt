@@ -7,10 +7,11 @@ use native.Mathlib.Omega.{arith}
 use lib.Dec.{eqb, ltb, eqb→eq, eqb-refl}
 use Rattle.finite.specs.Truth.{same-test}
 use Rattle.symmetry.specs.Symmetry.{Symmetry, mapped, inverse, composed}
-use Rattle.symmetry.specs.laws.SymmetryLaws.{mapped-inverse, inverse-inverse, mapped-composed}
+use Rattle.symmetry.specs.laws.SymmetryLaws.{mapped-inverse, inverse-mapped, inverse-inverse, mapped-composed}
 use Rattle.rules.specs.declared.Piece.{Piece}
+use Rattle.rules.specs.declared.Move.{Move}
 use Rattle.rules.specs.Rules.{Board}
-use Rattle.rules.specs.Changed.{changed, changedPiece, other, swapped}
+use Rattle.rules.specs.Changed.{changed, changedPiece, mappedMove, other, swapped}
 
 other-other : (s : ℕ) → other (other s) ≡ s
 unfolding other
@@ -112,3 +113,11 @@ changed-composed m n x y b =
     king true false a c = mapped-composed m n c
     king false true a c = mapped-composed m n c
     king false false a c = mapped-composed m n a
+
+-- ---- a move under a map
+
+pub move-back : (m : Symmetry) (v : Move) → mappedMove (inverse m) (mappedMove m v) ≡ v
+move-back m v = rw (mapped-inverse m (v .from), mapped-inverse m (v .to))
+
+pub move-forth : (m : Symmetry) (v : Move) → mappedMove m (mappedMove (inverse m) v) ≡ v
+move-forth m v = rw (inverse-mapped m (v .from), inverse-mapped m (v .to))

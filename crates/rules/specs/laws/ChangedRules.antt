@@ -14,7 +14,7 @@ use Rattle.symmetry.specs.laws.SymmetryLaws.{eqb-mapped, ltb-mapped}
 use Rattle.symmetry.specs.laws.ReachMapped.{reaches-mapped}
 use Rattle.symmetry.specs.laws.Opposite.{reaches-sym}
 use Rattle.rules.specs.declared.Piece.{Piece}
-use Rattle.rules.specs.Rules.{Board, pieceOf, pieces, empty, occupied, attacks, attacked, king, inCheck, known, apart, touching, legal, stands, goesTo, goes, carried, carriedPiece, left, moved, canMove}
+use Rattle.rules.specs.Rules.{Board, pieceOf, pieces, empty, occupied, attacks, attacked, king, inCheck, known, apart, touching, legal, stands, goesTo, goes, carried, carriedPiece, left, moved, canMove, taking}
 use Rattle.rules.specs.laws.Legal.{legal-facts, facts-legal}
 use Rattle.rules.specs.Changed.{other, swapped, changedPiece, changed}
 use Rattle.rules.specs.laws.Changed.{eqb-swapped, ltb-swapped, across, board-eq, changed-back}
@@ -51,8 +51,8 @@ any-pieces m true b f g h =
     ∙ any-map m true f g h (pieces b)
 any-pieces m false b f g h = any-map m false f g h (pieces b)
 
-all-pieces : (m : Symmetry) (x : Bool) (b : Board) (f g : Piece → Bool) → ((a : Piece) → f (changedPiece m x a) ≡ g a)
-    → all f (pieces (changed m x b)) ≡ all g (pieces b)
+pub all-pieces : (m : Symmetry) (x : Bool) (b : Board) (f g : Piece → Bool)
+    → ((a : Piece) → f (changedPiece m x a) ≡ g a) → all f (pieces (changed m x b)) ≡ all g (pieces b)
 unfolding all changed swapped other
 all-pieces m true b f g h =
     and-swap (f (pieceOf 5 0 (mapped m (b .black)))) (f (pieceOf 5 1 (mapped m (b .white))))
@@ -99,7 +99,7 @@ module _ (m : Symmetry) (x : Bool) (b : Board) where
 
   -- ---- legal boards
 
-  touching-changed : touching (changed m x b) ≡ touching b
+  pub touching-changed : touching (changed m x b) ≡ touching b
   unfolding touching changed
   touching-changed =
       reaches-mapped m (λ s. false) (λ s. false) (λ s. refl) 5 (cond x (b .black) (b .white))
@@ -199,6 +199,12 @@ module _ (m : Symmetry) (x : Bool) (b : Board) (from to : ℕ) where
       any-pieces m x b (λ a. eqb (a .colour) (swapped x c) && eqb (a .square) (mapped m s))
       (λ a. eqb (a .colour) c && eqb (a .square) s)
       (λ a. ap₂ _&&_ (eqb-swapped x (a .colour) c) (eqb-mapped m (a .square) s))
+
+  -- whether a move takes
+  pub taking-changed : b .side < 2 → taking (changed m x b) (mapped m to) ≡ taking b to
+  unfolding taking changed
+  taking-changed h =
+      ap (λ (c : ℕ). stands (changed m x b) c (mapped m to)) (across x (b .side) h) ∙ stands-changed (1 - b .side) to
 
   pub goes-changed : goes (changed m x b) (mapped m from) (mapped m to) ≡ goes b from to
   unfolding goes goesTo changed

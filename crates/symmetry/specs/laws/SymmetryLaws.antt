@@ -12,7 +12,7 @@ use Rattle.finite.specs.Members.{_∈_, all, all-out}
 use Rattle.finite.specs.Below.{allBelow, allBelow2, allBelow3, below, below3}
 use Rattle.board.specs.Square.{stays, shift}
 use Rattle.board.specs.laws.SquareLaws.{shift-off}
-use Rattle.symmetry.specs.Symmetry.{Symmetry, mapped, mappedX, mappedY, inverse, composed, symmetries}
+use Rattle.symmetry.specs.Symmetry.{Symmetry, mapped, mappedX, mappedY, inverse, composed, symmetries, exchange}
 
 -- ---- there are eight
 
@@ -144,3 +144,70 @@ shift-mapped m s dx dy hx hy =
     (below3 (shift-right m) 64 5 5 (symmetry-at (λ m. allBelow3 (shift-right m) 64 5 5) shifts-right m) s dx dy h hx
     hy))
     (le-or-lt 64 s)
+
+-- ---- a map and what undoes it, in turn
+
+xor-none : (a : Bool) → xor a false ≡ a
+unfolding xor
+xor-none true = refl
+xor-none false = refl
+
+xor-twice : (a b : Bool) → xor a (xor a b) ≡ b
+unfolding xor
+xor-twice true true = refl
+xor-twice true false = refl
+xor-twice false true = refl
+xor-twice false false = refl
+
+pub then-inverse : (m n : Symmetry) → composed m (composed (inverse m) n) ≡ n
+unfolding composed inverse
+then-inverse m n = go (m .files) (m .ranks) (m .swap) (n .files) (n .ranks) (n .swap)
+  where
+    go : (a b c d e f : Bool)
+        → composed (record { files = a; ranks = b; swap = c })
+        (composed (inverse (record { files = a; ranks = b; swap = c })) (record { files = d; ranks = e; swap = f }))
+        ≡ record { files = d; ranks = e; swap = f }
+    go a b true d e f = λ i. record { files = xor-twice a d i; ranks = xor-twice b e i; swap = xor-twice true f i }
+    go a b false d e f = λ i. record { files = xor-twice a d i; ranks = xor-twice b e i; swap = xor-twice false f i }
+
+-- the map that does nothing
+pub then-nothing : (m : Symmetry) → composed m (record { files = false; ranks = false; swap = false }) ≡ m
+unfolding composed
+then-nothing m = go (m .files) (m .ranks) (m .swap)
+  where
+    go : (a b c : Bool)
+        → composed (record { files = a; ranks = b; swap = c }) (record { files = false; ranks = false; swap = false })
+        ≡ record { files = a; ranks = b; swap = c }
+    go a b true = λ i. record { files = xor-none a i; ranks = xor-none b i; swap = xor-none true i }
+    go a b false = λ i. record { files = xor-none a i; ranks = xor-none b i; swap = xor-none false i }
+
+pub nothing-then : (m : Symmetry) → composed (record { files = false; ranks = false; swap = false }) m ≡ m
+unfolding composed
+nothing-then m =
+    λ i. record { files = xor-left (m .files) i; ranks = xor-left (m .ranks) i; swap = xor-left (m .swap) i }
+  where
+    xor-left : (a : Bool) → xor false a ≡ a
+    xor-left true = unfold xor in refl
+    xor-left false = unfold xor in refl
+
+-- where two maps in turn are a third, the second is undone by undoing the third and then the first
+pub undone-by : (m k n : Symmetry) → composed m k ≡ n → (s : ℕ) → mapped (inverse k) s ≡ mapped m (mapped (inverse n) s)
+undone-by m k n e s =
+    let x = mapped m (mapped (inverse n) s) in
+    let there : mapped k x ≡ s = mapped-composed m k (mapped (inverse n) s)
+    ∙ ap (λ (j : Symmetry). mapped j (mapped (inverse n) s)) e ∙ inverse-mapped n s in
+    sym (sym (mapped-inverse k x) ∙ ap (mapped (inverse k)) there)
+
+-- an exchange between a map and its inverse
+pub undone-mirror : (n : Symmetry) (s : ℕ)
+    → mapped (inverse (composed n exchange)) s
+    ≡ mapped (composed (composed n exchange) (inverse n)) (mapped (inverse n) s)
+unfolding inverse
+undone-mirror n s =
+    let p = composed n exchange in
+    let u = mapped (inverse n) s in
+    let x = mapped (inverse n) (mapped p u) in
+    let there : mapped p x ≡ s = sym (mapped-composed n exchange x)
+    ∙ ap (mapped exchange) (inverse-mapped n (mapped p u) ∙ sym (mapped-composed n exchange u))
+    ∙ mapped-inverse exchange (mapped n u) ∙ inverse-mapped n s in
+    ap (mapped (inverse p)) (sym there) ∙ mapped-inverse p x ∙ mapped-composed p (inverse n) u

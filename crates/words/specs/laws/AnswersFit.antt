@@ -16,11 +16,13 @@ use Rattle.finite.specs.Lowest.{lowest}
 use Rattle.theory.specs.Required.{requiredAt}
 use Rattle.theory.specs.Play.{suits, firstSuited}
 use Rattle.table_theory.specs.Tables.{wrongAt}
+use Rattle.symmetry.specs.Symmetry.{Symmetry, inverse}
+use Rattle.symmetry.specs.laws.SymmetryLaws.{mapped-on}
 use Rattle.rules.specs.declared.Move.{Move}
 use Rattle.rules.specs.Rules.{Board, empty, moves}
 use Rattle.rules.specs.laws.CanMove.{can-on}
 use Rattle.rules.specs.Chess.{chess, played, of-moves}
-use Rattle.numbering.specs.Number.{numberOf}
+use Rattle.numbering.specs.Number.{normalBy, normalised, numberOf}
 use Rattle.position.specs.declared.Position.{Position}
 use Rattle.position.specs.Keyed.{boardOf, manSquare}
 use Rattle.position.specs.Refusals.{placingRefusal, standingRefusal}
@@ -38,7 +40,7 @@ use Rattle.answers.specs.declared.Answer.{Answer}
 use Rattle.answers.specs.declared.Checked.{Checked}
 use Rattle.answers.specs.declared.Filled.{Filled}
 use Rattle.endings.specs.Ending.{tableSize, byteOf, ending}
-use Rattle.endings.specs.Answers.{Fill, fillOf, checkOf, adviceOf, answerOf, lookUpOf}
+use Rattle.endings.specs.Answers.{Fill, fillOf, checkOf, adviceOf, mappedAdvice, answerOf, chosen, lookUpOf}
 use Rattle.endings.specs.FilledTrue.{FillTrue}
 use Rattle.endings.specs.laws.FilledTrue.{filled-true}
 use Rattle.words.specs.Words.{numberWord, placedWord, countWord, filledWord, checkedWord, answerWord}
@@ -160,7 +162,7 @@ module _ (kind : ℕ) (t : List ℕ) where
 
 -- ---- look-up
 
--- the squares of a move that is given are on the board
+-- the squares of a suited move are on the board
 suited-on : (t : List ℕ) (b : Board) (m : Move) → firstSuited chess (byteOf t) b ≡ some m
     → (m .from < 64) × (m .to < 64)
 unfolding firstSuited
@@ -168,9 +170,17 @@ suited-on t b m e =
     can-on b (m .from) (m .to)
     (of-moves b m (first-out (λ v. suits (byteOf t b) (byteOf t (played b v))) (moves b) m e .0) .1 .can)
 
-advice-fits : (o : Option Move) → ((m : Move) → o ≡ some m → (m .from < 64) × (m .to < 64)) → AdviceFits (adviceOf o)
-advice-fits none h = tt
-advice-fits (some m) h = let r = h m refl in (omega (arith, r .0), omega (arith, r .1))
+-- and stay there under a map
+advice-fits : (k : Symmetry) (o : Option Move) → ((m : Move) → o ≡ some m → (m .from < 64) × (m .to < 64))
+    → AdviceFits (mappedAdvice k (adviceOf o))
+advice-fits k none h = tt
+advice-fits k (some m) h =
+    let r = h m refl in (omega (arith, mapped-on k (m .from) (r .0)), omega (arith, mapped-on k (m .to) (r .1)))
+
+chosen-fits : (t : List ℕ) (b : Board) → AdviceFits (chosen (byteOf t) b)
+unfolding chosen
+chosen-fits t b =
+    advice-fits (inverse (normalBy b)) (firstSuited chess (byteOf t) (normalised b)) (suited-on t (normalised b))
 
 byte-fits : (t : List ℕ) (b : Board) → TableBytes t → Byte (byteOf t b)
 unfolding byteOf
@@ -194,9 +204,9 @@ unfolding lookUpOf
 look-up-fits t p h =
     go (eqb (standingRefusal p) 0) refl (eqb (length t) tableSize)
     (eqb (byteOf t (boardOf p)) (requiredAt chess (byteOf t) (boardOf p)))
-    (answerOf (byteOf t (boardOf p)) (adviceOf (firstSuited chess (byteOf t) (boardOf p))))
-    (value-fits (byteOf t (boardOf p)) (adviceOf (firstSuited chess (byteOf t) (boardOf p)))
-    (byte-fits t (boardOf p) h) (advice-fits (firstSuited chess (byteOf t) (boardOf p)) (suited-on t (boardOf p))))
+    (answerOf (byteOf t (boardOf p)) (chosen (byteOf t) (boardOf p)))
+    (value-fits (byteOf t (boardOf p)) (chosen (byteOf t) (boardOf p)) (byte-fits t (boardOf p) h)
+    (chosen-fits t (boardOf p)))
   where
     go : (a : Bool) → eqb (standingRefusal p) 0 ≡ a → (b c : Bool) (x : Answer) → AnswerFits x
         → AnswerFits

@@ -2,6 +2,7 @@
 use mathlib.Core.Path.{ap, _∙_}
 use borrow.Author.Needs.{needs}
 use Rattle.position.specs.Maps.{normalPosition}
+use Rattle.position.specs.laws.MapLaws.{normal-position}
 use Rattle.index.specs.laws.AnswerLaws.{position-key}
 use Rattle.pocket.proofs.rows.number_by_rows.Statement.{statement}
 use Rattle.pocket.proofs.rows.number_by_rows.Tie as tie
@@ -21,7 +22,8 @@ key-of-requires c κs = search needs
 returns : tie.Need-returns
 returns c =
     position-key _ _ _ _
-    (c .before .before .normalised .ensures ∙ ap normalPosition (c .before .before .before .white-owned .ensures))
+    (normal-position _ _ (c .before .before .before .normalised .ensures)
+    ∙ ap normalPosition (c .before .before .before .before .white-owned .ensures))
     (c .before .pair-of .ensures) (c .key-of .ensures)
 
 pub number-by-rows-spec : {M : Type 1} → statement M

@@ -1,0 +1,113 @@
+-- A position under a map, the colours exchanged or not, stands for the board so changed and meets the same refusal from 1 to 6.
+use mathlib.Core.Path.{_≡_, refl, sym, ap, ap₂, _∙_}
+use mathlib.Core.Bool.{Bool, true, false, cond, not, xor, _||_}
+use Prim.Native.Nat.{_-_, _<_}
+use native.Mathlib.Omega.{arith}
+use lib.Dec.{ltb, eqb}
+use borrow.Author.Tests.{eqb-true}
+use Rattle.finite.specs.Members.{all}
+use Rattle.symmetry.specs.Symmetry.{Symmetry}
+use Rattle.symmetry.specs.laws.SymmetryLaws.{ltb-mapped, nothing-then}
+use Rattle.rules.specs.Rules.{Board, pieces, apart, touching, inCheck}
+use Rattle.rules.specs.Changed.{changed}
+use Rattle.rules.specs.laws.Changed.{ltb-swapped, across, changed-composed}
+use Rattle.rules.specs.laws.ChangedRules.{all-map, all-pieces, apart-changed, touching-changed, check-changed}
+use Rattle.numbering.specs.KingMaps.{swapping}
+use Rattle.position.specs.declared.Slot.{Slot}
+use Rattle.position.specs.declared.Slot.the-variants.{Absent, Present}
+use Rattle.position.specs.declared.Position.{Position}
+use Rattle.position.specs.Keyed.{boardOf}
+use Rattle.position.specs.Refusals.{badMen, badMan, badSide, badSquare, sharedSquare, kingsTouch, otherInCheck, placingRefusal, standingRefusal}
+use Rattle.position.specs.Maps.{mappedSlot, mappedPosition, changedPosition}
+use Rattle.position.specs.Owned.{recolouredSlot, recoloured}
+use Rattle.position.specs.laws.SlotLaws.{leb-not}
+use Rattle.position.specs.laws.MapLaws.{map-board}
+use Rattle.position.specs.laws.OwnerLaws.{recoloured-board}
+use Rattle.position.specs.laws.PlacedLaws.{placed-facts}
+
+pub change-board : (m : Symmetry) (x : Bool) (p : Position) → boardOf (changedPosition m x p) ≡ changed m x (boardOf p)
+unfolding xor
+change-board m true p =
+    map-board m (recoloured p) ∙ ap (changed m false) (recoloured-board p)
+    ∙ changed-composed (swapping false) m true false (boardOf p)
+    ∙ ap (λ (k : Symmetry). changed k true (boardOf p)) (nothing-then m)
+change-board m false p = map-board m p
+
+men-mapped : (m : Symmetry) (f s : Slot) → badMen (mappedSlot m f) (mappedSlot m s) ≡ badMen f s
+men-mapped m Absent s = refl
+men-mapped m (Present a) Absent = refl
+men-mapped m (Present a) (Present b) = refl
+
+men-recoloured : (f s : Slot) → badMen (recolouredSlot f) (recolouredSlot s) ≡ badMen f s
+men-recoloured Absent s = refl
+men-recoloured (Present a) Absent = refl
+men-recoloured (Present a) (Present b) = refl
+
+man-changed : (m : Symmetry) (x : Bool) (p : Position) → badMan (changedPosition m x p) ≡ badMan p
+unfolding mappedPosition recoloured
+man-changed m true p =
+    men-mapped m (recolouredSlot (p .first)) (recolouredSlot (p .second)) ∙ men-recoloured (p .first) (p .second)
+man-changed m false p = men-mapped m (p .first) (p .second)
+
+-- the side to move and the men's colours
+bad-side-by : (p : Position)
+    → badSide p ≡ (not (ltb (boardOf p .side) 2) || not (all (λ a. ltb (a .colour) 2) (boardOf p .men)))
+unfolding badSide boardOf
+bad-side-by p = ap (λ (x : Bool). x || not (all (λ a. ltb (a .colour) 2) (boardOf p .men))) (leb-not 2 (p .side))
+
+check-by : (p : Position) → otherInCheck p ≡ inCheck (boardOf p) (1 - boardOf p .side)
+unfolding boardOf
+check-by p = refl
+
+module _ (m : Symmetry) (x : Bool) (p : Position) where
+  abbrev q : Position
+  q = changedPosition m x p
+
+  board : boardOf q ≡ changed m x (boardOf p)
+  board = change-board m x p
+
+  side-changed : badSide q ≡ badSide p
+  unfolding changed
+  side-changed =
+      bad-side-by q
+      ∙ ap (λ (b : Board). not (ltb (b .side) 2) || not (all (λ a. ltb (a .colour) 2) (b .men))) board
+      ∙ ap₂ (λ (s c : Bool). not s || not c) (ltb-swapped x (boardOf p .side))
+      (all-map m x (λ a. ltb (a .colour) 2) (λ a. ltb (a .colour) 2) (λ a. ltb-swapped x (a .colour)) (boardOf p .men))
+      ∙ sym (bad-side-by p)
+
+  square-changed : badSquare q ≡ badSquare p
+  unfolding badSquare
+  square-changed =
+      ap (λ (b : Board). not (all (λ a. ltb (a .square) 64) (pieces b))) board
+      ∙ ap not (all-pieces m x (boardOf p) (λ a. ltb (a .square) 64) (λ a. ltb (a .square) 64)
+      (λ a. ltb-mapped m (a .square)))
+
+  shared-changed : sharedSquare q ≡ sharedSquare p
+  unfolding sharedSquare
+  shared-changed = ap (λ (b : Board). not (apart (pieces b))) board ∙ ap not (apart-changed m x (boardOf p))
+
+  touch-changed : kingsTouch q ≡ kingsTouch p
+  touch-changed = ap touching board ∙ touching-changed m x (boardOf p)
+
+  other-changed : boardOf p .side < 2 → otherInCheck q ≡ otherInCheck p
+  unfolding changed
+  other-changed h =
+      check-by q
+      ∙ ap (λ (b : Board). inCheck b (1 - b .side)) board
+      ∙ ap (inCheck (changed m x (boardOf p))) (across x (boardOf p .side) h)
+      ∙ check-changed m x (boardOf p) (1 - boardOf p .side) (omega arith) ∙ sym (check-by p)
+
+  placing-changed : placingRefusal q ≡ placingRefusal p
+  unfolding placingRefusal
+  placing-changed = rw (man-changed m x p, side-changed, square-changed, shared-changed, touch-changed)
+
+  pub standing-changed : standingRefusal q ≡ standingRefusal p
+  unfolding standingRefusal
+  standing-changed = rw placing-changed (go (eqb (placingRefusal p) 0) refl)
+    where
+      go : (a : Bool) → eqb (placingRefusal p) 0 ≡ a
+          → cond a (cond (otherInCheck q) 6 0) (placingRefusal p)
+          ≡ cond a (cond (otherInCheck p) 6 0) (placingRefusal p)
+      go true e = ap (λ (c : Bool). cond c 6 0)
+          (other-changed (unfold boardOf in placed-facts p (eqb-true (placingRefusal p) 0 e) .side))
+      go false e = refl
