@@ -21,7 +21,7 @@ enum { BYTES = 59136, PLACEMENTS = 64 * 64 * 64, EVERY = 7 };
 #define DECLARE(build)                                                                          \
     uint32_t build##_fill(uint8_t, uint8_t *, size_t);                                          \
     uint64_t build##_look_up(const uint8_t *, size_t, uint8_t, uint8_t, uint8_t, uint32_t,      \
-                             uint32_t);                                                         \
+                             uint32_t, uint32_t);                                               \
     uint32_t build##_count(uint8_t, uint8_t, uint8_t, uint32_t, uint32_t);
 
 DECLARE(before)
@@ -29,7 +29,8 @@ DECLARE(after)
 
 struct build {
     uint32_t (*fill)(uint8_t, uint8_t *, size_t);
-    uint64_t (*look_up)(const uint8_t *, size_t, uint8_t, uint8_t, uint8_t, uint32_t, uint32_t);
+    uint64_t (*look_up)(const uint8_t *, size_t, uint8_t, uint8_t, uint8_t, uint32_t, uint32_t,
+                        uint32_t);
     uint32_t (*count)(uint8_t, uint8_t, uint8_t, uint32_t, uint32_t);
 };
 
@@ -56,7 +57,7 @@ static uint64_t work(const struct build *build, char what, uint8_t man)
         uint32_t first = SLEDGEWREN_A_MAN(man, SLEDGEWREN_WHITE, square);
         sum *= 31;
         if (what == 'l')
-            sum += build->look_up(table, BYTES, side, white, black, first, SLEDGEWREN_ABSENT);
+            sum += build->look_up(table, BYTES, side, white, black, first, SLEDGEWREN_ABSENT, 0);
         else
             sum += build->count(side, white, black, first, SLEDGEWREN_ABSENT);
     }

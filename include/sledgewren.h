@@ -71,6 +71,9 @@ extern "C" {
 /* The most plies that a second opinion may be asked for. */
 #define SLEDGEWREN_MOST_PLIES 6
 
+/* The most plies since the last capture that a look-up may be given. */
+#define SLEDGEWREN_MOST_QUIET 99
+
 /* The progress at the beginning of filling in steps. */
 #define SLEDGEWREN_START 0u
 
@@ -83,6 +86,9 @@ extern "C" {
 
 /* The eight bits of an answer from the given one on: SLEDGEWREN_BITS(answer, 16) is 16 to 23. */
 #define SLEDGEWREN_BITS(answer, first) ((uint8_t)((uint64_t)(answer) >> (first)))
+
+/* Whether sledgewren_look_up's answer is marked "within fifty". */
+#define SLEDGEWREN_WITHIN_FIFTY(answer) ((int)((uint64_t)(answer) >> 25 & 1))
 
 /* The tally of an entry (0 to 3) in sledgewren_tallies' answer. */
 #define SLEDGEWREN_TALLY(answer, entry) ((uint16_t)((uint64_t)(answer) >> (16 * (entry))))
@@ -155,7 +161,8 @@ enum sledgewren_refusal {
     SLEDGEWREN_BAD_CHECK = 13,       /* check digits of a typed number wrong */
     SLEDGEWREN_WRONG_SET = 14,       /* not a right set, or not as long as the endings need */
     SLEDGEWREN_NOT_IN_SET = 15,      /* the ending is not in the set */
-    SLEDGEWREN_TOO_MANY_PLIES = 16   /* more than 6 plies asked for */
+    SLEDGEWREN_TOO_MANY_PLIES = 16,  /* more than 6 plies asked for */
+    SLEDGEWREN_TOO_MANY_QUIET = 19   /* more than 99 plies since the last capture */
 };
 
 /*
@@ -245,13 +252,19 @@ uint64_t sledgewren_check(uint8_t man, const uint8_t *table, size_t len);
 
 /*
  * A position's value, its depth in plies and a move, from the table of its ending. There is no
- * move at checkmate and stalemate, and the depth of a draw is 0. Refusals 1 to 7 and 11.
- *   bits 0-7 refusal, 8-15 value, 16-23 depth, bit 24 a move is given, 32-39 from, 40-47 to,
- *   bit 48 it takes a man
+ * move at checkmate and stalemate, and the depth of a draw is 0. Refusals 1 to 7 and 11, and after
+ * them 19 where `plies` is above SLEDGEWREN_MOST_QUIET.
+ *   bits 0-7 refusal, 8-15 value, 16-23 depth, bit 24 a move is given, bit 25 within fifty,
+ *   32-39 from, 40-47 to, bit 48 it takes a man
  * Bits 32-63 are the move's four bytes in sledgewren_moves' list, the lowest first.
+ *
+ * `plies` are those since the last capture. A win or a loss is marked within fifty where they and
+ * the depth make at most 100: the winner who plays the moves of an accepted table, and claims
+ * nothing, then mates before the loser may claim a draw by the fifty-move rule (FIDE 9.3). A draw
+ * is never marked. Nothing else hangs on `plies`: a caller who does not count them gives 0.
  */
 uint64_t sledgewren_look_up(const uint8_t *table, size_t len, uint8_t side, uint8_t white,
-                            uint8_t black, uint32_t first, uint32_t second);
+                            uint8_t black, uint32_t first, uint32_t second, uint32_t plies);
 
 /*
  * A second opinion without a table: a search straight from the rules, which takes up to a few

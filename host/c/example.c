@@ -25,7 +25,7 @@ static void look_up(uint8_t owner, uint8_t side, uint8_t queen)
     uint8_t white = owner == SLEDGEWREN_WHITE ? 17 : 0;
     uint64_t answer = sledgewren_look_up(table, sizeof table, side, white, 17 - white,
                                          SLEDGEWREN_A_MAN(SLEDGEWREN_QUEEN, owner, queen),
-                                         SLEDGEWREN_ABSENT);
+                                         SLEDGEWREN_ABSENT, 0);
 
     printf("%s to move, %s Kb3 Q", side == SLEDGEWREN_WHITE ? "White" : "Black",
            owner == SLEDGEWREN_WHITE ? "White's" : "Black's");
@@ -43,6 +43,9 @@ static void look_up(uint8_t owner, uint8_t side, uint8_t queen)
             putchar('x');
         }
         print_square(SLEDGEWREN_BITS(answer, 40));
+    }
+    if (SLEDGEWREN_WITHIN_FIFTY(answer)) {
+        printf(", within fifty");
     }
     printf("\n");
 }

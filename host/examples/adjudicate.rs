@@ -1,7 +1,7 @@
 //! Adjudicates a position, by its table and by a search without one, and plays it out with the
-//! table's moves on both sides.
+//! table's moves on both sides. A number after the position is the plies since the last capture.
 //!
-//!     cargo run --example adjudicate -- R w e3 h1 e5
+//!     cargo run --example adjudicate -- R w e3 h1 e5 77
 
 use std::env;
 use std::error::Error;
@@ -75,7 +75,9 @@ fn line(table: &Accepted, mut position: Position, plies: usize) -> Result<String
 
 fn adjudicate() -> Result<(), Box<dyn Error>> {
     let words: Vec<String> = env::args().skip(1).collect();
-    let words = if words.is_empty() { DEFAULT.map(String::from).to_vec() } else { words };
+    let mut words = if words.is_empty() { DEFAULT.map(String::from).to_vec() } else { words };
+    let plies = if words.len() > DEFAULT.len() { words.pop() } else { None };
+    let plies = plies.map_or(Ok(0), |plies| plies.parse::<u32>())?;
     let position = read(&words)?;
     let (typed, count) = (position.typed()?, position.count()?);
     println!("{position} is number {}, typed {typed}, {count} moves", typed.number());
@@ -85,8 +87,9 @@ fn adjudicate() -> Result<(), Box<dyn Error>> {
         None => println!("{}: no position is decided", position.man),
     }
     let table = table.accept(position.man).map_err(|(_, number)| format!("wrong at {number}"))?;
-    let answer = table.table().look_up(position)?;
-    println!("{position}: {answer}; without a table: {}", searched(position)?);
+    let marked = table.table().look_up_at(position, plies)?;
+    println!("{position}: {}; without a table: {}", marked.answer, searched(position)?);
+    println!("{plies} plies since the last capture: {marked}");
     println!("play: {}", line(&table, position, 40)?);
     Ok(())
 }

@@ -86,6 +86,30 @@ impl fmt::Display for Answer {
     }
 }
 
+/// Look-up's answer at a count of plies since the last capture, and whether a fifty-move claim
+/// can spoil it.
+#[derive(Clone, Copy, PartialEq, Eq, Hash, Debug)]
+pub struct Marked {
+    /// The answer; it does not hang on the count.
+    pub answer: Answer,
+    /// A win or a loss whose depth and count make at most 100: the winner who plays the moves
+    /// given mates before the loser may claim a draw (FIDE 9.3). Never set on a draw.
+    pub within_fifty: bool,
+}
+
+/// `mate in 23 plies, within the fifty-move rule at this count`.
+impl fmt::Display for Marked {
+    fn fmt(&self, out: &mut fmt::Formatter) -> fmt::Result {
+        let not = if self.within_fifty { "" } else { "not " };
+        match self.answer.value() {
+            Value::Win(depth) => write!(out, "mate in {depth} plies, {not}")?,
+            Value::Loss(depth) => write!(out, "mated in {depth} plies, {not}")?,
+            Value::Draw => return write!(out, "draw"),
+        }
+        write!(out, "within the fifty-move rule at this count")
+    }
+}
+
 /// What checking says of a table.
 #[derive(Clone, Copy, PartialEq, Eq, Hash, Debug)]
 pub enum Checked {

@@ -9,8 +9,10 @@ mod sets;
 pub use sets::{set_fill, set_find, set_start, set_write};
 
 use crate::ffi;
-use crate::{Answer, Checked, Keyed, Man, Move, Moves, Opinion, Position, Progress, Refusal, Side};
-use crate::{Outcome, Slip, Square, Stage, Step, Tallies, Typed, MOVES_BYTES, SLIP_BYTES};
+use crate::{Answer, Checked, Keyed, Man, Marked, Move, Moves, Opinion, Position, Progress};
+use crate::{
+    Outcome, Refusal, Side, Slip, Square, Stage, Step, Tallies, Typed, MOVES_BYTES, SLIP_BYTES,
+};
 
 /// The linked library is not the one this crate is written for.
 #[cold]
@@ -152,25 +154,34 @@ pub fn check(man: impl Into<u8>, table: &[u8]) -> Result<Checked, Refusal> {
     }
 }
 
-/// A position's value, depth and move from a table. Refusals 1 to 7 and 11.
+/// A position's value, depth and move from a table, which do not hang on the count. Refusals 1 to
+/// 7 and 11.
 pub fn look_up(table: &[u8], keyed: impl Into<Keyed>) -> Result<Answer, Refusal> {
+    look_up_at(table, keyed, 0).map(|marked| marked.answer)
+}
+
+/// The same with the plies since the last capture, 0 to 99, and whether a win or a loss comes
+/// before a fifty-move claim at that count. Refusals 1 to 7, 11, and 19 for more than 99 plies.
+pub fn look_up_at(table: &[u8], keyed: impl Into<Keyed>, plies: u32) -> Result<Marked, Refusal> {
     let keyed = keyed.into();
     let (Keyed { side, white_king, black_king, .. }, [first, second]) = (keyed, keyed.words());
     let (start, len) = (table.as_ptr(), table.len());
     // SAFETY: the slice's pointer leads to as many bytes as its length says.
-    let answer =
-        unsafe { ffi::sledgewren_look_up(start, len, side, white_king, black_king, first, second) };
+    let answer = unsafe {
+        ffi::sledgewren_look_up(start, len, side, white_king, black_king, first, second, plies)
+    };
     unless_refused("look_up", answer)?;
     let chosen = || Move::from_bytes(((answer >> 32) as u32).to_le_bytes());
     let given = bits(answer, 24) & 1 == 1;
     let best = given.then(|| chosen().unwrap_or_else(|| broken("look_up", answer)));
     let depth = bits(answer, 16);
-    match bits(answer, 8) {
-        1 => Ok(Answer::Win { depth, best }),
-        2 => Ok(Answer::Loss { depth, best }),
-        3 => Ok(Answer::Draw { best }),
+    let found = match bits(answer, 8) {
+        1 => Answer::Win { depth, best },
+        2 => Answer::Loss { depth, best },
+        3 => Answer::Draw { best },
         _ => broken("look_up", answer),
-    }
+    };
+    Ok(Marked { answer: found, within_fifty: bits(answer, 24) & 2 == 2 })
 }
 
 /// The value and exact depth if that is at most so many plies, by a search without tables.

@@ -45,7 +45,8 @@ extern "C" {
     pub fn sledgewren_check(man: u8, table: *const u8, len: usize) -> u64;
 
     /// Bits 0-7 refusal, 8-15 value (1 win, 2 loss, 3 draw), 16-23 depth, bit 24 a move is given,
-    /// 32-39 from, 40-47 to, bit 48 it takes a man.
+    /// bit 25 within fifty at this count of plies since the last capture, 32-39 from, 40-47 to,
+    /// bit 48 it takes a man.
     pub fn sledgewren_look_up(
         table: *const u8,
         len: usize,
@@ -54,6 +55,7 @@ extern "C" {
         black: u8,
         first: u32,
         second: u32,
+        plies: u32,
     ) -> u64;
 
     /// Bits 0-7 refusal, 8-15 value (1 win, 2 loss, 4 not within so many plies), 16-23 depth.

@@ -38,6 +38,7 @@
 //! | `sledgewren_fill_step` | [`entry::fill_step`] | [`Filling::step`] |
 //! | `sledgewren_check` | [`entry::check`] | [`Table::check`], [`Table::accept`] |
 //! | `sledgewren_look_up` | [`entry::look_up`] | [`Table::look_up`], [`Accepted::look_up`] |
+//! | the same, with a count | [`entry::look_up_at`] | [`Table::look_up_at`] |
 //! | `sledgewren_second_opinion` | [`entry::second_opinion`] | [`second_opinion`] |
 //! | `sledgewren_answer_line` | [`entry::answer_line`] | [`Desk::answer`], [`Desk::run`] |
 //! | `sledgewren_pack` | [`entry::pack`] | [`Pocket::packed`], [`Pocket::of_table`] |
@@ -66,7 +67,7 @@ mod square;
 mod table;
 mod typed;
 
-pub use answer::{Answer, Checked, Value};
+pub use answer::{Answer, Checked, Marked, Value};
 pub use desk::{Desk, Slip, SLIP_BYTES};
 pub use filling::{Filling, Progress, Settled, Stage, Step};
 pub use man::{Man, Side};

@@ -39,11 +39,13 @@ pub enum Refusal {
     NotInSet = 15,
     /// 16: more than 6 plies asked for.
     TooManyPlies = 16,
+    /// 19: more than 99 plies since the last capture.
+    TooManyQuiet = 19,
 }
 
 impl Refusal {
     /// All of them, in order.
-    pub const ALL: [Refusal; 16] = [
+    pub const ALL: [Refusal; 17] = [
         Refusal::BadMan,
         Refusal::BadSide,
         Refusal::BadSquare,
@@ -60,6 +62,7 @@ impl Refusal {
         Refusal::WrongSet,
         Refusal::NotInSet,
         Refusal::TooManyPlies,
+        Refusal::TooManyQuiet,
     ];
 
     /// The refusal with this number, if there is one.
@@ -93,6 +96,7 @@ impl Refusal {
             Refusal::WrongSet => "not a right set, or not as long as the endings need",
             Refusal::NotInSet => "the ending is not in the set",
             Refusal::TooManyPlies => "more than 6 plies asked for",
+            Refusal::TooManyQuiet => "more than 99 plies since the last capture",
         }
     }
 }
@@ -113,7 +117,7 @@ mod tests {
     #[test]
     fn numbers_come_back() {
         for code in 0..=255 {
-            let expected = matches!(code, 1..=16).then_some(code);
+            let expected = matches!(code, 1..=16 | 19).then_some(code);
             assert_eq!(Refusal::from_code(code).map(Refusal::code), expected);
         }
     }

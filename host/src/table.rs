@@ -1,6 +1,6 @@
 //! Tables.
 
-use crate::{entry, Answer, Checked, Keyed, Man, Position, Refusal, Side, Square};
+use crate::{entry, Answer, Checked, Keyed, Man, Marked, Position, Refusal, Side, Square};
 
 /// Bytes of a table, one a number.
 pub const TABLE_BYTES: usize = 59_136;
@@ -55,6 +55,12 @@ impl Table {
     /// A position's value, depth and move. Refusals 1 to 6 and 11.
     pub fn look_up(&self, keyed: impl Into<Keyed>) -> Result<Answer, Refusal> {
         entry::look_up(&self.0[..], keyed)
+    }
+
+    /// The same with the plies since the last capture, and whether a win or a loss comes before a
+    /// fifty-move claim. Refusals 1 to 6, 11, and 19 for more than 99 plies.
+    pub fn look_up_at(&self, keyed: impl Into<Keyed>, plies: u32) -> Result<Marked, Refusal> {
+        entry::look_up_at(&self.0[..], keyed, plies)
     }
 
     /// The bytes.

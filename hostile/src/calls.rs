@@ -4,7 +4,8 @@ use second::number::{back, number as second_number};
 use second::position::{Keyed as SecondKeyed, KeyedMan as SecondMan, Refused};
 use second::rule::Value as SecondValue;
 use second::rules::{legal_position, moves as second_moves};
-use second::table::{check as second_check, look_up as second_look_up, Checked as SecondChecked};
+use second::table::{check as second_check, look_up as second_look_up};
+use second::table::{Answer as SecondAnswer, Checked as SecondChecked};
 use second::{desk as second_desk, fill_back};
 use sledgewren::{entry, ffi, Answer, Checked, Desk, Keyed, KeyedMan, Refusal};
 use sledgewren::{MOVES_BYTES, TABLE_BYTES};
@@ -57,9 +58,9 @@ pub(crate) fn ours<T>(answer: Result<T, Refusal>) -> Result<T, u8> {
 }
 
 /// Value, depth, and the move's squares and mark.
-type Found = (u8, u8, Option<(u8, u8, bool)>);
+pub(crate) type Found = (u8, u8, Option<(u8, u8, bool)>);
 
-fn our_answer(answer: Answer) -> Found {
+pub(crate) fn our_answer(answer: Answer) -> Found {
     let best = answer.best().map(|chosen| (chosen.from.code(), chosen.to.code(), chosen.takes));
     match answer {
         Answer::Win { depth, .. } => (1, depth, best),
@@ -68,14 +69,17 @@ fn our_answer(answer: Answer) -> Found {
     }
 }
 
-fn their_look_up(table: &[u8], keyed: Keyed) -> Result<Found, u8> {
-    let answer = refused(second_look_up(table, &second(keyed)))?;
+pub(crate) fn their_answer(answer: SecondAnswer) -> Found {
     let best = answer.best.map(|chosen| (chosen.from, chosen.to, chosen.takes));
-    Ok(match answer.value {
+    match answer.value {
         SecondValue::Win(depth) => (1, depth, best),
         SecondValue::Loss(depth) => (2, depth, best),
         SecondValue::Draw => (3, 0, best),
-    })
+    }
+}
+
+fn their_look_up(table: &[u8], keyed: Keyed) -> Result<Found, u8> {
+    refused(second_look_up(table, &second(keyed))).map(their_answer)
 }
 
 /// A list as the C function writes it: 62 places of four bytes, and the answer.

@@ -4,6 +4,7 @@
 pub mod calls;
 pub mod exchange;
 pub mod feed;
+pub mod fifty;
 pub mod lines;
 pub mod pocket;
 pub mod sequence;

@@ -1,12 +1,13 @@
 //! The C functions that take a position, given any words as men: whole answers, bit for bit.
 
+use second::fifty::{look_up_counted, Counted};
 use second::number::number;
 use second::pocket::{self, PocketAnswer};
 use second::position::{Keyed, KeyedMan, Refused};
 use second::rule::Value;
 use second::rules::{legal_position, moves, Move};
 use second::search::{search, Opinion};
-use second::table::{look_up, Answer};
+use second::table::Answer;
 use sledgewren::{ffi, MOVES_BYTES, POCKET_BYTES};
 
 use crate::calls::{filled, Tally};
@@ -17,6 +18,9 @@ const POSITIONS: usize = 1_000_000;
 
 /// Plies that take no time, and too many.
 const PLIES: [u8; 6] = [0, 1, 2, 7, 8, 255];
+
+/// Counts to look up at; the last two are refused.
+const COUNTS: [u32; 8] = [0, 68, 80, 90, 98, 99, 100, u32::MAX];
 
 /// A position as C gives it: the side, the kings' squares, and a word for each man.
 #[derive(Clone, Copy, Debug)]
@@ -84,6 +88,11 @@ fn answer_word(Answer { value, best }: Answer) -> u64 {
     value << 8 | (depth as u64) << 16 | given
 }
 
+/// Bit 25 is the mark.
+fn counted_word(Counted { answer, within_fifty }: Counted) -> u64 {
+    answer_word(answer) | (within_fifty as u64) << 25
+}
+
 fn pocket_word(answer: PocketAnswer) -> u64 {
     match answer {
         PocketAnswer::Win => 1 << 8,
@@ -139,14 +148,15 @@ fn compare_moves(given: Given, tally: &mut Tally) {
     tally.add("moves' bytes and word", &given, our_list(given), due);
 }
 
-/// The look-up in a table.
-fn compare_look_up(given: Given, table: &[u8], tally: &mut Tally) {
+/// The look-up in a table, at a count.
+fn compare_look_up(given: Given, table: &[u8], count: u32, tally: &mut Tally) {
     let Given { side, white, black, first, second } = given;
     let (start, len) = (table.as_ptr(), table.len());
     // SAFETY: the slice's pointer leads to as many bytes as its length says.
-    let found = unsafe { ffi::sledgewren_look_up(start, len, side, white, black, first, second) };
-    let due = word(look_up(table, &given.keyed()), answer_word);
-    tally.add("look-up's word", &given, found, due);
+    let found =
+        unsafe { ffi::sledgewren_look_up(start, len, side, white, black, first, second, count) };
+    let due = word(look_up_counted(table, &given.keyed(), count), counted_word);
+    tally.add("look-up's word", &(given, count), found, due);
 }
 
 /// The look-up in a pocket.
@@ -186,7 +196,8 @@ pub fn random_words(sequence: &mut Sequence, tally: &mut Tally) {
         let given = Given::random(sequence);
         let (kind, plies) = (given.first as usize % 4, PLIES[sequence.below(PLIES.len())]);
         compare_moves(given, tally);
-        compare_look_up(given, &tables[kind], tally);
+        let count = COUNTS[sequence.below(COUNTS.len())];
+        compare_look_up(given, &tables[kind], count, tally);
         compare_pocket(given, &packed[kind], tally);
         compare_opinion(given, plies, tally);
     }

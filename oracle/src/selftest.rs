@@ -8,8 +8,8 @@ use crate::fill_every;
 use crate::number::NUMBERS;
 use crate::position::{Keyed, Man, Side, MEN, SIDES};
 use crate::{
-    tests_board, tests_check_digits, tests_desk, tests_games, tests_number, tests_pocket,
-    tests_search, tests_set, tests_steps, tests_table, tests_turns,
+    tests_board, tests_check_digits, tests_desk, tests_fifty, tests_games, tests_number,
+    tests_pocket, tests_search, tests_set, tests_steps, tests_table, tests_turns,
 };
 
 /// The four tables by the plain fill, made once for all tests.
@@ -68,6 +68,7 @@ pub fn run(output: &mut impl Write) -> Done {
         tests_steps::TESTS,
         tests_turns::TESTS,
         tests_games::TESTS,
+        tests_fifty::TESTS,
         tests_pocket::TESTS,
         tests_check_digits::TESTS,
         tests_set::TESTS,

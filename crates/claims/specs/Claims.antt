@@ -32,6 +32,8 @@ use Rattle.endings.specs.laws.LookingUp as lookingUp
 use Rattle.endings.specs.laws.OneAnswer as answers
 use Rattle.endings.specs.GamePromise.{deskMove, GamePromise}
 use Rattle.endings.specs.laws.Games as playing
+use Rattle.fifty.specs.FiftyPromise.{PlaysCounted, FiftyPromise}
+use Rattle.fifty.specs.laws.FiftyGames as fifty
 use Rattle.adjudication.specs.TrueSlip.{TrueSlip, Held}
 use Rattle.adjudication.specs.laws.OneSlip as slips
 use Rattle.stream.specs.Stream.{wholeOf, linesOf, fresh, handedOut, AllTrue}
@@ -74,12 +76,18 @@ one-answer = answers.one-answer
 pub games : (kind : ℕ) (t : List ℕ) → checkOf kind t ≡ Checked.Accepted → (b : Board) → T (legal b) → Lone kind b → (side : Bool) (ms : List Move) → LegalGame chess b ms → Follows chess (deskMove t) side b ms → GamePromise t side b ms
 games = playing.games
 
+-- 8. The same at whatever count from 0 to 99 each look-up is given, with the fifty-move rule in it: from a marked position the winner who plays the desk's
+-- moves mates within the depth, and before that the loser may not claim (FIDE 9.3), whatever the replies and captures.
+pub fifty-games : (kind : ℕ) (t : List ℕ) → checkOf kind t ≡ Checked.Accepted → (b : Board) → T (legal b) → Lone kind b
+    → (side : Bool) (ms : List Move) → LegalGame chess b ms → PlaysCounted t side b ms → FiftyPromise t side b ms
+fifty-games = fifty.fifty-games
+
 -- ---- the desk
 
--- 8. In whatever parts the input comes, the desk hands out the true slips of its lines in order, if it begins with a table that is right or with none.
+-- 9. In whatever parts the input comes, the desk hands out the true slips of its lines in order, if it begins with a table that is right or with none.
 pub desk-true : (held : ℕ) (t : List ℕ) (parts : List (List ℕ)) → Held held t → AllTrue (linesOf (wholeOf parts)) (handedOut (fresh held t) parts)
 desk-true = streaming.run-true
 
--- 9. A line has one true slip.
+-- 10. A line has one true slip.
 pub one-slip : (line s u : List ℕ) → TrueSlip line s → TrueSlip line u → s ≡ u
 one-slip = slips.one-slip

@@ -12,7 +12,7 @@ use Rattle.move_list.specs.Answers.{movesOf, countAnswer}
 use Rattle.slips.specs.Slip.{padded}
 use Rattle.adjudication.specs.Reply.{LineOutcome, replyOf}
 use Rattle.words.specs.Words.{flagOf}
-pub use Rattle.words.specs.Words.{numberWord, placedWord, countWord, filledWord, checkedWord, answerWord}
+pub use Rattle.words.specs.Words.{numberWord, placedWord, countWord, filledWord, checkedWord, markedWord}
 
 -- ---- the move list, over a lent list of bytes
 

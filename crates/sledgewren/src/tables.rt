@@ -1,15 +1,16 @@
 // Filling a table, checking one, and looking a position up.
 use checking::check;
+use fifty::look_up_at;
 use filling::fill;
-use look_up::look_up;
-use words::answer_word;
 use words::checked_word;
 use words::filled_word;
+use words::marked_word;
 use words::position_read;
 ghost use mathlib.Core.Path.{_≡_};
-ghost use Rattle.endings.specs.Answers.{fillOf, checkOf, lookUpOf};
+ghost use Rattle.endings.specs.Answers.{fillOf, checkOf};
+ghost use Rattle.fifty.specs.Marks.{lookUpAt};
 ghost use Rattle.words.specs.Men.{positionRead};
-ghost use Rattle.sledgewren.specs.Words.{filledWord, checkedWord, answerWord};
+ghost use Rattle.sledgewren.specs.Words.{filledWord, checkedWord, markedWord};
 
 // Refusals 1 and 7 leave the table as it was, 10 all zero.
 #[no_mangle]
@@ -27,7 +28,7 @@ pub extern "C" fn sledgewren_check(kind: u8, table: &[u8]) -> u64
     checked_word(check(kind, table))
 }
 
-// Refusals 1 to 7 and 11.
+// Refusals 1 to 7, 11 and 19.
 #[no_mangle]
 pub extern "C" fn sledgewren_look_up(
     table: &[u8],
@@ -36,9 +37,10 @@ pub extern "C" fn sledgewren_look_up(
     black: u8,
     first: u32,
     second: u32,
+    plies: u32,
 ) -> u64
-    ensures { λ r. ⌜ r ≡ answerWord (lookUpOf (now (table .entry)) (positionRead side white black first second)) ⌝ }
+    ensures { λ r. ⌜ r ≡ markedWord (lookUpAt (now (table .entry)) plies (positionRead side white black first second)) ⌝ }
 {
     let p = position_read(side, white, black, first, second);
-    answer_word(look_up(table, p))
+    marked_word(look_up_at(table, p, plies))
 }

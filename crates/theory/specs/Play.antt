@@ -62,12 +62,14 @@ module _ (G : Game) where
     pub goes-on : Over p ⊎ ((m : G .Move) × (pick p ≡ some m) × (m ∈ G .moves p))
 
   -- The side wins within n plies: the game runs no further, with n plies it is over, and where it is over the other side is mated. After i
-  -- plies the depth is at most n - i.
+  -- plies the depth is at most n - i, and where the other side is to move the position is lost for it.
   pub record Mates (side : Bool) (p : G .Pos) (ms : List (G .Move)) (n : ℕ) : Type 0 where
     pub short : length ms ≤ n
     pub full-over : length ms ≡ n → Over (after p ms)
     pub over-mated : Over (after p ms) → IsMated (not side) (after p ms)
     pub falls : (i : ℕ) → i ≤ length ms → (d : ℕ) × (i + d ≤ n) × DepthIs G d (atPly p ms i)
+    pub loses : (i : ℕ) → i ≤ length ms → G .turn (atPly p ms i) ≡ not side
+        → (d : ℕ) × (d ≤ n - i) × LostIn G d (atPly p ms i)
 
   -- The side is not mated in fewer than n plies.
   abbrev pub Unmated : Bool → G .Pos → List (G .Move) → ℕ → Type 0

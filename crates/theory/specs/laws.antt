@@ -12,5 +12,7 @@ pub mod Verdict
 pub mod Choice
 pub mod OnePly
 pub mod Games
+pub mod Fifty
+pub mod Sharp
 pub mod MovesMade
 pub mod Judge

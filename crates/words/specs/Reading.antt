@@ -1,6 +1,6 @@
 -- What a host reads from the word of each answer, by the bit ranges of include/sledgewren.h, and which answers a word has room for. Definitions only.
 use mathlib.Core.Path.{_≡_}
-use mathlib.Core.Bool.{cond}
+use mathlib.Core.Bool.{Bool, cond}
 use mathlib.Core.List.{List}
 use Prim.Native.Nat.{ℕ, _/_, _%_, _^_, _≤_, _<_}
 use lib.Dec.{eqb}
@@ -10,6 +10,7 @@ use Rattle.answers.specs.declared.BestMove.{BestMove}
 use Rattle.answers.specs.declared.Answer.{Answer}
 use Rattle.answers.specs.declared.Checked.{Checked}
 use Rattle.answers.specs.declared.Filled.{Filled}
+use Rattle.fifty.specs.declared.Marked.{Marked}
 use Rattle.position.specs.declared.Position.{Position}
 use Rattle.position.specs.Keyed.{lone, manSquare}
 use Rattle.index.specs.declared.NumberAnswer.{NumberAnswer}
@@ -57,6 +58,13 @@ valueRead value depth advice = cond (eqb value 1) (Answer.Win depth advice) (con
 -- "bits 0-7 refusal, 8-15 value, 16-23 depth", and the move's
 abbrev pub answerRead : ℕ → Answer
 answerRead word = unlessRefused (valueRead (bits 8 8 word) (bits 16 8 word) (adviceRead word)) Answer.Refused word
+
+-- "bit 25 within fifty", and the answer's
+abbrev pub markRead : ℕ → Bool
+markRead word = eqb (bits 25 1 word) 1
+
+abbrev pub markedRead : ℕ → Marked
+markedRead word = record { answer = answerRead word; «within_fifty» = markRead word }
 
 -- ---- the answers that a word has room for: a byte is below 256, and a refusal's number is 1 or more
 
@@ -109,6 +117,9 @@ AnswerFits (Answer.Win n a) = Byte n × AdviceFits a
 AnswerFits (Answer.Loss n a) = Byte n × AdviceFits a
 AnswerFits (Answer.Draw a) = AdviceFits a
 AnswerFits (Answer.Refused k) = RefusalFits k
+
+abbrev pub MarkedFits : Marked → Type 0
+MarkedFits m = AnswerFits (m .answer)
 
 -- ---- what is promised of a word and its reader
 

@@ -6,6 +6,7 @@ use Rattle.answers.specs.declared.BestMove.the-variants.{Play, NoMove}
 use Rattle.answers.specs.declared.Answer.{Answer}
 use Rattle.answers.specs.declared.Checked.{Checked}
 use Rattle.answers.specs.declared.Filled.{Filled}
+use Rattle.fifty.specs.declared.Marked.{Marked}
 use Rattle.position.specs.Keyed.{manSquare}
 use Rattle.index.specs.declared.NumberAnswer.{NumberAnswer}
 use Rattle.index.specs.declared.Placed.{Placed}
@@ -54,3 +55,7 @@ answerWord (Answer.Win n a) = 1 * 2 ^ 8 + n * 2 ^ 16 + adviceWord a
 answerWord (Answer.Loss n a) = 2 * 2 ^ 8 + n * 2 ^ 16 + adviceWord a
 answerWord (Answer.Draw a) = 3 * 2 ^ 8 + adviceWord a
 answerWord (Answer.Refused k) = k
+
+-- look-up's at a count: the answer's, and bit 25 where it is marked "within fifty"
+abbrev pub markedWord : Marked → ℕ
+markedWord m = answerWord (m .answer) + flagOf (m .«within_fifty») * 2 ^ 25

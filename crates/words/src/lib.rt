@@ -5,6 +5,7 @@ use answers::Answer;
 use answers::BestMove;
 use answers::Checked;
 use answers::Filled;
+use fifty::Marked;
 use index::NumberAnswer;
 use index::Placed;
 pub use men::position_read;
@@ -14,7 +15,7 @@ use position::man_in;
 use rules::Move;
 ghost use mathlib.Core.Path.{_≡_};
 ghost use Prim.Native.Nat.{_+_, _*_, _^_, _≤_, _<_};
-ghost use Rattle.words.specs.Words.{numberWord, placedWord, countWord, filledWord, checkedWord, flagOf, adviceWord, answerWord};
+ghost use Rattle.words.specs.Words.{numberWord, placedWord, countWord, filledWord, checkedWord, flagOf, adviceWord, answerWord, markedWord};
 
 pub fn number_word(n: NumberAnswer) -> u32
     ensures { λ r. ⌜ r ≡ numberWord n ⌝ }
@@ -102,13 +103,13 @@ fn advice_word(a: BestMove) -> u64
 // A value, a depth and a move.
 fn value_word(value: u64, depth: u8, a: BestMove) -> u64
     requires { ⌜ value ≤ 3 ⌝ }
-    ensures { λ r. ⌜ r ≡ value * 2 ^ 8 + depth * 2 ^ 16 + adviceWord a ⌝ }
+    ensures { λ r. ⌜ (r ≡ value * 2 ^ 8 + depth * 2 ^ 16 + adviceWord a) × (r < 2 ^ 50) ⌝ }
 {
     value * 0x100 + depth as u64 * 0x1_0000 + advice_word(a)
 }
 
-pub fn answer_word(a: Answer) -> u64
-    ensures { λ r. ⌜ r ≡ answerWord a ⌝ }
+fn answer_word(a: Answer) -> u64
+    ensures { λ r. ⌜ (r ≡ answerWord a) × (r < 2 ^ 50) ⌝ }
 {
     match a {
         Answer::Win(n, advice) => value_word(1, n, advice),
@@ -116,4 +117,11 @@ pub fn answer_word(a: Answer) -> u64
         Answer::Draw(advice) => value_word(3, 0, advice),
         Answer::Refused(k) => k as u64,
     }
+}
+
+pub fn marked_word(m: Marked) -> u64
+    ensures { λ r. ⌜ r ≡ markedWord m ⌝ }
+{
+    let answer = m.answer;
+    answer_word(answer) + flag(m.within_fifty) as u64 * 0x200_0000
 }

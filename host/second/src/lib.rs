@@ -11,6 +11,8 @@ pub mod check_digits;
 pub mod desk;
 #[path = "../../../oracle/src/failure.rs"]
 pub mod failure;
+#[path = "../../../oracle/src/fifty.rs"]
+pub mod fifty;
 #[path = "../../../oracle/src/fill.rs"]
 pub mod fill;
 #[path = "../../../oracle/src/fill_back.rs"]

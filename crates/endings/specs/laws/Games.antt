@@ -104,7 +104,7 @@ module _ (kind : ℕ) (t : List ℕ) (ok : checkOf kind t ≡ Checked.Accepted) 
           ∙ answer-move (byteOf t (boardOf (keyed b))) (chosen (byteOf t) (boardOf (keyed b)))
           ∙ ap (λ (c : Board). given (chosen (byteOf t) c)) (keyed-board kind b l))
 
-  desk-chooses : Chooses chess (Ending kind) (byteOf t) (deskMove t)
+  pub desk-chooses : Chooses chess (Ending kind) (byteOf t) (deskMove t)
   desk-chooses =
       let rule = chosen-chooses kind t in
       record {

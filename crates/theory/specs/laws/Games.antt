@@ -13,7 +13,7 @@ use lib.Seq.{length-take-le}
 use Rattle.finite.specs.Members.{_∈_, map-in}
 use Rattle.theory.specs.Game.{Game, next}
 use Rattle.theory.specs.Value.{WonIn, LostIn, Drawn, DepthIs, TrueByte}
-use Rattle.theory.specs.laws.Depth.{won-odd, lost-even}
+use Rattle.theory.specs.laws.Depth.{won-odd, lost-even, depth-even}
 use Rattle.theory.specs.laws.TrueBytes.{byte-one}
 use Rattle.theory.specs.Required.{Rule, Closed, Consistent}
 use Rattle.theory.specs.laws.Consistency.{consistent-depth, consistent-true}
@@ -113,6 +113,7 @@ module _ (G : Game) (D : G .Pos → Type 0) (closed : Closed G D) (reads : G .Po
 
     -- the winner, whichever side is to move
     mates : (n : ℕ) → reads p ≡ 2 + n → Winning G reads side p → Mates G side p ms n
+    unfolding Winning
     mates n e w =
         let r = countdown side p ms d l c w in
         let h = winning-two side last (r .0) in
@@ -127,6 +128,14 @@ module _ (G : Game) (D : G .Pos → Type 0) (closed : Closed G D) (reads : G .Po
                 reads (atPly G p ms i) - 2,
                 omega (arith, s .1, length-take-le i ms k),
                 depth-of (atPly G p ms i) (here i) t,
+              );
+          loses = λ i k f.
+              let s = countdown side p (take i ms) d (legal-take G i p ms l) (follows-take G pick side i p ms c) w in
+              let v = s .0 .1 f in
+              let deep = depth-of (atPly G p ms i) (here i) (v .0) in (
+                reads (atPly G p ms i) - 2,
+                omega (arith, s .1, v .0, length-take-le i ms k),
+                depth-even G (reads (atPly G p ms i) - 2) (atPly G p ms i) deep (omega (arith, v .0, v .1)),
               );
         }
 

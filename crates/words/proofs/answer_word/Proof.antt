@@ -30,13 +30,22 @@ cast-result : tie.Need-cast-result
 cast-result c = search needs
 
 returns : tie.Need-returns
-returns c = c .value-word .ensures ∙ sym (ap answerWord (c .before .before .a .given .1))
+returns c = (
+  c .value-word .ensures .0 ∙ sym (ap answerWord (c .before .before .a .given .1)),
+  c .value-word .ensures .1,
+)
 
 returns-2 : tie.Need-returns-2
-returns-2 c = c .value-word2 .ensures ∙ sym (ap answerWord (c .before .before .a2 .given .1))
+returns-2 c = (
+  c .value-word2 .ensures .0 ∙ sym (ap answerWord (c .before .before .a2 .given .1)),
+  c .value-word2 .ensures .1,
+)
 
 returns-3 : tie.Need-returns-3
-returns-3 c = c .value-word3 .ensures ∙ sym (ap answerWord (c .before .before .a3 .given .1))
+returns-3 c = (
+  c .value-word3 .ensures .0 ∙ sym (ap answerWord (c .before .before .a3 .given .1)),
+  c .value-word3 .ensures .1,
+)
 
 returns-4 : tie.Need-returns-4
 returns-4 c = search needs

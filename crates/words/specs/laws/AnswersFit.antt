@@ -43,9 +43,10 @@ use Rattle.endings.specs.Ending.{tableSize, byteOf, ending}
 use Rattle.endings.specs.Answers.{Fill, fillOf, checkOf, adviceOf, mappedAdvice, answerOf, chosen, lookUpOf}
 use Rattle.endings.specs.FilledTrue.{FillTrue}
 use Rattle.endings.specs.laws.FilledTrue.{filled-true}
-use Rattle.words.specs.Words.{numberWord, placedWord, countWord, filledWord, checkedWord, answerWord}
-use Rattle.words.specs.Reading.{numberRead, placedRead, countRead, filledRead, checkedRead, answerRead, Byte, TableBytes, RefusalFits, NumberFits, PlacedFits, CountFits, FilledFits, CheckedFits, AdviceFits, AnswerFits}
-use Rattle.words.specs.laws.ReadingLaws.{number-read, placed-read, count-read, filled-read, checked-read, answer-read}
+use Rattle.fifty.specs.Marks.{isRefused, atCount, lookUpAt}
+use Rattle.words.specs.Words.{numberWord, placedWord, countWord, filledWord, checkedWord, markedWord}
+use Rattle.words.specs.Reading.{numberRead, placedRead, countRead, filledRead, checkedRead, markedRead, Byte, TableBytes, RefusalFits, NumberFits, PlacedFits, CountFits, FilledFits, CheckedFits, AdviceFits, AnswerFits, MarkedFits}
+use Rattle.words.specs.laws.ReadingLaws.{number-read, placed-read, count-read, filled-read, checked-read, marked-read}
 
 -- ---- a position's refusals
 
@@ -199,7 +200,7 @@ value-fits n a h k = go (leb n 1) (eqb (n % 2) 1)
     go false true = (omega arith, k)
     go false false = (omega arith, k)
 
-pub look-up-fits : (t : List ℕ) (p : Position) → TableBytes t → AnswerFits (lookUpOf t p)
+look-up-fits : (t : List ℕ) (p : Position) → TableBytes t → AnswerFits (lookUpOf t p)
 unfolding lookUpOf
 look-up-fits t p h =
     go (eqb (standingRefusal p) 0) refl (eqb (length t) tableSize)
@@ -216,6 +217,16 @@ look-up-fits t p h =
     go true e false c x k = (omega arith, omega arith)
     go true e true false x k = (omega arith, omega arith)
     go true e true true x k = k
+
+-- refusal 19 fits like the others
+pub counted-fits : (t : List ℕ) (c : ℕ) (p : Position) → TableBytes t → MarkedFits (lookUpAt t c p)
+unfolding lookUpAt atCount
+counted-fits t c p h = go (isRefused (lookUpOf t p)) (ltb 99 c)
+  where
+    go : (a b : Bool) → AnswerFits (cond a (lookUpOf t p) (cond b (Answer.Refused 19) (lookUpOf t p)))
+    go true b = look-up-fits t p h
+    go false true = (omega arith, omega arith)
+    go false false = look-up-fits t p h
 
 -- ---- so each of the library's words is read back
 
@@ -234,5 +245,6 @@ filled-told kind t = filled-read (fillOf kind t .answer) (filled-fits kind t)
 pub checked-told : (kind : ℕ) (t : List ℕ) → checkedRead (checkedWord (checkOf kind t)) ≡ checkOf kind t
 checked-told kind t = checked-read (checkOf kind t) (checked-fits kind t)
 
-pub look-up-told : (t : List ℕ) (p : Position) → TableBytes t → answerRead (answerWord (lookUpOf t p)) ≡ lookUpOf t p
-look-up-told t p h = answer-read (lookUpOf t p) (look-up-fits t p h)
+pub look-up-told : (t : List ℕ) (c : ℕ) (p : Position) → TableBytes t
+    → markedRead (markedWord (lookUpAt t c p)) ≡ lookUpAt t c p
+look-up-told t c p h = marked-read (lookUpAt t c p) (counted-fits t c p h)

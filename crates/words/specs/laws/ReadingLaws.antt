@@ -16,8 +16,8 @@ use Rattle.index.specs.declared.NumberAnswer.{NumberAnswer}
 use Rattle.index.specs.declared.Placed.{Placed}
 use Rattle.move_list.specs.declared.Counted.{Counted}
 use Rattle.endings.specs.GamePromise.{given, moveOfAnswer}
-use Rattle.words.specs.Words.{numberWord, placedWord, countWord, filledWord, checkedWord, flagOf, adviceWord, answerWord}
-use Rattle.words.specs.Reading.{bits, unlessRefused, numberRead, placedRead, countRead, filledRead, checkedRead, adviceRead, valueRead, answerRead, Byte, RefusalFits, NumberFits, PlacedFits, CountFits, FilledFits, CheckedFits, AdviceFits, AnswerFits, ReadBack, OneWord}
+use Rattle.words.specs.Words.{numberWord, placedWord, countWord, filledWord, checkedWord, flagOf, adviceWord, answerWord, markedWord}
+use Rattle.words.specs.Reading.{bits, unlessRefused, numberRead, placedRead, countRead, filledRead, checkedRead, adviceRead, valueRead, markedRead, Byte, RefusalFits, NumberFits, PlacedFits, CountFits, FilledFits, CheckedFits, AdviceFits, AnswerFits, MarkedFits, ReadBack, OneWord}
 
 -- ---- one field of any word
 
@@ -141,40 +141,41 @@ checks-apart = one-word CheckedFits checkedWord checkedRead checked-read
 
 -- ---- look-up
 
--- the word of a value, a depth and a move, given (1) or not (0), that takes (1) or not (0)
-abbrev valueWord : ℕ → ℕ → ℕ → ℕ → ℕ → ℕ → ℕ
-valueWord value depth given from to takes =
-    value * 2 ^ 8 + depth * 2 ^ 16 + (given * 2 ^ 24 + from * 2 ^ 32 + to * 2 ^ 40 + takes * 2 ^ 48)
+-- the word of a value, a depth and a move, given (1) or not (0), that takes (1) or not (0), and a mark (1) or none (0)
+abbrev valueWord : ℕ → ℕ → ℕ → ℕ → ℕ → ℕ → ℕ → ℕ
+valueWord value depth given from to takes mark =
+    value * 2 ^ 8 + depth * 2 ^ 16 + (given * 2 ^ 24 + from * 2 ^ 32 + to * 2 ^ 40 + takes * 2 ^ 48) + mark * 2 ^ 25
 
-record ValueBits (value depth given from to takes word : ℕ) : Type 0 where
+record ValueBits (value depth given from to takes mark word : ℕ) : Type 0 where
   none : bits 0 8 word ≡ 0
   value-read : bits 8 8 word ≡ value
   depth-read : bits 16 8 word ≡ depth
   given-read : bits 24 1 word ≡ given
+  mark-read : bits 25 1 word ≡ mark
   from-read : bits 32 8 word ≡ from
   to-read : bits 40 8 word ≡ to
   takes-read : bits 48 1 word ≡ takes
 
-value-bits : (v n g f t x : ℕ) → Byte v → Byte n → g < 2 → Byte f → Byte t → x < 2
-    → ValueBits v n g f t x (valueWord v n g f t x)
-value-bits v n g f t x hv hn hg hf ht hx =
-    let word = valueWord v n g f t x in
+value-bits : (v n g f t x k : ℕ) → Byte v → Byte n → g < 2 → Byte f → Byte t → x < 2 → k < 2
+    → ValueBits v n g f t x k (valueWord v n g f t x k)
+value-bits v n g f t x k hv hn hg hf ht hx hk =
+    let word = valueWord v n g f t x k in
+    let low = v * 2 ^ 8 + n * 2 ^ 16 in
+    let lower = low + g * 2 ^ 24 + k * 2 ^ 25 in
     record {
-      none = field 0 8 0 0 (v + n * 2 ^ 8 + g * 2 ^ 16 + f * 2 ^ 24 + t * 2 ^ 32 + x * 2 ^ 40) word (omega arith)
-          (omega arith) (omega arith);
-      value-read =
-          field 8 8 0 v (n + g * 2 ^ 8 + f * 2 ^ 16 + t * 2 ^ 24 + x * 2 ^ 32) word (omega arith) (omega arith) hv;
-      depth-read =
-          field 16 8 (v * 2 ^ 8) n (g + f * 2 ^ 8 + t * 2 ^ 16 + x * 2 ^ 24) word (omega arith) (omega arith) hn;
+      none = field 0 8 0 0 (v + n * 2 ^ 8 + g * 2 ^ 16 + k * 2 ^ 17 + f * 2 ^ 24 + t * 2 ^ 32 + x * 2 ^ 40) word
+          (omega arith) (omega arith) (omega arith);
+      value-read = field 8 8 0 v (n + g * 2 ^ 8 + k * 2 ^ 9 + f * 2 ^ 16 + t * 2 ^ 24 + x * 2 ^ 32) word (omega arith)
+          (omega arith) hv;
+      depth-read = field 16 8 (v * 2 ^ 8) n (g + k * 2 + f * 2 ^ 8 + t * 2 ^ 16 + x * 2 ^ 24) word (omega arith)
+          (omega arith) hn;
       given-read =
-          field 24 1 (v * 2 ^ 8 + n * 2 ^ 16) g (f * 2 ^ 7 + t * 2 ^ 15 + x * 2 ^ 23) word (omega arith) (omega arith)
-          hg;
-      from-read =
-          field 32 8 (v * 2 ^ 8 + n * 2 ^ 16 + g * 2 ^ 24) f (t + x * 2 ^ 8) word (omega arith) (omega arith) hf;
-      to-read = field 40 8 (v * 2 ^ 8 + n * 2 ^ 16 + g * 2 ^ 24 + f * 2 ^ 32) t x word (omega arith) (omega arith) ht;
-      takes-read =
-          field 48 1 (v * 2 ^ 8 + n * 2 ^ 16 + g * 2 ^ 24 + f * 2 ^ 32 + t * 2 ^ 40) x 0 word (omega arith)
-          (omega arith) hx;
+          field 24 1 low g (k + f * 2 ^ 7 + t * 2 ^ 15 + x * 2 ^ 23) word (omega arith) (omega arith) hg;
+      mark-read =
+          field 25 1 (low + g * 2 ^ 24) k (f * 2 ^ 6 + t * 2 ^ 14 + x * 2 ^ 22) word (omega arith) (omega arith) hk;
+      from-read = field 32 8 lower f (t + x * 2 ^ 8) word (omega arith) (omega arith) hf;
+      to-read = field 40 8 (lower + f * 2 ^ 32) t x word (omega arith) (omega arith) ht;
+      takes-read = field 48 1 (lower + f * 2 ^ 32 + t * 2 ^ 40) x 0 word (omega arith) (omega arith) hx;
     }
 
 flag-fits : (x : Bool) → flagOf x < 2
@@ -185,51 +186,79 @@ flag-read : (x : Bool) → eqb (flagOf x) 1 ≡ x
 flag-read true = refl
 flag-read false = refl
 
-play-bits : (v n : ℕ) (m : Move) → Byte v → Byte n → AdviceFits (BestMove.Play m)
-    → ValueBits v n 1 (m .from) (m .to) (flagOf (m .takes)) (v * 2 ^ 8 + n * 2 ^ 16 + adviceWord (BestMove.Play m))
-play-bits v n m hv hn h =
-    value-bits v n 1 (m .from) (m .to) (flagOf (m .takes)) hv hn (omega arith) (h .0) (h .1) (flag-fits (m .takes))
+-- an answer's word with a mark
+abbrev marked : Bool → ℕ → ℕ
+marked x word = word + flagOf x * 2 ^ 25
 
-none-bits : (v n : ℕ) → Byte v → Byte n → ValueBits v n 0 0 0 0 (v * 2 ^ 8 + n * 2 ^ 16 + adviceWord BestMove.NoMove)
-none-bits v n hv hn = value-bits v n 0 0 0 0 hv hn (omega arith) (omega arith) (omega arith) (omega arith)
+module _ (x : Bool) where
+  play-bits : (v n : ℕ) (m : Move) → Byte v → Byte n → AdviceFits (BestMove.Play m)
+      → ValueBits v n 1 (m .from) (m .to) (flagOf (m .takes)) (flagOf x)
+      (marked x (v * 2 ^ 8 + n * 2 ^ 16 + adviceWord (BestMove.Play m)))
+  play-bits v n m hv hn h =
+      value-bits v n 1 (m .from) (m .to) (flagOf (m .takes)) (flagOf x) hv hn (omega arith) (h .0) (h .1)
+      (flag-fits (m .takes)) (flag-fits x)
 
-advice-back : (v n : ℕ) (a : BestMove) → Byte v → Byte n → AdviceFits a
-    → adviceRead (v * 2 ^ 8 + n * 2 ^ 16 + adviceWord a) ≡ a
-advice-back v n (BestMove.Play m) hv hn h =
-    let b = play-bits v n m hv hn h in rw (b .given-read, b .from-read, b .to-read, b .takes-read, flag-read (m .takes))
-advice-back v n BestMove.NoMove hv hn h = let b = none-bits v n hv hn in rw (b .given-read)
+  none-bits : (v n : ℕ) → Byte v → Byte n
+      → ValueBits v n 0 0 0 0 (flagOf x) (marked x (v * 2 ^ 8 + n * 2 ^ 16 + adviceWord BestMove.NoMove))
+  none-bits v n hv hn =
+      value-bits v n 0 0 0 0 (flagOf x) hv hn (omega arith) (omega arith) (omega arith) (omega arith) (flag-fits x)
 
-value-back : (v n : ℕ) (a : BestMove) → Byte v → Byte n → AdviceFits a
-    → answerRead (v * 2 ^ 8 + n * 2 ^ 16 + adviceWord a) ≡ valueRead v n a
-value-back v n (BestMove.Play m) hv hn h =
-    let b = play-bits v n m hv hn h in
-    rw (
-      b .none,
-      b .value-read,
-      b .depth-read,
-      b .given-read,
-      b .from-read,
-      b .to-read,
-      b .takes-read,
-      flag-read (m .takes),
-    )
-value-back v n BestMove.NoMove hv hn h =
-    let b = none-bits v n hv hn in
-    rw (b .none, b .value-read, b .depth-read, b .given-read)
+  advice-back : (v n : ℕ) (a : BestMove) → Byte v → Byte n → AdviceFits a
+      → adviceRead (marked x (v * 2 ^ 8 + n * 2 ^ 16 + adviceWord a)) ≡ a
+  advice-back v n (BestMove.Play m) hv hn h =
+      let b = play-bits v n m hv hn h in
+      rw (b .given-read, b .from-read, b .to-read, b .takes-read, flag-read (m .takes))
+  advice-back v n BestMove.NoMove hv hn h = let b = none-bits v n hv hn in rw (b .given-read)
 
-pub answer-read : ReadBack AnswerFits answerWord answerRead
-answer-read (Answer.Win n a) h = value-back 1 n a (omega arith) (h .0) (h .1)
-answer-read (Answer.Loss n a) h = value-back 2 n a (omega arith) (h .0) (h .1)
-answer-read (Answer.Draw a) h = value-back 3 0 a (omega arith) (omega arith) h
-answer-read (Answer.Refused k) h = refusal-read _ Answer.Refused k h
+  value-back : (v n : ℕ) (a : BestMove) → Byte v → Byte n → AdviceFits a
+      → markedRead (marked x (v * 2 ^ 8 + n * 2 ^ 16 + adviceWord a))
+      ≡ record { answer = valueRead v n a; «within_fifty» = x }
+  value-back v n (BestMove.Play m) hv hn h =
+      let b = play-bits v n m hv hn h in
+      rw (
+        b .none,
+        b .value-read,
+        b .depth-read,
+        b .given-read,
+        b .from-read,
+        b .to-read,
+        b .takes-read,
+        flag-read (m .takes),
+        b .mark-read,
+        flag-read x,
+      )
+  value-back v n BestMove.NoMove hv hn h =
+      let b = none-bits v n hv hn in
+      rw (b .none, b .value-read, b .depth-read, b .given-read, b .mark-read, flag-read x)
 
--- the move by itself; a refusal has none
-pub advice-read : (a : Answer) → AnswerFits a → given (adviceRead (answerWord a)) ≡ moveOfAnswer a
-advice-read (Answer.Win n a) h = ap given (advice-back 1 n a (omega arith) (h .0) (h .1))
-advice-read (Answer.Loss n a) h = ap given (advice-back 2 n a (omega arith) (h .0) (h .1))
-advice-read (Answer.Draw a) h = ap given (advice-back 3 0 a (omega arith) (omega arith) h)
-advice-read (Answer.Refused k) h =
-    let none : bits 24 1 k ≡ 0 = field 24 1 k 0 0 k (omega arith) (omega (arith, h .1)) (omega arith) in rw none
+  refused-back : (k : ℕ) → RefusalFits k
+      → markedRead (marked x k) ≡ record { answer = Answer.Refused k; «within_fifty» = x }
+  refused-back k h =
+      let low : bits 0 8 (marked x k) ≡ k =
+      field 0 8 0 k (flagOf x * 2 ^ 17) (marked x k) (omega arith) (omega arith) (h .1) in
+      let mark : bits 25 1 (marked x k) ≡ flagOf x =
+      field 25 1 k (flagOf x) 0 (marked x k) (omega arith) (omega (arith, h .1)) (flag-fits x) in
+      rw (low, ne-eqb k 0 (λ z. omega arith), mark, flag-read x)
 
-pub answers-apart : OneWord AnswerFits answerWord
-answers-apart = one-word AnswerFits answerWord answerRead answer-read
+  answer-back : (a : Answer) → AnswerFits a
+      → markedRead (marked x (answerWord a)) ≡ record { answer = a; «within_fifty» = x }
+  answer-back (Answer.Win n a) h = value-back 1 n a (omega arith) (h .0) (h .1)
+  answer-back (Answer.Loss n a) h = value-back 2 n a (omega arith) (h .0) (h .1)
+  answer-back (Answer.Draw a) h = value-back 3 0 a (omega arith) (omega arith) h
+  answer-back (Answer.Refused k) h = refused-back k h
+
+  -- the move by itself; a refusal has none
+  pub advice-read : (a : Answer) → AnswerFits a → given (adviceRead (marked x (answerWord a))) ≡ moveOfAnswer a
+  advice-read (Answer.Win n a) h = ap given (advice-back 1 n a (omega arith) (h .0) (h .1))
+  advice-read (Answer.Loss n a) h = ap given (advice-back 2 n a (omega arith) (h .0) (h .1))
+  advice-read (Answer.Draw a) h = ap given (advice-back 3 0 a (omega arith) (omega arith) h)
+  advice-read (Answer.Refused k) h =
+      let none : bits 24 1 (marked x k) ≡ 0 =
+      field 24 1 k 0 (flagOf x) (marked x k) (omega arith) (omega (arith, h .1)) (omega arith) in
+      rw none
+
+pub marked-read : ReadBack MarkedFits markedWord markedRead
+marked-read m h = answer-back (m .«within_fifty») (m .answer) h
+
+pub marks-apart : OneWord MarkedFits markedWord
+marks-apart = one-word MarkedFits markedWord markedRead marked-read

@@ -1,0 +1,67 @@
+-- The desk's moves at any count, and what is promised of every game in which a side plays them (02, P13; demand 3). Definitions only.
+use mathlib.Core.Path.{_≡_}
+use mathlib.Core.Bool.{Bool, false, not, cond}
+use mathlib.Core.Logic.{_↔_}
+use mathlib.Core.List.{List, [], _∷_}
+use mathlib.Core.Option.{Option, none, some}
+use Prim.Native.Nat.{ℕ, _+_, _≤_}
+use lib.Dec.{T}
+use lib.ListN.{length}
+use Rattle.theory.specs.Value.{DepthIs}
+use Rattle.theory.specs.Play.{atPly}
+use Rattle.theory.specs.Fifty.{Clear}
+use Rattle.rules.specs.declared.Move.{Move}
+use Rattle.rules.specs.Rules.{Board, empty}
+use Rattle.rules.specs.Chess.{chess}
+use Rattle.answers.specs.declared.Answer.{Answer}
+use Rattle.answers.specs.declared.Answer.the-variants.{Win, Loss, Draw, Refused}
+use Rattle.endings.specs.Truth.{TrueAnswer}
+use Rattle.endings.specs.GamePromise.{keyed, moveOfAnswer, GamePromise}
+use Rattle.fifty.specs.declared.Marked.{Marked}
+use Rattle.fifty.specs.Marks.{lookUpAt}
+
+-- without pawns, the moves that set the count to 0 are those that take, as a legal move itself says (02, P6)
+abbrev pub zeroing : Board → Move → Bool
+zeroing b m = m .takes
+
+-- what look-up answers for a board at a count
+abbrev pub answerAt : List ℕ → Board → ℕ → Marked
+answerAt t b c = lookUpAt t c (keyed b)
+
+-- "the one that look-up gives for the position then on the board", at a count; "Bare kings are a draw and are not looked up"
+unfoldable pub countedMove : List ℕ → ℕ → Board → Option Move
+countedMove t c b = cond (empty (b .men)) none (moveOfAnswer (answerAt t b c .answer))
+
+-- The side plays the desk's moves, "whatever count from 0 to 99 each of its look-ups is given".
+abbrev pub PlaysCounted : List ℕ → Bool → Board → List Move → Type 0
+PlaysCounted t side b [] = Unit {0}
+PlaysCounted t side b (m ∷ ms) =
+    (chess .turn b ≡ side → (c : ℕ) × (c ≤ 99) × (countedMove t c b ≡ some m))
+    × PlaysCounted t side (chess .play b m) ms
+
+-- What a mark promises, by what the position is called, to the winner who plays the desk's moves from the count c: he mates within the depth, and
+-- before that the loser may not claim. A draw and a refusal have no mark.
+abbrev pub ClearBy : Answer → Bool → Board → List Move → ℕ → Type 0
+ClearBy (Win n a) side b ms c = chess .turn b ≡ side → Clear chess zeroing side b ms n c
+ClearBy (Loss n a) side b ms c = chess .turn b ≡ not side → Clear chess zeroing side b ms n c
+ClearBy (Draw a) side b ms c = ⊥
+ClearBy (Refused k) side b ms c = ⊥
+
+-- the board is decided, and the count plus the depth is at most 100
+abbrev pub Within : Board → ℕ → Type 0
+Within b c = (n : ℕ) × DepthIs chess n b × (c + n ≤ 100)
+
+-- What is promised of the game ms from the board b, in which `side` plays the desk's moves by the table t, at any counts.
+pub record FiftyPromise (t : List ℕ) (side : Bool) (b : Board) (ms : List Move) : Type 0 where
+  -- demand 3 as it stands
+  pub game : GamePromise t side b ms
+  -- what the first position is called, at every count from 0 to 99, is its true value and depth
+  pub called : (c : ℕ) → c ≤ 99 → TrueAnswer b (answerAt t b c .answer)
+  -- so it is for each position of the game, bare kings apart
+  pub answers : (i : ℕ) → i ≤ length ms → empty (atPly chess b ms i .men) ≡ false → (c : ℕ) → c ≤ 99
+      → TrueAnswer (atPly chess b ms i) (answerAt t (atPly chess b ms i) c .answer)
+  -- and a mark exactly where it is decided and the sum is at most 100
+  pub marked : (i : ℕ) → i ≤ length ms → empty (atPly chess b ms i .men) ≡ false → (c : ℕ) → c ≤ 99
+      → T (answerAt t (atPly chess b ms i) c .«within_fifty») ↔ Within (atPly chess b ms i) c
+  -- marked at the count c, the first position is won clear of the fifty-move rule
+  pub clear : (c : ℕ) → c ≤ 99 → T (answerAt t b c .«within_fifty») → ClearBy (answerAt t b c .answer) side b ms c

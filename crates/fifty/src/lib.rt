@@ -1,0 +1,71 @@
+// Looking a position up with the plies since the last capture: whether a win or a loss comes before a fifty-move claim (02, P13).
+use answers::Answer;
+use look_up::look_up;
+use position::Position;
+ghost use mathlib.Core.Path.{_≡_};
+ghost use Prim.Native.Nat.{_+_};
+ghost use lib.Dec.{leb};
+ghost use Rattle.fifty.specs.Marks.{marks, isRefused, atCount, lookUpAt};
+
+// Refusal 19: more plies than 99 since the last capture.
+pub const TOO_MANY_QUIET: u8 = 19;
+
+// Look-up's answer at a count, and whether it is marked "within fifty".
+pub struct Marked {
+    pub answer: Answer,
+    pub within_fifty: bool,
+}
+
+fn adds_to_100(plies: u32, depth: u8) -> bool
+    ensures { λ r. ⌜ r ≡ leb (plies + depth) 100 ⌝ }
+{
+    plies as u64 + depth as u64 <= 100
+}
+
+// A win or a loss is marked where the count and the depth make at most 100; a draw never is.
+fn is_marked(plies: u32, a: Answer) -> bool
+    ensures { λ r. ⌜ r ≡ marks plies a ⌝ }
+{
+    match a {
+        Answer::Win(n, _) => adds_to_100(plies, n),
+        Answer::Loss(n, _) => adds_to_100(plies, n),
+        Answer::Draw(_) => false,
+        Answer::Refused(_) => false,
+    }
+}
+
+fn is_refused(a: Answer) -> bool
+    ensures { λ r. ⌜ r ≡ isRefused a ⌝ }
+{
+    match a {
+        Answer::Refused(_) => true,
+        Answer::Win(_, _) => false,
+        Answer::Loss(_, _) => false,
+        Answer::Draw(_) => false,
+    }
+}
+
+// Refusal 19 is asked after every other one.
+fn at_count(plies: u32, a: Answer) -> Answer
+    ensures { λ r. ⌜ r ≡ atCount plies a ⌝ }
+{
+    if is_refused(a) {
+        return a;
+    }
+    if plies > 99 {
+        return Answer::Refused(TOO_MANY_QUIET);
+    }
+    a
+}
+
+// The answer and its mark; or a refusal, 1 to 7, 11 or 19.
+pub fn look_up_at(table: &[u8], p: Position, plies: u32) -> Marked
+    ensures { λ r. ⌜ r ≡ lookUpAt (now (table .entry)) plies p ⌝ }
+{
+    let found = look_up(table, p);
+    let answer = at_count(plies, found);
+    Marked {
+        answer,
+        within_fifty: is_marked(plies, answer),
+    }
+}
