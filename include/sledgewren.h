@@ -3,7 +3,7 @@
  * checked, positions looked up, searched without a table, and a desk's lines answered; tables are
  * packed to pockets.
  *
- * Link with target/staticlib/libsledgewren.a (x86-64). C99; C++ may include it.
+ * Link with libsledgewren.a (x86-64 Linux). C99; C++ may include it.
  *
  * Codes
  *   man      queen 0, rook 1, bishop 2, knight 3
@@ -53,6 +53,15 @@
 extern "C" {
 #endif
 
+/*
+ * The version of this header and of the functions it declares. Before 1.0.0 functions, words and
+ * refusals may change with the middle number.
+ */
+#define SLEDGEWREN_VERSION_MAJOR 0
+#define SLEDGEWREN_VERSION_MINOR 1
+#define SLEDGEWREN_VERSION_PATCH 0
+#define SLEDGEWREN_VERSION "0.1.0"
+
 /* Lengths of the buffers that the functions are lent. */
 #define SLEDGEWREN_TABLE_BYTES 59136
 #define SLEDGEWREN_MOVES_BYTES 248
@@ -84,18 +93,11 @@ extern "C" {
 #define SLEDGEWREN_MOVES_LENGTH 255u
 #define SLEDGEWREN_SLIP_LENGTH 0xFFFFu
 
-/* The eight bits of an answer from the given one on: SLEDGEWREN_BITS(answer, 16) is 16 to 23. */
+/*
+ * The eight bits of an answer from the given one on: SLEDGEWREN_BITS(answer, 16) is 16 to 23. Each
+ * field of each word has a function of its own at the end of this file.
+ */
 #define SLEDGEWREN_BITS(answer, first) ((uint8_t)((uint64_t)(answer) >> (first)))
-
-/* Whether sledgewren_look_up's answer is marked "within fifty". */
-#define SLEDGEWREN_WITHIN_FIFTY(answer) ((int)((uint64_t)(answer) >> 25 & 1))
-
-/* The tally of an entry (0 to 3) in sledgewren_tallies' answer. */
-#define SLEDGEWREN_TALLY(answer, entry) ((uint16_t)((uint64_t)(answer) >> (16 * (entry))))
-
-/* How many numbers a step settled, and the progress that it hands back. */
-#define SLEDGEWREN_SETTLED(answer) ((uint32_t)(answer) >> 8)
-#define SLEDGEWREN_PROGRESS(answer) ((uint32_t)((uint64_t)(answer) >> 32))
 
 /* A man besides the kings as one word, and no man. */
 #define SLEDGEWREN_A_MAN(man, colour, square) \
@@ -342,6 +344,112 @@ uint32_t sledgewren_set_fill(uint8_t man, uint8_t *set, size_t len);
  *   bits 0-7 refusal, 8-31 length, 32-63 offset
  */
 uint64_t sledgewren_set_find(const uint8_t *set, size_t len, uint8_t man);
+
+/* ---- The version as the program sees it that includes this header */
+
+static inline const char *sledgewren_version(void) { return SLEDGEWREN_VERSION; }
+
+/*
+ * ---- The fields of each word by name. They read the bit ranges above and nothing else. Of a
+ * refused answer only the refusal counts; all its other fields are 0.
+ */
+
+/* sledgewren_number: the refusal, or 0, and then the answer itself is the number. */
+static inline uint8_t sledgewren_number_refusal(uint32_t answer)
+{
+    return answer < SLEDGEWREN_NUMBER_REFUSED ? 0 : SLEDGEWREN_BITS(answer, 0);
+}
+
+/* sledgewren_position */
+static inline uint8_t sledgewren_position_refusal(uint64_t answer) { return SLEDGEWREN_BITS(answer, 0); }
+static inline uint8_t sledgewren_position_side(uint64_t answer) { return SLEDGEWREN_BITS(answer, 8); }
+static inline uint8_t sledgewren_position_white(uint64_t answer) { return SLEDGEWREN_BITS(answer, 16); }
+static inline uint8_t sledgewren_position_square(uint64_t answer) { return SLEDGEWREN_BITS(answer, 24); }
+static inline uint8_t sledgewren_position_black(uint64_t answer) { return SLEDGEWREN_BITS(answer, 32); }
+
+/* sledgewren_write_number; the places are 0 to 6, and a digit is a character. */
+static inline uint8_t sledgewren_written_refusal(uint64_t answer) { return SLEDGEWREN_BITS(answer, 0); }
+static inline char sledgewren_written_digit(uint64_t answer, int place)
+{
+    return (char)SLEDGEWREN_BITS(answer, 8 + 8 * place);
+}
+
+/* sledgewren_count; sledgewren_moves too, unless its answer is SLEDGEWREN_MOVES_LENGTH. */
+static inline uint8_t sledgewren_count_refusal(uint32_t answer) { return SLEDGEWREN_BITS(answer, 0); }
+static inline uint8_t sledgewren_count_moves(uint32_t answer) { return SLEDGEWREN_BITS(answer, 8); }
+
+/* The list that sledgewren_moves writes; the places are 0 to 61. */
+static inline uint8_t sledgewren_move_from(const uint8_t *moves, int place) { return moves[4 * place]; }
+static inline uint8_t sledgewren_move_to(const uint8_t *moves, int place) { return moves[4 * place + 1]; }
+static inline int sledgewren_move_takes(const uint8_t *moves, int place) { return moves[4 * place + 2]; }
+
+/* sledgewren_fill, sledgewren_set_fill */
+static inline uint8_t sledgewren_filled_refusal(uint32_t answer) { return SLEDGEWREN_BITS(answer, 0); }
+static inline int sledgewren_filled_is_decided(uint32_t answer) { return SLEDGEWREN_BITS(answer, 8) & 1; }
+static inline uint8_t sledgewren_filled_depth(uint32_t answer) { return SLEDGEWREN_BITS(answer, 16); }
+
+/* sledgewren_fill_start, sledgewren_fill_step */
+static inline uint8_t sledgewren_step_refusal(uint64_t answer) { return SLEDGEWREN_BITS(answer, 0); }
+static inline uint32_t sledgewren_step_settled(uint64_t answer) { return (uint32_t)answer >> 8; }
+static inline uint32_t sledgewren_step_progress(uint64_t answer) { return (uint32_t)(answer >> 32); }
+
+/* A progress: its stage, the next step's depth, and 1 + the last depth settled. */
+static inline uint8_t sledgewren_progress_stage(uint32_t progress) { return SLEDGEWREN_BITS(progress, 0); }
+static inline uint16_t sledgewren_progress_depth(uint32_t progress) { return (uint16_t)(progress >> 8); }
+static inline uint8_t sledgewren_progress_last(uint32_t progress) { return SLEDGEWREN_BITS(progress, 24); }
+
+/* sledgewren_check; the table is accepted exactly where the whole answer is 0. */
+static inline uint8_t sledgewren_checked_refusal(uint64_t answer) { return SLEDGEWREN_BITS(answer, 0); }
+static inline int sledgewren_checked_is_wrong(uint64_t answer) { return SLEDGEWREN_BITS(answer, 8) & 1; }
+static inline uint32_t sledgewren_checked_number(uint64_t answer) { return (uint32_t)(answer >> 32); }
+
+/* sledgewren_look_up */
+static inline uint8_t sledgewren_answer_refusal(uint64_t answer) { return SLEDGEWREN_BITS(answer, 0); }
+static inline uint8_t sledgewren_answer_value(uint64_t answer) { return SLEDGEWREN_BITS(answer, 8); }
+static inline uint8_t sledgewren_answer_depth(uint64_t answer) { return SLEDGEWREN_BITS(answer, 16); }
+static inline int sledgewren_answer_has_move(uint64_t answer) { return SLEDGEWREN_BITS(answer, 24) & 1; }
+static inline int sledgewren_answer_within_fifty(uint64_t answer)
+{
+    return SLEDGEWREN_BITS(answer, 24) >> 1 & 1;
+}
+static inline uint8_t sledgewren_answer_from(uint64_t answer) { return SLEDGEWREN_BITS(answer, 32); }
+static inline uint8_t sledgewren_answer_to(uint64_t answer) { return SLEDGEWREN_BITS(answer, 40); }
+static inline int sledgewren_answer_takes(uint64_t answer) { return SLEDGEWREN_BITS(answer, 48) & 1; }
+
+/* sledgewren_second_opinion */
+static inline uint8_t sledgewren_opinion_refusal(uint32_t answer) { return SLEDGEWREN_BITS(answer, 0); }
+static inline uint8_t sledgewren_opinion_value(uint32_t answer) { return SLEDGEWREN_BITS(answer, 8); }
+static inline uint8_t sledgewren_opinion_depth(uint32_t answer) { return SLEDGEWREN_BITS(answer, 16); }
+
+/* sledgewren_answer_line, unless its answer is SLEDGEWREN_SLIP_LENGTH */
+static inline uint8_t sledgewren_slip_length(uint32_t answer) { return SLEDGEWREN_BITS(answer, 0); }
+static inline uint8_t sledgewren_slip_held(uint32_t answer) { return SLEDGEWREN_BITS(answer, 8); }
+
+/* sledgewren_pocket_look_up (the answers of sledgewren_pack, sledgewren_set_write and
+ * sledgewren_set_start are refusals as they stand) */
+static inline uint8_t sledgewren_told_refusal(uint32_t answer) { return SLEDGEWREN_BITS(answer, 0); }
+static inline uint8_t sledgewren_told_value(uint32_t answer) { return SLEDGEWREN_BITS(answer, 8); }
+
+/* sledgewren_tallies */
+static inline uint8_t sledgewren_tallies_refusal(uint64_t answer)
+{
+    return answer == SLEDGEWREN_TABLE_LENGTH ? SLEDGEWREN_TABLE_LENGTH : 0;
+}
+static inline uint16_t sledgewren_tallies_none(uint64_t answer) { return (uint16_t)answer; }
+static inline uint16_t sledgewren_tallies_draws(uint64_t answer) { return (uint16_t)(answer >> 16); }
+static inline uint16_t sledgewren_tallies_wins(uint64_t answer) { return (uint16_t)(answer >> 32); }
+static inline uint16_t sledgewren_tallies_losses(uint64_t answer) { return (uint16_t)(answer >> 48); }
+
+/* sledgewren_set_find */
+static inline uint8_t sledgewren_found_refusal(uint64_t answer) { return SLEDGEWREN_BITS(answer, 0); }
+static inline uint32_t sledgewren_found_length(uint64_t answer) { return (uint32_t)answer >> 8; }
+static inline uint32_t sledgewren_found_offset(uint64_t answer) { return (uint32_t)(answer >> 32); }
+
+/* A man's word, as SLEDGEWREN_A_MAN makes it. */
+static inline uint8_t sledgewren_man_kind(uint32_t man) { return SLEDGEWREN_BITS(man, 0); }
+static inline uint8_t sledgewren_man_colour(uint32_t man) { return SLEDGEWREN_BITS(man, 8); }
+static inline uint8_t sledgewren_man_square(uint32_t man) { return SLEDGEWREN_BITS(man, 16); }
+static inline int sledgewren_man_is_there(uint32_t man) { return SLEDGEWREN_BITS(man, 24) != 0; }
 
 #ifdef __cplusplus
 }

@@ -1,6 +1,6 @@
 /*
- * Fills the queen's table, has it checked, looks four positions up, one with Black's queen, writes a number with its
- * check digits, and packs the table to a pocket. From the repository's root:
+ * Fills the queen's table, has it checked, looks six positions up, one with Black's queen, writes a
+ * number with its check digits, and packs the table to a pocket. From the repository's root:
  *
  *   cc -std=c99 -Iinclude host/c/example.c target/staticlib/libsledgewren.a -o target/c-example
  */
@@ -12,39 +12,59 @@
 static uint8_t table[SLEDGEWREN_TABLE_BYTES];
 static uint8_t pocket[SLEDGEWREN_POCKET_BYTES];
 
-static const char *const values[] = {"?", "win", "loss", "draw"};
+static const char *const sides[] = {"White", "Black"};
 
 static void print_square(unsigned square)
 {
     printf("%c%c", (int)('a' + square % 8), (int)('1' + square / 8));
 }
 
-/* The queen's king on b3, the other king on a1. */
-static void look_up(uint8_t owner, uint8_t side, uint8_t queen)
+/* The value in words: a position without a move is checkmate or stalemate. */
+static void print_value(uint64_t answer)
 {
-    uint8_t white = owner == SLEDGEWREN_WHITE ? 17 : 0;
-    uint64_t answer = sledgewren_look_up(table, sizeof table, side, white, 17 - white,
+    int depth = sledgewren_answer_depth(answer);
+
+    switch (sledgewren_answer_value(answer)) {
+    case SLEDGEWREN_WIN:
+        printf("win in %d", depth);
+        break;
+    case SLEDGEWREN_LOSS:
+        if (sledgewren_answer_has_move(answer))
+            printf("loss in %d", depth);
+        else
+            printf("checkmate");
+        break;
+    default:
+        printf(sledgewren_answer_has_move(answer) ? "draw" : "stalemate, a draw");
+    }
+}
+
+static void look_up(uint8_t side, uint8_t white, uint8_t black, uint8_t owner, uint8_t queen)
+{
+    uint64_t answer = sledgewren_look_up(table, sizeof table, side, white, black,
                                          SLEDGEWREN_A_MAN(SLEDGEWREN_QUEEN, owner, queen),
                                          SLEDGEWREN_ABSENT, 0);
 
-    printf("%s to move, %s Kb3 Q", side == SLEDGEWREN_WHITE ? "White" : "Black",
-           owner == SLEDGEWREN_WHITE ? "White's" : "Black's");
+    printf("%s to move, white king ", sides[side]);
+    print_square(white);
+    printf(", black king ");
+    print_square(black);
+    printf(", %s's queen ", sides[owner]);
     print_square(queen);
-    printf(" against Ka1: ");
-    if (SLEDGEWREN_BITS(answer, 0) != SLEDGEWREN_NOT_REFUSED) {
-        printf("refused %d\n", SLEDGEWREN_BITS(answer, 0));
+    printf(": ");
+    if (sledgewren_answer_refusal(answer) != SLEDGEWREN_NOT_REFUSED) {
+        printf("refused %d\n", sledgewren_answer_refusal(answer));
         return;
     }
-    printf("%s in %d", values[SLEDGEWREN_BITS(answer, 8) & 3], SLEDGEWREN_BITS(answer, 16));
-    if (SLEDGEWREN_BITS(answer, 24) & 1) {
+    print_value(answer);
+    if (sledgewren_answer_has_move(answer)) {
         printf(" by ");
-        print_square(SLEDGEWREN_BITS(answer, 32));
-        if (SLEDGEWREN_BITS(answer, 48) & 1) {
+        print_square(sledgewren_answer_from(answer));
+        if (sledgewren_answer_takes(answer))
             putchar('x');
-        }
-        print_square(SLEDGEWREN_BITS(answer, 40));
+        print_square(sledgewren_answer_to(answer));
     }
-    if (SLEDGEWREN_WITHIN_FIFTY(answer)) {
+    if (sledgewren_answer_within_fifty(answer)) {
         printf(", within fifty");
     }
     printf("\n");
@@ -56,16 +76,16 @@ static void write_number(uint32_t number)
     int place;
 
     printf("number %lu: ", (unsigned long)number);
-    if (SLEDGEWREN_BITS(answer, 0) != SLEDGEWREN_NOT_REFUSED) {
-        printf("refused %d\n", SLEDGEWREN_BITS(answer, 0));
+    if (sledgewren_written_refusal(answer) != SLEDGEWREN_NOT_REFUSED) {
+        printf("refused %d\n", sledgewren_written_refusal(answer));
         return;
     }
     for (place = 0; place < SLEDGEWREN_TYPED_DIGITS; place++)
-        putchar(SLEDGEWREN_BITS(answer, 8 + 8 * place));
+        putchar(sledgewren_written_digit(answer, place));
     printf("\n");
 }
 
-/* The pocket's tallies, and one of the positions above by its pocket. */
+/* The pocket's tallies, and the first of the positions below by its pocket. */
 static void pocket_edition(void)
 {
     uint64_t tallies = sledgewren_tallies(pocket, sizeof pocket);
@@ -74,14 +94,10 @@ static void pocket_edition(void)
                                                 queen, SLEDGEWREN_ABSENT);
 
     printf("pocket: %d wins, %d draws, %d losses, %d unused or illegal\n",
-           SLEDGEWREN_TALLY(tallies, SLEDGEWREN_ENTRY_WIN),
-           SLEDGEWREN_TALLY(tallies, SLEDGEWREN_ENTRY_DRAW),
-           SLEDGEWREN_TALLY(tallies, SLEDGEWREN_ENTRY_LOSS),
-           SLEDGEWREN_TALLY(tallies, SLEDGEWREN_ENTRY_NONE));
-    if (SLEDGEWREN_BITS(answer, 0) == SLEDGEWREN_NOT_REFUSED) {
-        printf("White to move, Kb3 Qh2 against Ka1, by the pocket: %s\n",
-               values[SLEDGEWREN_BITS(answer, 8) & 3]);
-    }
+           sledgewren_tallies_wins(tallies), sledgewren_tallies_draws(tallies),
+           sledgewren_tallies_losses(tallies), sledgewren_tallies_none(tallies));
+    printf("the first by the pocket: %s\n",
+           sledgewren_told_value(answer) == SLEDGEWREN_WIN ? "win" : "not a win");
 }
 
 int main(void)
@@ -89,15 +105,17 @@ int main(void)
     uint32_t filled = sledgewren_fill(SLEDGEWREN_QUEEN, table, sizeof table);
     uint64_t checked = sledgewren_check(SLEDGEWREN_QUEEN, table, sizeof table);
 
-    if (SLEDGEWREN_BITS(filled, 0) != SLEDGEWREN_NOT_REFUSED || checked != 0) {
+    if (sledgewren_filled_refusal(filled) != SLEDGEWREN_NOT_REFUSED || checked != 0) {
         fprintf(stderr, "the queen's table was refused or is wrong\n");
         return 1;
     }
-    printf("queen: greatest depth %d, accepted\n", SLEDGEWREN_BITS(filled, 16));
-    look_up(SLEDGEWREN_WHITE, SLEDGEWREN_WHITE, 15);
-    look_up(SLEDGEWREN_WHITE, SLEDGEWREN_BLACK, 9);
-    look_up(SLEDGEWREN_WHITE, SLEDGEWREN_WHITE, 9);
-    look_up(SLEDGEWREN_BLACK, SLEDGEWREN_BLACK, 15);
+    printf("queen: greatest depth %d, accepted\n", sledgewren_filled_depth(filled));
+    look_up(SLEDGEWREN_WHITE, 17, 0, SLEDGEWREN_WHITE, 15);
+    look_up(SLEDGEWREN_BLACK, 17, 0, SLEDGEWREN_WHITE, 9);
+    look_up(SLEDGEWREN_BLACK, 36, 0, SLEDGEWREN_WHITE, 17);
+    look_up(SLEDGEWREN_BLACK, 63, 0, SLEDGEWREN_WHITE, 9);
+    look_up(SLEDGEWREN_WHITE, 17, 0, SLEDGEWREN_WHITE, 9);
+    look_up(SLEDGEWREN_BLACK, 0, 17, SLEDGEWREN_BLACK, 15);
     write_number(2049);
     write_number(2056);
     if (sledgewren_pack(table, sizeof table, pocket, sizeof pocket) != SLEDGEWREN_NOT_REFUSED) {

@@ -13,20 +13,20 @@ static uint8_t table[SLEDGEWREN_TABLE_BYTES];
 int main(void)
 {
     uint64_t answer = sledgewren_fill_start(SLEDGEWREN_QUEEN, table, sizeof table);
-    uint32_t progress = SLEDGEWREN_PROGRESS(answer);
+    uint32_t progress = sledgewren_step_progress(answer);
     int depth;
 
-    for (depth = 0; SLEDGEWREN_BITS(answer, 0) == SLEDGEWREN_NOT_REFUSED; depth++) {
+    for (depth = 0; sledgewren_step_refusal(answer) == SLEDGEWREN_NOT_REFUSED; depth++) {
         answer = sledgewren_fill_step(SLEDGEWREN_QUEEN, table, sizeof table, progress);
-        progress = SLEDGEWREN_PROGRESS(answer);
-        if (SLEDGEWREN_BITS(progress, 0) != SLEDGEWREN_GOING)
+        progress = sledgewren_step_progress(answer);
+        if (sledgewren_progress_stage(progress) != SLEDGEWREN_GOING)
             break;
-        printf("depth %d: %lu settled\n", depth, (unsigned long)SLEDGEWREN_SETTLED(answer));
+        printf("depth %d: %lu settled\n", depth, (unsigned long)sledgewren_step_settled(answer));
     }
-    if (SLEDGEWREN_BITS(answer, 0) != SLEDGEWREN_NOT_REFUSED) {
-        fprintf(stderr, "refused %d\n", SLEDGEWREN_BITS(answer, 0));
+    if (sledgewren_step_refusal(answer) != SLEDGEWREN_NOT_REFUSED) {
+        fprintf(stderr, "refused %d\n", sledgewren_step_refusal(answer));
         return 1;
     }
-    printf("queen: greatest depth %d\n", SLEDGEWREN_BITS(progress, 24) - 1);
+    printf("queen: greatest depth %d\n", sledgewren_progress_last(progress) - 1);
     return 0;
 }

@@ -38,7 +38,9 @@ impl fmt::Display for Slip {
     }
 }
 
-/// A desk that holds the table of one man and fills another when a line needs it.
+/// A desk that holds the table of one man and fills another when a line needs it. Lines of two men
+/// in turn make it fill a table for each: sort them by their man where there are many.
+#[derive(Debug)]
 pub struct Desk {
     held: Option<Man>,
     table: Table,

@@ -7,19 +7,10 @@
 //! reason, and no input whatever leads to a panic.
 //!
 //! ```
-//! use sledgewren::{Answer, Checked, Man, Position, Side, Table};
+//! use sledgewren::{Accepted, Man, Position};
 //!
-//! let table = Table::filled(Man::Queen)?;
-//! assert_eq!(table.check(Man::Queen), Checked::Accepted);
-//!
-//! let position = Position {
-//!     man: Man::Queen,
-//!     owner: Side::White,
-//!     side: Side::White,
-//!     white_king: "b3".parse()?,
-//!     man_square: "h2".parse()?,
-//!     black_king: "a1".parse()?,
-//! };
+//! let table = Accepted::filled(Man::Queen)?;
+//! let position: Position = "Q w b3 h2 a1".parse()?;
 //! let answer = table.look_up(position)?;
 //! assert_eq!(answer.depth(), Some(1));
 //! assert_eq!(answer.to_string(), "win 1 h2a2");
@@ -37,8 +28,8 @@
 //! | `sledgewren_fill_start` | [`entry::fill_start`] | [`Filling::start`] |
 //! | `sledgewren_fill_step` | [`entry::fill_step`] | [`Filling::step`] |
 //! | `sledgewren_check` | [`entry::check`] | [`Table::check`], [`Table::accept`] |
-//! | `sledgewren_look_up` | [`entry::look_up`] | [`Table::look_up`], [`Accepted::look_up`] |
-//! | the same, with a count | [`entry::look_up_at`] | [`Table::look_up_at`] |
+//! | `sledgewren_look_up` | [`entry::look_up`] | [`Table::look_up`], [`Accepted::look_up`], [`Set::look_up`] |
+//! | the same, with a count | [`entry::look_up_at`] | [`Table::look_up_at`], [`Accepted::look_up_at`] |
 //! | `sledgewren_second_opinion` | [`entry::second_opinion`] | [`second_opinion`] |
 //! | `sledgewren_answer_line` | [`entry::answer_line`] | [`Desk::answer`], [`Desk::run`] |
 //! | `sledgewren_pack` | [`entry::pack`] | [`Pocket::packed`], [`Pocket::of_table`] |
@@ -49,7 +40,7 @@
 //! | `sledgewren_set_fill` | [`entry::set_fill`] | [`Set::written_by_endings`] |
 //! | `sledgewren_set_find` | [`entry::set_find`] | [`Set::from_bytes`], [`Set::table`] |
 
-#![deny(missing_docs)]
+#![deny(missing_docs, missing_debug_implementations)]
 
 mod answer;
 mod desk;
@@ -59,6 +50,7 @@ mod filling;
 mod man;
 mod moves;
 mod opinion;
+mod parse;
 mod pocket;
 mod position;
 mod refusal;
@@ -73,10 +65,11 @@ pub use filling::{Filling, Progress, Settled, Stage, Step};
 pub use man::{Man, Side};
 pub use moves::{Move, Moves, MOST_MOVES, MOVES_BYTES};
 pub use opinion::{second_opinion, Opinion, MOST_PLIES};
+pub use parse::NotRead;
 pub use pocket::{Outcome, Pocket, Tallies, POCKET_BYTES};
 pub use position::{Keyed, KeyedMan, Position};
 pub use refusal::Refusal;
 pub use set::{Choice, Set};
-pub use square::{NoSquare, Square};
-pub use table::{Accepted, Table, TABLE_BYTES};
+pub use square::Square;
+pub use table::{Accepted, NotAccepted, Table, TABLE_BYTES};
 pub use typed::{Typed, TYPED_DIGITS};

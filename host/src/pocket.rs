@@ -63,6 +63,13 @@ pub struct Tallies {
 #[derive(Clone, PartialEq, Eq)]
 pub struct Pocket(Box<[u8; POCKET_BYTES]>);
 
+/// `a pocket of 14784 bytes`: they would fill pages.
+impl fmt::Debug for Pocket {
+    fn fmt(&self, out: &mut fmt::Formatter) -> fmt::Result {
+        write!(out, "a pocket of {POCKET_BYTES} bytes")
+    }
+}
+
 impl Pocket {
     /// The pocket of a table that checking accepted. For every position of that table's ending its
     /// answer is the table's, and so the true one.

@@ -35,7 +35,7 @@ pub enum Refusal {
     BadCheck = 13,
     /// 14: not a right set, or not as long as the endings chosen need.
     WrongSet = 14,
-    /// 15: the ending is not in the set.
+    /// 15: the ending is not in the set, or the table is another one's.
     NotInSet = 15,
     /// 16: more than 6 plies asked for.
     TooManyPlies = 16,
@@ -75,28 +75,29 @@ impl Refusal {
         self as u8
     }
 
-    /// What it says of what was keyed or lent.
+    /// What it says of what was keyed or lent, in chess words.
     pub fn reason(self) -> &'static str {
         match self {
-            Refusal::BadMan => "material code above 3",
-            Refusal::BadSide => "side not 0 or 1",
-            Refusal::BadSquare => "a square above 63",
+            Refusal::BadMan => "not one man besides the kings, a queen, rook, bishop or knight",
+            Refusal::BadSide => "the side to move, or the man's, is neither White nor Black",
+            Refusal::BadSquare => "a square that is not on the board",
             Refusal::SharedSquare => "two men on one square",
-            Refusal::KingsTouch => "kings touch",
-            Refusal::OtherInCheck => "side not to move is in check",
-            Refusal::TableLength => "table not 59,136 bytes, or pocket not 14,784",
-            Refusal::NumberTooHigh => "number above 59,135",
-            Refusal::NumberUnused => "number unused",
-            Refusal::TooDeep => "a legal position's true depth exceeds 253",
+            Refusal::KingsTouch => "the kings stand side by side",
+            Refusal::OtherInCheck => "the side that is not to move is in check",
+            Refusal::TableLength => "the table has not 59,136 bytes, or the pocket not 14,784",
+            Refusal::NumberTooHigh => "no position has so high a number; the last is 59,135",
+            Refusal::NumberUnused => "no position has this number",
+            Refusal::TooDeep => "a mate takes more than 253 plies, which no table can say",
             Refusal::Inconsistent => {
-                "the byte is not what the successors' bytes require, or the pocket's entry is 0"
+                "the table does not fit the positions that the moves lead to, or the pocket has no \
+                 entry: it is another ending's, or damaged"
             }
-            Refusal::BadLine => "line of the wrong shape",
-            Refusal::BadCheck => "check digits of a typed number wrong",
-            Refusal::WrongSet => "not a right set, or not as long as the endings need",
-            Refusal::NotInSet => "the ending is not in the set",
-            Refusal::TooManyPlies => "more than 6 plies asked for",
-            Refusal::TooManyQuiet => "more than 99 plies since the last capture",
+            Refusal::BadLine => "not a line of the desk",
+            Refusal::BadCheck => "the check digits are wrong: a digit is mistyped",
+            Refusal::WrongSet => "not a right set of tables, or not as long as its endings need",
+            Refusal::NotInSet => "there is no table of this ending here",
+            Refusal::TooManyPlies => "a second opinion goes 6 plies deep at most",
+            Refusal::TooManyQuiet => "at most 99 plies since the last capture can be keyed",
         }
     }
 }

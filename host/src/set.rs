@@ -1,6 +1,7 @@
 //! One set of bytes for the tables of several endings.
 
 use std::borrow::Cow;
+use std::fmt;
 
 use crate::{entry, Answer, Man, Position, Refusal, TABLE_BYTES};
 
@@ -44,6 +45,14 @@ impl FromIterator<Man> for Choice {
 /// own or lent to it.
 #[derive(Clone, PartialEq, Eq)]
 pub struct Set<'a>(Cow<'a, [u8]>);
+
+/// `a set of queen, rook`: the bytes would fill pages.
+impl fmt::Debug for Set<'_> {
+    fn fmt(&self, out: &mut fmt::Formatter) -> fmt::Result {
+        let men: Vec<String> = self.choice().men().map(|man| man.to_string()).collect();
+        write!(out, "a set of {}", if men.is_empty() { "none".into() } else { men.join(", ") })
+    }
+}
 
 impl<'a> Set<'a> {
     /// A set from elsewhere, as a file's bytes: a `Vec<u8>` becomes the set's own, a `&[u8]` is

@@ -3,6 +3,8 @@
 use std::fmt;
 use std::str::FromStr;
 
+use crate::parse::{NotRead, SQUARE};
+
 /// A square of the board: 8 x rank + file, a1 is 0 and h8 is 63.
 #[derive(Clone, Copy, PartialEq, Eq, PartialOrd, Ord, Hash, Debug)]
 pub struct Square(u8);
@@ -41,27 +43,15 @@ impl fmt::Display for Square {
     }
 }
 
-/// Text that names no square.
-#[derive(Clone, PartialEq, Eq, Debug)]
-pub struct NoSquare(String);
-
-impl fmt::Display for NoSquare {
-    fn fmt(&self, out: &mut fmt::Formatter) -> fmt::Result {
-        write!(out, "{:?} is not a square: give a1 to h8", self.0)
-    }
-}
-
-impl std::error::Error for NoSquare {}
-
 impl FromStr for Square {
-    type Err = NoSquare;
+    type Err = NotRead;
 
-    fn from_str(text: &str) -> Result<Square, NoSquare> {
+    fn from_str(text: &str) -> Result<Square, NotRead> {
         match text.as_bytes() {
             &[file @ b'a'..=b'h', rank @ b'1'..=b'8'] => {
                 Ok(Square(8 * (rank - b'1') + (file - b'a')))
             }
-            _ => Err(NoSquare(text.to_string())),
+            _ => Err(NotRead::of(SQUARE, text)),
         }
     }
 }

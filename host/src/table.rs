@@ -1,6 +1,8 @@
 //! Tables.
 
-use crate::{entry, Answer, Checked, Keyed, Man, Marked, Position, Refusal, Side, Square};
+use std::fmt;
+
+use crate::{entry, Answer, Checked, Keyed, Man, Marked, Position, Refusal};
 
 /// Bytes of a table, one a number.
 pub const TABLE_BYTES: usize = 59_136;
@@ -43,12 +45,11 @@ impl Table {
         }
     }
 
-    /// The table as one that checking accepts for an ending, or itself and the lowest wrong
-    /// number.
-    pub fn accept(self, man: Man) -> Result<Accepted, (Table, u32)> {
+    /// The table as one that checking accepts for an ending.
+    pub fn accept(self, man: Man) -> Result<Accepted, NotAccepted> {
         match self.check(man) {
             Checked::Accepted => Ok(Accepted { man, table: self }),
-            Checked::Wrong(number) => Err((self, number)),
+            Checked::Wrong(number) => Err(NotAccepted { man, number, table: self }),
         }
     }
 
@@ -74,15 +75,51 @@ impl Table {
     }
 }
 
+/// `a table of 59136 bytes`: they would fill pages.
+impl fmt::Debug for Table {
+    fn fmt(&self, out: &mut fmt::Formatter) -> fmt::Result {
+        write!(out, "a table of {TABLE_BYTES} bytes")
+    }
+}
+
+/// A table that checking does not accept, given back with what is wrong.
+#[derive(Clone, PartialEq, Eq, Debug)]
+pub struct NotAccepted {
+    /// The man whose ending was asked for.
+    pub man: Man,
+    /// The lowest number whose byte is wrong.
+    pub number: u32,
+    /// The table as it was.
+    pub table: Table,
+}
+
+impl fmt::Display for NotAccepted {
+    fn fmt(&self, out: &mut fmt::Formatter) -> fmt::Result {
+        write!(out, "not the {}'s table: number {} is wrong", self.man, self.number)
+    }
+}
+
+impl std::error::Error for NotAccepted {}
+
 /// A table that checking accepted for an ending and that nobody writes to from then on: what the
 /// theorem about games asks of the table. Every legal position of the ending has an answer.
-#[derive(Clone, PartialEq, Eq)]
+#[derive(Clone, PartialEq, Eq, Debug)]
 pub struct Accepted {
     man: Man,
     table: Table,
 }
 
 impl Accepted {
+    /// The true table of an ending, filled and then checked. Refusal 10, which none of the four
+    /// endings is given.
+    pub fn filled(man: Man) -> Result<Accepted, Refusal> {
+        match Table::filled(man)?.accept(man) {
+            Ok(accepted) => Ok(accepted),
+            // What filling writes is the one table that checking accepts.
+            Err(wrong) => unreachable!("checking a filled table: {wrong}"),
+        }
+    }
+
     /// The ending's man.
     pub fn man(&self) -> Man {
         self.man
@@ -94,16 +131,20 @@ impl Accepted {
     }
 
     /// The true value and depth of a position of the ending, and a move; the man is of either
-    /// side. Refusals 4, 5, 6.
-    pub fn look_up(
-        &self,
-        owner: Side,
-        side: Side,
-        white_king: Square,
-        man_square: Square,
-        black_king: Square,
-    ) -> Result<Answer, Refusal> {
-        let man = self.man;
-        self.table.look_up(Position { man, owner, side, white_king, man_square, black_king })
+    /// side. Refusals 4, 5, 6, and 15 where the man is another one.
+    pub fn look_up(&self, position: Position) -> Result<Answer, Refusal> {
+        if position.man != self.man {
+            return Err(Refusal::NotInSet);
+        }
+        self.table.look_up(position)
+    }
+
+    /// The same with the plies since the last capture, and whether a win or a loss comes before a
+    /// fifty-move claim; 19 for more than 99 plies.
+    pub fn look_up_at(&self, position: Position, plies: u32) -> Result<Marked, Refusal> {
+        if position.man != self.man {
+            return Err(Refusal::NotInSet);
+        }
+        self.table.look_up_at(position, plies)
     }
 }

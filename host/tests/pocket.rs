@@ -10,7 +10,7 @@ const DIRT: u8 = 165;
 
 fn accepted(man: Man) -> Accepted {
     let table = Table::filled(man).unwrap();
-    table.accept(man).unwrap_or_else(|(_, number)| panic!("{man}: wrong at {number}"))
+    table.accept(man).unwrap_or_else(|wrong| panic!("{wrong}"))
 }
 
 #[test]

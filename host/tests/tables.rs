@@ -17,7 +17,7 @@ fn accepted(man: Man) -> Accepted {
     let mut table = Table::zeroed();
     table.bytes_mut().fill(165);
     assert_eq!(table.fill(man), Ok(published(man)), "{man}");
-    table.accept(man).unwrap_or_else(|(_, number)| panic!("{man}: wrong at {number}"))
+    table.accept(man).unwrap_or_else(|wrong| panic!("{wrong}"))
 }
 
 /// The position after a move, or none if the man is taken.
@@ -89,12 +89,11 @@ fn judge_all(man: Man) -> usize {
         };
         for position in [position, exchanged(position)] {
             assert_eq!(position.number(), Ok(number as u32));
-            let Position { owner, side, white_king, man_square, black_king, .. } = position;
-            match accepted.look_up(owner, side, white_king, man_square, black_king) {
+            match accepted.look_up(position) {
                 Ok(answer) => {
                     assert_eq!(answer.value(), value_of(byte), "{position}");
                     judge(table, position, answer);
-                    legal += (owner == Side::White) as usize;
+                    legal += (position.owner == Side::White) as usize;
                 }
                 Err(refusal) => {
                     assert_eq!((refusal, byte), (Refusal::OtherInCheck, 0), "{position}")
@@ -144,8 +143,18 @@ fn the_lowest_wrong_number_is_named() {
     assert_eq!(table.check(Man::Queen), Checked::Wrong(59_128));
     table.bytes_mut()[2056] = 255;
     assert_eq!(table.check(Man::Queen), Checked::Wrong(2056));
-    let (table, number) = table.accept(Man::Queen).err().unwrap();
-    assert_eq!((number, table.bytes()[2056]), (2056, 255));
-    let copy = Table::from_bytes(table.bytes()).unwrap();
-    assert!(copy == table);
+    let wrong = table.accept(Man::Queen).unwrap_err();
+    assert_eq!((wrong.man, wrong.number, wrong.table.bytes()[2056]), (Man::Queen, 2056, 255));
+    assert_eq!(wrong.to_string(), "not the queen's table: number 2056 is wrong");
+    assert_eq!(Table::from_bytes(wrong.table.bytes()), Ok(wrong.table));
+}
+
+#[test]
+fn a_filled_table_is_accepted_and_knows_its_ending() {
+    let queen = Accepted::filled(Man::Queen).unwrap();
+    assert_eq!(queen.man(), Man::Queen);
+    let found = queen.look_up("Q w b3 h2 a1".parse().unwrap()).unwrap();
+    assert_eq!(found.to_string(), "win 1 h2a2");
+    let other = queen.look_up("R w b3 h2 a1".parse().unwrap());
+    assert_eq!(other, Err(Refusal::NotInSet));
 }

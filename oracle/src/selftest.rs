@@ -57,25 +57,26 @@ pub fn every_keyed(man: Man) -> impl Iterator<Item = Keyed> {
     SIDES.into_iter().flat_map(move |colour| every_keyed_of(man, colour))
 }
 
+const LISTS: [&[Test]; 12] = [
+    tests_board::TESTS,
+    tests_number::TESTS,
+    tests_table::TESTS,
+    tests_steps::TESTS,
+    tests_turns::TESTS,
+    tests_games::TESTS,
+    tests_fifty::TESTS,
+    tests_pocket::TESTS,
+    tests_check_digits::TESTS,
+    tests_set::TESTS,
+    tests_search::TESTS,
+    tests_desk::TESTS,
+];
+
 /// Runs all tests; a fault makes the program end with status 1.
 pub fn run(output: &mut impl Write) -> Done {
     let truth = Truth::new();
     let (mut passed, mut failed) = (0, 0);
-    let lists = [
-        tests_board::TESTS,
-        tests_number::TESTS,
-        tests_table::TESTS,
-        tests_steps::TESTS,
-        tests_turns::TESTS,
-        tests_games::TESTS,
-        tests_fifty::TESTS,
-        tests_pocket::TESTS,
-        tests_check_digits::TESTS,
-        tests_set::TESTS,
-        tests_search::TESTS,
-        tests_desk::TESTS,
-    ];
-    for &(name, test) in lists.into_iter().flatten() {
+    for &(name, test) in LISTS.into_iter().flatten() {
         match test(&truth) {
             Ok(()) => {
                 passed += 1;
@@ -94,5 +95,19 @@ pub fn run(output: &mut impl Write) -> Done {
         Ok(())
     } else {
         Err(Failure::Fault)
+    }
+}
+
+#[cfg(test)]
+mod tests {
+    use super::*;
+
+    /// `cargo test` runs what `oracle selftest` runs.
+    #[test]
+    fn selftest() {
+        let truth = Truth::new();
+        for &(name, test) in LISTS.into_iter().flatten() {
+            assert_eq!(test(&truth), Ok(()), "{name}");
+        }
     }
 }

@@ -1,0 +1,210 @@
+//! A position from FEN or from a line of the desk.
+
+use sledgewren::{entry, Desk, Keyed, KeyedMan, Man, Position, Refusal, Side, Square};
+
+use crate::failure::Failure;
+
+/// A position that was read, and what of its text is not considered.
+pub struct Read {
+    pub position: Position,
+    pub notes: Vec<String>,
+}
+
+fn refused(refusal: Refusal, words: &str) -> Failure {
+    Failure::Refused(format!("{refusal}: {words}"))
+}
+
+/// FEN has slashes; all else is a line of the desk.
+pub fn read(text: &str) -> Result<Read, Failure> {
+    if text.contains('/') {
+        from_fen(text)
+    } else {
+        Ok(Read { position: from_line(text)?, notes: Vec::new() })
+    }
+}
+
+/// What people meet behind refusal 12.
+fn cause(line: &str) -> Option<&'static str> {
+    let number = line.split_once("# ").is_some_and(|(_, digits)| digits.len() < 7);
+    [
+        (line.contains('\r'), "the line ends in CR LF"),
+        (line.contains('\t'), "there is a tab; one blank stands between two words"),
+        (line.contains("  "), "there are two blanks; one stands between two words"),
+        (line.starts_with(' ') || line.ends_with(' '), "there is a blank at the start or the end"),
+        (number, "the number has not its five digits and two check digits"),
+        (line.trim().is_empty(), "the line is empty"),
+    ]
+    .into_iter()
+    .find_map(|(is, words)| is.then_some(words))
+}
+
+/// The desk itself tells what a line is: a refusal, the position of a number, or a value.
+fn from_line(line: &str) -> Result<Position, Failure> {
+    let slip = Desk::new().answer(line.as_bytes()).text().to_string();
+    if let Some(code) = slip.strip_prefix("refused ").and_then(|code| code.parse().ok()) {
+        let refusal = Refusal::from_code(code);
+        let words = refusal.map_or(slip, |refusal| refusal.to_string());
+        let cause = cause(line).filter(|_| refusal == Some(Refusal::BadLine));
+        let why = cause.map_or(String::new(), |cause| format!(": {cause}"));
+        return Err(Failure::Refused(words + &why));
+    }
+    let keyed = match line.split_once(" # ") {
+        Some((man, _)) => format!("{man} {slip}"),
+        None => line.to_string(),
+    };
+    keyed.parse().map_err(|wrong| Failure::Refused(format!("{wrong}")))
+}
+
+/// What stands on the board, rank by rank from the eighth.
+fn placed(text: &str) -> Result<Vec<(char, Square)>, Failure> {
+    let wrong = |words: String| Failure::Refused(format!("not FEN: {words}"));
+    let ranks: Vec<&str> = text.split('/').collect();
+    if ranks.len() != 8 {
+        return Err(wrong(format!("{} ranks, and a board has 8", ranks.len())));
+    }
+    let mut found = Vec::new();
+    for (row, rank) in ranks.iter().enumerate() {
+        let mut file = 0;
+        for letter in rank.chars() {
+            match letter {
+                '1'..='8' => file += letter as usize - '0' as usize,
+                'K' | 'Q' | 'R' | 'B' | 'N' | 'P' | 'k' | 'q' | 'r' | 'b' | 'n' | 'p' => {
+                    let code = 8 * (7 - row) + file;
+                    let square = (file < 8).then(|| Square::from_code(code as u8)).flatten();
+                    found
+                        .push((letter, square.ok_or(wrong(format!("rank {rank:?} is too long")))?));
+                    file += 1;
+                }
+                _ => return Err(wrong(format!("{letter:?} is no piece and no count"))),
+            }
+        }
+        if file != 8 {
+            return Err(wrong(format!("rank {rank:?} has {file} squares")));
+        }
+    }
+    Ok(found)
+}
+
+/// The square of the one king with this letter.
+fn king(found: &[(char, Square)], letter: char, name: &str) -> Result<Square, Failure> {
+    let squares: Vec<Square> =
+        found.iter().filter(|(piece, _)| *piece == letter).map(|(_, square)| *square).collect();
+    match squares[..] {
+        [square] => Ok(square),
+        _ => Err(Failure::Refused(format!("{} {name} kings, and there is one", squares.len()))),
+    }
+}
+
+/// The man and his owner of a letter; none for a pawn.
+fn man_of(letter: char) -> Option<(Man, Side)> {
+    let owner = if letter.is_ascii_uppercase() { Side::White } else { Side::Black };
+    Man::ALL.into_iter().find(|man| man.letter_of(owner) == letter).map(|man| (man, owner))
+}
+
+/// The library's own refusal of no man, or of two men.
+fn other_count(side: Side, kings: [Square; 2], men: &[(char, Square)]) -> Failure {
+    let listed: Vec<String> = men.iter().map(|(letter, at)| format!("{letter}{at}")).collect();
+    let words = if men.is_empty() {
+        "there is none".to_string()
+    } else {
+        format!("there are {}: {}", men.len(), listed.join(" "))
+    };
+    let keyed_man = |place: usize| {
+        let (letter, at) = *men.get(place)?;
+        let (man, owner) = man_of(letter)?;
+        Some(KeyedMan { kind: man.code(), colour: owner.code(), square: at.code() })
+    };
+    let [white_king, black_king] = kings.map(Square::code);
+    let men = [keyed_man(0), keyed_man(1)];
+    let keyed = Keyed { side: side.code(), white_king, black_king, men };
+    refused(entry::number(keyed).err().unwrap_or(Refusal::BadMan), &words)
+}
+
+/// Castling and en passant would change what may be played, so they are refused; clocks would
+/// not, and are named as not considered.
+fn extras(fields: &[&str]) -> Result<Vec<String>, Failure> {
+    if let Some(castling) = fields.first().filter(|castling| **castling != "-") {
+        let words = "not ruled: FEN gives castling rights";
+        let advice = "the tables know no castling; write - if nobody may castle";
+        return Err(Failure::Refused(format!("{words} ({castling}), and {advice}")));
+    }
+    if let Some(square) = fields.get(1).filter(|square| **square != "-") {
+        let words = "not ruled: FEN gives an en-passant square";
+        return Err(Failure::Refused(format!("{words} ({square}), and there are no pawns")));
+    }
+    let mut notes = Vec::new();
+    for (place, name) in [(2, "halfmove clock"), (3, "move number")] {
+        let Some(text) = fields.get(place) else { continue };
+        let number: u32 = text
+            .parse()
+            .map_err(|_| Failure::Refused(format!("not FEN: the {name} {text:?} is no number")))?;
+        if place == 2 && number > 0 {
+            notes.push(format!("the halfmove clock ({number}) and the fifty-move rule"));
+        }
+    }
+    if fields.len() > 4 {
+        return Err(Failure::Refused("not FEN: more than six fields".into()));
+    }
+    Ok(notes)
+}
+
+fn from_fen(text: &str) -> Result<Read, Failure> {
+    let fields: Vec<&str> = text.split(' ').collect();
+    let [board, side, rest @ ..] = &fields[..] else {
+        return Err(Failure::Refused("not FEN: the side to move is missing".into()));
+    };
+    let found = placed(board)?;
+    let side: Side = side.parse().map_err(|wrong| Failure::Refused(format!("not FEN: {wrong}")))?;
+    let (white_king, black_king) = (king(&found, 'K', "white")?, king(&found, 'k', "black")?);
+    let men: Vec<(char, Square)> =
+        found.into_iter().filter(|(piece, _)| !matches!(piece, 'K' | 'k')).collect();
+    let [(letter, man_square)] = men[..] else {
+        return Err(other_count(side, [white_king, black_king], &men));
+    };
+    let (man, owner) = man_of(letter)
+        .ok_or_else(|| refused(Refusal::BadMan, &format!("there is a pawn on {man_square}")))?;
+    let notes = extras(rest)?;
+    Ok(Read { position: Position { man, owner, side, white_king, man_square, black_king }, notes })
+}
+
+/// The position as FEN, with no clocks run.
+pub fn written(position: Position) -> String {
+    let mut text = String::new();
+    for rank in (0..8).rev() {
+        let mut empty = 0;
+        for file in 0..8 {
+            let square = Square::from_code(8 * rank + file);
+            match square.and_then(|square| crate::board::on(position, square)) {
+                Some(letter) => {
+                    if empty > 0 {
+                        text += &empty.to_string();
+                    }
+                    text.push(letter);
+                    empty = 0;
+                }
+                None => empty += 1,
+            }
+        }
+        if empty > 0 {
+            text += &empty.to_string();
+        }
+        if rank > 0 {
+            text.push('/');
+        }
+    }
+    format!("{text} {} - - 0 1", position.side.letter())
+}
+
+#[cfg(test)]
+mod tests {
+    use super::*;
+
+    #[test]
+    fn fen_comes_back() {
+        for line in ["Q w b3 h2 a1", "q b a1 h2 b3", "N w h8 a8 d4", "r b e4 e5 a1"] {
+            let position: Position = line.parse().unwrap();
+            let read = from_fen(&written(position)).ok().unwrap();
+            assert_eq!((read.position, read.notes.len()), (position, 0));
+        }
+    }
+}

@@ -1,0 +1,46 @@
+//! The oracle: an independent second program for two kings and one man, as a library for the
+//! programs that call it and the proved library in one process.
+
+pub mod board;
+pub mod cases;
+pub mod check_digits;
+pub mod commands;
+pub mod commands_pocket;
+pub mod commands_search;
+pub mod commands_set;
+pub mod commands_steps;
+pub mod counts;
+pub mod desk;
+pub mod failure;
+pub mod fifty;
+pub mod fill;
+pub mod fill_back;
+pub mod fill_every;
+pub mod index;
+pub mod lines;
+pub mod number;
+pub mod plain;
+pub mod pocket;
+pub mod position;
+pub mod retract;
+pub mod rule;
+pub mod rules;
+pub mod samples;
+pub mod search;
+pub mod selftest;
+pub mod set;
+pub mod steps;
+pub mod symmetry;
+pub mod table;
+pub mod tests_board;
+pub mod tests_check_digits;
+pub mod tests_desk;
+pub mod tests_fifty;
+pub mod tests_games;
+pub mod tests_number;
+pub mod tests_pocket;
+pub mod tests_search;
+pub mod tests_set;
+pub mod tests_steps;
+pub mod tests_table;
+pub mod tests_turns;

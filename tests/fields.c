@@ -1,0 +1,135 @@
+/*
+ * Every field by its name, beside the same bits taken by hand, on answers of the library and on
+ * words of all ones and mixed bits. It compiles as C99 and as C++.
+ */
+
+#include <stdio.h>
+#include <string.h>
+
+#include "sledgewren.h"
+
+static uint8_t table[SLEDGEWREN_TABLE_BYTES];
+static uint8_t pocket[SLEDGEWREN_POCKET_BYTES];
+static int wrong = 0;
+
+static void same(const char *what, uint64_t found, uint64_t expected)
+{
+    if (found != expected) {
+        printf("%s: %llx, not %llx\n", what, (unsigned long long)found, (unsigned long long)expected);
+        wrong++;
+    }
+}
+
+#define BITS(word, first, count) ((word) >> (first) & (((uint64_t)1 << (count)) - 1))
+#define FIELD(name, word, first, count) same(#name, (uint64_t)name(word), BITS((uint64_t)(word), first, count))
+
+static void words_of_64(uint64_t word)
+{
+    int place;
+
+    FIELD(sledgewren_position_refusal, word, 0, 8);
+    FIELD(sledgewren_position_side, word, 8, 8);
+    FIELD(sledgewren_position_white, word, 16, 8);
+    FIELD(sledgewren_position_square, word, 24, 8);
+    FIELD(sledgewren_position_black, word, 32, 8);
+    FIELD(sledgewren_written_refusal, word, 0, 8);
+    for (place = 0; place < SLEDGEWREN_TYPED_DIGITS; place++)
+        same("digit", (uint8_t)sledgewren_written_digit(word, place), BITS(word, 8 + 8 * place, 8));
+    FIELD(sledgewren_step_refusal, word, 0, 8);
+    FIELD(sledgewren_step_settled, word, 8, 24);
+    FIELD(sledgewren_step_progress, word, 32, 32);
+    FIELD(sledgewren_checked_refusal, word, 0, 8);
+    FIELD(sledgewren_checked_is_wrong, word, 8, 1);
+    FIELD(sledgewren_checked_number, word, 32, 32);
+    FIELD(sledgewren_answer_refusal, word, 0, 8);
+    FIELD(sledgewren_answer_value, word, 8, 8);
+    FIELD(sledgewren_answer_depth, word, 16, 8);
+    FIELD(sledgewren_answer_has_move, word, 24, 1);
+    FIELD(sledgewren_answer_within_fifty, word, 25, 1);
+    FIELD(sledgewren_answer_from, word, 32, 8);
+    FIELD(sledgewren_answer_to, word, 40, 8);
+    FIELD(sledgewren_answer_takes, word, 48, 1);
+    FIELD(sledgewren_tallies_none, word, 0, 16);
+    FIELD(sledgewren_tallies_draws, word, 16, 16);
+    FIELD(sledgewren_tallies_wins, word, 32, 16);
+    FIELD(sledgewren_tallies_losses, word, 48, 16);
+    FIELD(sledgewren_found_refusal, word, 0, 8);
+    FIELD(sledgewren_found_length, word, 8, 24);
+    FIELD(sledgewren_found_offset, word, 32, 32);
+}
+
+static void words_of_32(uint32_t word)
+{
+    FIELD(sledgewren_count_refusal, word, 0, 8);
+    FIELD(sledgewren_count_moves, word, 8, 8);
+    FIELD(sledgewren_filled_refusal, word, 0, 8);
+    FIELD(sledgewren_filled_is_decided, word, 8, 1);
+    FIELD(sledgewren_filled_depth, word, 16, 8);
+    FIELD(sledgewren_progress_stage, word, 0, 8);
+    FIELD(sledgewren_progress_depth, word, 8, 16);
+    FIELD(sledgewren_progress_last, word, 24, 8);
+    FIELD(sledgewren_opinion_refusal, word, 0, 8);
+    FIELD(sledgewren_opinion_value, word, 8, 8);
+    FIELD(sledgewren_opinion_depth, word, 16, 8);
+    FIELD(sledgewren_slip_length, word, 0, 8);
+    FIELD(sledgewren_slip_held, word, 8, 8);
+    FIELD(sledgewren_told_refusal, word, 0, 8);
+    FIELD(sledgewren_told_value, word, 8, 8);
+    FIELD(sledgewren_man_kind, word, 0, 8);
+    FIELD(sledgewren_man_colour, word, 8, 8);
+    FIELD(sledgewren_man_square, word, 16, 8);
+}
+
+/* The library's own answers: 01's mate in one, Kb3 Qh2 against Ka1. */
+static void answers(void)
+{
+    uint32_t queen = SLEDGEWREN_A_MAN(SLEDGEWREN_QUEEN, SLEDGEWREN_WHITE, 15);
+    uint8_t moves[SLEDGEWREN_MOVES_BYTES], slip[SLEDGEWREN_SLIP_BYTES];
+    uint8_t set[SLEDGEWREN_SET_BYTES(0)];
+    uint64_t answer;
+    uint32_t count;
+
+    same("filled", sledgewren_filled_depth(sledgewren_fill(SLEDGEWREN_QUEEN, table, sizeof table)), 20);
+    same("accepted", sledgewren_check(SLEDGEWREN_QUEEN, table, sizeof table), 0);
+    answer = sledgewren_look_up(table, sizeof table, 0, 17, 0, queen, SLEDGEWREN_ABSENT, 0);
+    same("value", sledgewren_answer_value(answer), SLEDGEWREN_WIN);
+    same("from", sledgewren_answer_from(answer), 15);
+    same("to", sledgewren_answer_to(answer), 8);
+    count = sledgewren_moves(0, 17, 0, queen, SLEDGEWREN_ABSENT, moves, sizeof moves);
+    same("moves", sledgewren_count_moves(count), sledgewren_count_moves(
+        sledgewren_count(0, 17, 0, queen, SLEDGEWREN_ABSENT)));
+    same("first from", sledgewren_move_from(moves, 0), 15);
+    same("first takes", (uint64_t)sledgewren_move_takes(moves, 0), 0);
+    same("second to", sledgewren_move_to(moves, 1), moves[5]);
+    same("number", sledgewren_number_refusal(sledgewren_number(0, 17, 0, queen, 0)), 0);
+    same("touch", sledgewren_number_refusal(sledgewren_number(0, 9, 0, queen, 0)), SLEDGEWREN_KINGS_TOUCH);
+    same("absent", (uint64_t)sledgewren_man_is_there(SLEDGEWREN_ABSENT), 0);
+    same("there", (uint64_t)sledgewren_man_is_there(queen), 1);
+    same("packed", sledgewren_pack(table, sizeof table, pocket, sizeof pocket), 0);
+    same("tallied", sledgewren_tallies_refusal(sledgewren_tallies(pocket, sizeof pocket)), 0);
+    same("length", sledgewren_tallies_refusal(sledgewren_tallies(pocket, 1)), SLEDGEWREN_TABLE_LENGTH);
+    same("opinion", sledgewren_opinion_depth(sledgewren_second_opinion(0, 17, 0, queen, 0, 6)), 1);
+    same("told", sledgewren_told_value(sledgewren_pocket_look_up(pocket, sizeof pocket, 0, 17, 0, queen, 0)),
+         SLEDGEWREN_WIN);
+    count = sledgewren_answer_line((const uint8_t *)"Q w b3 h2 a1", 12, SLEDGEWREN_QUEEN, table,
+                                   sizeof table, slip, sizeof slip);
+    same("slip", sledgewren_slip_length(count), 11);
+    same("held", sledgewren_slip_held(count), SLEDGEWREN_QUEEN);
+    same("set", sledgewren_set_start(0, 0, 0, 0, set, sizeof set), 0);
+    same("not in set", sledgewren_found_refusal(sledgewren_set_find(set, sizeof set, 0)), SLEDGEWREN_NOT_IN_SET);
+    same("version", (uint64_t)strcmp(sledgewren_version(), SLEDGEWREN_VERSION), 0);
+}
+
+int main(void)
+{
+    static const uint64_t words[] = {0, 1, 7, 0x0123456789ABCDEFu, 0xFEDCBA9876543210u, UINT64_MAX};
+    size_t i;
+
+    for (i = 0; i < sizeof words / sizeof words[0]; i++) {
+        words_of_64(words[i]);
+        words_of_32((uint32_t)words[i]);
+    }
+    answers();
+    printf("%d fields wrong\n", wrong);
+    return wrong != 0;
+}
