@@ -98,6 +98,19 @@ fn slot_rank_reversed(slot: Slot) -> Slot
     }
 }
 
+fn slot_reversed(files: bool, ranks: bool, slot: Slot) -> Slot
+    ensures { λ r. ⌜ r ≡ mappedSlot (reversals files ranks) slot ⌝ }
+{
+    match slot {
+        Slot::Absent => Slot::Absent,
+        Slot::Present(m) => Slot::Present(Piece {
+            kind: m.kind,
+            colour: m.colour,
+            square: reversed(files, ranks, m.square),
+        }),
+    }
+}
+
 fn slot_transposed(slot: Slot) -> Slot
     ensures { λ r. ⌜ r ≡ mappedSlot exchange slot ⌝ }
 {
@@ -184,17 +197,17 @@ impl Position {
         ensures { λ r. ⌜ r ≡ mappedPosition (turn (self .«white_king»)) self ⌝ }
     {
         let white = self.white_king;
-        if 3 < white % 8 {
-            let p = self.files_reversed();
-            if 3 < white / 8 {
-                return p.ranks_reversed();
-            }
-            return p;
+        let first = self.first;
+        let second = self.second;
+        let files = 3 < white % 8;
+        let ranks = 3 < white / 8;
+        Position {
+            side: self.side,
+            white_king: reversed(files, ranks, white),
+            black_king: reversed(files, ranks, self.black_king),
+            first: slot_reversed(files, ranks, first),
+            second: slot_reversed(files, ranks, second),
         }
-        if 3 < white / 8 {
-            return self.ranks_reversed();
-        }
-        self
     }
 
     // Whether file and rank are to be exchanged, once the white king is there.

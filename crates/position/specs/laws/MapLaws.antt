@@ -71,12 +71,6 @@ maps-twice m n p =
     position-eq (p .side) (mapped-composed m n (p .«white_king»)) (mapped-composed m n (p .«black_king»))
     (slot-twice m n (p .first)) (slot-twice m n (p .second))
 
-pub half-turn : (p : Position)
-    → mappedPosition ranksReversed (mappedPosition filesReversed p)
-    ≡ mappedPosition (record { files = true; ranks = true; swap = false }) p
-unfolding composed xor
-half-turn p = maps-twice filesReversed ranksReversed p
-
 -- a map that does nothing
 pub still : (s : ℕ) → mapped (swapping false) s ≡ s
 still s = stays-diagonal false s (λ t. absurd t)
@@ -89,12 +83,6 @@ pub unmoved : (p : Position) → mappedPosition (swapping false) p ≡ p
 unfolding mappedPosition
 unmoved p = position-eq (p .side) (still (p .«white_king»)) (still (p .«black_king»)) (slot-unmoved (p .first))
     (slot-unmoved (p .second))
-
--- the reversals that the white king calls for
-pub turned-by : (p : Position) (f r : Bool) → ltb 3 (p .«white_king» % 8) ≡ f → ltb 3 (p .«white_king» / 8) ≡ r
-    → mappedPosition (record { files = f; ranks = r; swap = false }) p ≡ mappedPosition (turn (p .«white_king»)) p
-unfolding turn
-turned-by p f r a b = rw (a, b)
 
 -- the reversals, and then the exchange where it is called for
 pub normal-by : (p q : Position) (e : Bool) → q ≡ mappedPosition (turn (p .«white_king»)) p → e ≡ swaps (boardOf q)
