@@ -254,8 +254,9 @@ uint64_t sledgewren_check(uint8_t man, const uint8_t *table, size_t len);
 
 /*
  * A position's value, its depth in plies and a move, from the table of its ending. There is no
- * move at checkmate and stalemate, and the depth of a draw is 0. Refusals 1 to 7 and 11, and after
- * them 19 where `plies` is above SLEDGEWREN_MOST_QUIET.
+ * move at checkmate and stalemate, and the depth of a draw is 0. Of several best moves it is the
+ * first on the normalised board, carried back: a turned position has its move turned. Refusals
+ * 1 to 7 and 11, and after them 19 where `plies` is above SLEDGEWREN_MOST_QUIET.
  *   bits 0-7 refusal, 8-15 value, 16-23 depth, bit 24 a move is given, bit 25 within fifty,
  *   32-39 from, 40-47 to, bit 48 it takes a man
  * Bits 32-63 are the move's four bytes in sledgewren_moves' list, the lowest first.
