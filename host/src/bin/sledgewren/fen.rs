@@ -4,10 +4,10 @@ use sledgewren::{entry, Desk, Keyed, KeyedMan, Man, Position, Refusal, Side, Squ
 
 use crate::failure::Failure;
 
-/// A position that was read, and what of its text is not considered.
+/// A position that was read, and FEN's halfmove clock: the plies since the last capture.
 pub struct Read {
     pub position: Position,
-    pub notes: Vec<String>,
+    pub clock: Option<u32>,
 }
 
 fn refused(refusal: Refusal, words: &str) -> Failure {
@@ -19,7 +19,7 @@ pub fn read(text: &str) -> Result<Read, Failure> {
     if text.contains('/') {
         from_fen(text)
     } else {
-        Ok(Read { position: from_line(text)?, notes: Vec::new() })
+        Ok(Read { position: from_line(text)?, clock: None })
     }
 }
 
@@ -120,9 +120,9 @@ fn other_count(side: Side, kings: [Square; 2], men: &[(char, Square)]) -> Failur
     refused(entry::number(keyed).err().unwrap_or(Refusal::BadMan), &words)
 }
 
-/// Castling and en passant would change what may be played, so they are refused; clocks would
-/// not, and are named as not considered.
-fn extras(fields: &[&str]) -> Result<Vec<String>, Failure> {
+/// Castling and en passant would change what may be played, so they are refused. The halfmove
+/// clock is handed on.
+fn extras(fields: &[&str]) -> Result<Option<u32>, Failure> {
     if let Some(castling) = fields.first().filter(|castling| **castling != "-") {
         let words = "not ruled: FEN gives castling rights";
         let advice = "the tables know no castling; write - if nobody may castle";
@@ -132,20 +132,20 @@ fn extras(fields: &[&str]) -> Result<Vec<String>, Failure> {
         let words = "not ruled: FEN gives an en-passant square";
         return Err(Failure::Refused(format!("{words} ({square}), and there are no pawns")));
     }
-    let mut notes = Vec::new();
+    let mut clock = None;
     for (place, name) in [(2, "halfmove clock"), (3, "move number")] {
         let Some(text) = fields.get(place) else { continue };
         let number: u32 = text
             .parse()
             .map_err(|_| Failure::Refused(format!("not FEN: the {name} {text:?} is no number")))?;
-        if place == 2 && number > 0 {
-            notes.push(format!("the halfmove clock ({number}) and the fifty-move rule"));
+        if place == 2 {
+            clock = Some(number);
         }
     }
     if fields.len() > 4 {
         return Err(Failure::Refused("not FEN: more than six fields".into()));
     }
-    Ok(notes)
+    Ok(clock)
 }
 
 fn from_fen(text: &str) -> Result<Read, Failure> {
@@ -163,8 +163,8 @@ fn from_fen(text: &str) -> Result<Read, Failure> {
     };
     let (man, owner) = man_of(letter)
         .ok_or_else(|| refused(Refusal::BadMan, &format!("there is a pawn on {man_square}")))?;
-    let notes = extras(rest)?;
-    Ok(Read { position: Position { man, owner, side, white_king, man_square, black_king }, notes })
+    let clock = extras(rest)?;
+    Ok(Read { position: Position { man, owner, side, white_king, man_square, black_king }, clock })
 }
 
 /// The position as FEN, with no clocks run.
@@ -204,7 +204,7 @@ mod tests {
         for line in ["Q w b3 h2 a1", "q b a1 h2 b3", "N w h8 a8 d4", "r b e4 e5 a1"] {
             let position: Position = line.parse().unwrap();
             let read = from_fen(&written(position)).ok().unwrap();
-            assert_eq!((read.position, read.notes.len()), (position, 0));
+            assert_eq!((read.position, read.clock), (position, Some(0)));
         }
     }
 }

@@ -38,9 +38,10 @@ const PAGES: &[Page] = &[
              notation and in the desk's form, the line of best play to mate, the second opinion \
              of a search without tables (up to 6 plies), the desk's slip and the number.",
             "--svg FILE draws the board, with the move as an arrow.",
-            "FEN's castling rights and en-passant square are refused: the tables know neither. \
-             Clocks are not considered, and a clock that has run is named. A second man, a pawn \
-             or no man at all is refused.",
+            "FEN's castling rights and en-passant square are refused: the tables know neither. Its \
+             halfmove clock is the plies since the last capture: it is told whether a win or a \
+             loss comes before a claim by the fifty-move rule. A second man, a pawn or no man at \
+             all is refused.",
         ],
         examples: &[
             "sledgewren rule Q w b3 h2 a1",

@@ -2,7 +2,9 @@
 
 use std::io::Write;
 
-use sledgewren::{second_opinion, Accepted, Answer, Opinion, Position, Side, Value, MOST_PLIES};
+use sledgewren::{
+    second_opinion, Accepted, Answer, Opinion, Position, Refusal, Side, Value, MOST_PLIES,
+};
 
 use crate::failure::{Done, Failure};
 use crate::fen::{self, Read};
@@ -21,6 +23,16 @@ fn opinion(position: Position, answer: Answer) -> Result<String, Failure> {
         (Opinion::NotWithin, _) => format!("does not reach: it goes {MOST_PLIES} plies deep"),
         (found, _) => format!("{found}, the same"),
     })
+}
+
+/// What FEN's halfmove clock means for the answer.
+fn fifty(table: &Accepted, position: Position, clock: u32) -> Result<String, Failure> {
+    match table.look_up_at(position, clock) {
+        Ok(marked) if marked.answer.depth().is_none() => Ok("a draw, whatever the count".into()),
+        Ok(marked) => Ok(format!("{marked} ({clock})")),
+        Err(Refusal::TooManyQuiet) => Ok(format!("{}: {clock}", Refusal::TooManyQuiet)),
+        Err(refusal) => Err(refusal.into()),
+    }
 }
 
 /// `FILE` of `--svg`, and the position's text.
@@ -53,8 +65,8 @@ fn told(out: &mut dyn Write, read: &Read, table: &Accepted, answer: Answer) -> D
         Side::Black => ", which the exchange of colours keeps",
     };
     writeln!(out, "number:   {}, typed {}{whose}", typed.number(), typed.line(position.man))?;
-    for note in &read.notes {
-        writeln!(out, "not considered: {note}")?;
+    if let Some(clock) = read.clock {
+        writeln!(out, "fifty:    {}", fifty(table, position, clock)?)?;
     }
     Ok(())
 }
