@@ -2,3 +2,4 @@ pub mod Laws
 pub mod Quiet
 pub mod StepLaws
 pub mod StepsTrue
+pub mod Handed

@@ -4,7 +4,7 @@ use mathlib.Core.Path.{_≡_, refl, sym, ap, subst, _∙_}
 use mathlib.Core.Bool.{Bool, true, false, cond}
 use mathlib.Core.Logic.{_⊎_, inl, inr}
 use mathlib.Core.List.{List, [], _∷_, _++_}
-use mathlib.Core.Option.{none}
+use mathlib.Core.Option.{Option, none}
 use Prim.Native.Nat.{ℕ, _-_, _%_}
 use lib.Dec.{T, leb, eqb}
 use lib.ListN.{take}
@@ -29,7 +29,7 @@ use Rattle.endings.specs.Ending.{Lone, Ending, byteOf}
 use Rattle.endings.specs.laws.EndingDrawn.{ending-closed, bare-over, bare-drawn}
 use Rattle.endings.specs.Truth.{TrueAnswer}
 use Rattle.endings.specs.Answers.{checkOf, answerOf, chosen, lookUpOf}
-use Rattle.endings.specs.laws.Turning.{chosen-chooses}
+use Rattle.endings.specs.laws.Turning.{ending-carries, chosen-chooses}
 use Rattle.endings.specs.laws.LookingUp.{accepted-bytes, look-up-answers, look-up-true, over-none}
 use Rattle.endings.specs.GamePromise.{slotOf, others, keyed, given, moveOfAnswer, deskMove, Told, GamePromise}
 
@@ -65,7 +65,7 @@ keyed-one kind b l = go (b .men) (l .1 .1)
     go ms e = rw e
 
 -- the move of an answer is the one advised
-answer-move : (n : ℕ) (a : BestMove) → moveOfAnswer (answerOf n a) ≡ given a
+pub answer-move : (n : ℕ) (a : BestMove) → moveOfAnswer (answerOf n a) ≡ given a
 unfolding answerOf
 answer-move n a = go (leb n 1) (eqb (n % 2) 1)
   where
@@ -74,6 +74,20 @@ answer-move n a = go (leb n 1) (eqb (n % 2) 1)
     go true y = refl
     go false true = refl
     go false false = refl
+
+-- from what is promised of a value to what is promised of its name
+pub told-by : (bytes : Board → ℕ) (pick : Board → Option Move) (side : Bool) (b : Board) (ms : List Move) (a : Answer)
+    → TrueAnswer b a → Promised chess bytes pick side b ms → Told a side b ms
+told-by bytes pick side b ms a (TrueAnswer.won n m w f e) p =
+    subst (λ (c : Answer). Told c side b ms) (sym e) (p .won n w, p .won-other n w)
+told-by bytes pick side b ms a (TrueAnswer.lost n m w f e) p =
+    subst (λ (c : Answer). Told c side b ms) (sym e) (p .lost-other n w, p .lost n w)
+told-by bytes pick side b ms a (TrueAnswer.mate w o e) p =
+    subst (λ (c : Answer). Told c side b ms) (sym e) (p .lost-other 0 w, p .lost 0 w)
+told-by bytes pick side b ms a (TrueAnswer.drawn m w f e) p =
+    subst (λ (c : Answer). Told c side b ms) (sym e) (p .drawn w)
+told-by bytes pick side b ms a (TrueAnswer.stalemate w o e) p =
+    subst (λ (c : Answer). Told c side b ms) (sym e) (p .drawn w)
 
 module _ (kind : ℕ) (t : List ℕ) (ok : checkOf kind t ≡ Checked.Accepted) where
   keyed-standing : (b : Board) → Ending kind b → Lone kind b → standingRefusal (keyed b) ≡ 0
@@ -89,7 +103,7 @@ module _ (kind : ℕ) (t : List ℕ) (ok : checkOf kind t ≡ Checked.Accepted) 
   keyed-kind b l = ap manKind (keyed-one kind b l)
 
   -- the desk's move is the chosen one
-  desk-chosen : (b : Board) → Ending kind b → deskMove t b ≡ given (chosen (byteOf t) b)
+  pub desk-chosen : (b : Board) → Ending kind b → deskMove t b ≡ given (chosen (byteOf t) b)
   unfolding deskMove
   desk-chosen b d = go (d .men)
     where
@@ -97,7 +111,8 @@ module _ (kind : ℕ) (t : List ℕ) (ok : checkOf kind t ≡ Checked.Accepted) 
       Desk ms = cond (empty ms) none (moveOfAnswer (lookUpOf t (keyed b))) ≡ given (chosen (byteOf t) b)
 
       go : (b .men ≡ []) ⊎ Lone kind b → Desk (b .men)
-      go (inl e) = subst Desk (sym e) (sym (ap given (over-none kind t b d (bare-over b (d .legality) e))))
+      go (inl e) = subst Desk (sym e)
+          (sym (ap given (over-none (byteOf t) b (ending-carries kind t b d) (bare-over b (d .legality) e))))
       go (inr l) =
           subst Desk (sym (l .1 .1))
           (ap moveOfAnswer (look-up-answers kind t ok (keyed b) (keyed-kind b l) (keyed-standing b d l))
@@ -106,7 +121,7 @@ module _ (kind : ℕ) (t : List ℕ) (ok : checkOf kind t ≡ Checked.Accepted) 
 
   pub desk-chooses : Chooses chess (Ending kind) (byteOf t) (deskMove t)
   desk-chooses =
-      let rule = chosen-chooses kind t in
+      let rule = chosen-chooses (Ending kind) (byteOf t) (ending-carries kind t) in
       record {
         sound = λ b d m e. rule .sound b d m (sym (desk-chosen b d) ∙ e);
         total = λ b d m i s. let r = rule .total b d m i s in (r .0, desk-chosen b d ∙ r .1);
@@ -116,7 +131,7 @@ module _ (kind : ℕ) (t : List ℕ) (ok : checkOf kind t ≡ Checked.Accepted) 
   stays b [] d l = d
   stays b (m ∷ ms) d l = stays (played b m) ms (ending-closed kind b (played b m) d (map-in (played b) (l .0))) (l .1)
 
-  board-answer : (b : Board) → Ending kind b → empty (b .men) ≡ false → TrueAnswer b (lookUpOf t (keyed b))
+  pub board-answer : (b : Board) → Ending kind b → empty (b .men) ≡ false → TrueAnswer b (lookUpOf t (keyed b))
   board-answer b d e = go (d .men)
     where
       go : (b .men ≡ []) ⊎ Lone kind b → TrueAnswer b (lookUpOf t (keyed b))
@@ -125,24 +140,12 @@ module _ (kind : ℕ) (t : List ℕ) (ok : checkOf kind t ≡ Checked.Accepted) 
           subst (λ (c : Board). TrueAnswer c (lookUpOf t (keyed b))) (keyed-board kind b l)
           (look-up-true kind t ok (keyed b) (keyed-kind b l) (keyed-standing b d l))
 
-  -- from what is promised of a value to what is promised of its name
-  told-by : (side : Bool) (b : Board) (ms : List Move) (a : Answer) → TrueAnswer b a
-      → Promised chess (byteOf t) (deskMove t) side b ms → Told a side b ms
-  told-by side b ms a (TrueAnswer.won n m w f e) p =
-      subst (λ (c : Answer). Told c side b ms) (sym e) (p .won n w, p .won-other n w)
-  told-by side b ms a (TrueAnswer.lost n m w f e) p =
-      subst (λ (c : Answer). Told c side b ms) (sym e) (p .lost-other n w, p .lost n w)
-  told-by side b ms a (TrueAnswer.mate w o e) p =
-      subst (λ (c : Answer). Told c side b ms) (sym e) (p .lost-other 0 w, p .lost 0 w)
-  told-by side b ms a (TrueAnswer.drawn m w f e) p = subst (λ (c : Answer). Told c side b ms) (sym e) (p .drawn w)
-  told-by side b ms a (TrueAnswer.stalemate w o e) p = subst (λ (c : Answer). Told c side b ms) (sym e) (p .drawn w)
-
   -- The table is accepted for the ending; b is a legal board of it; ms is a game from b; the side plays the desk's moves in it.
   pub games : (b : Board) → T (legal b) → Lone kind b → (side : Bool) (ms : List Move) → LegalGame chess b ms
       → Follows chess (deskMove t) side b ms → GamePromise t side b ms
   games b l m side ms game follows = record {
     called = first-answer;
-    told = told-by side b ms (lookUpOf t (keyed b)) first-answer kept;
+    told = told-by (byteOf t) (deskMove t) side b ms (lookUpOf t (keyed b)) first-answer kept;
     answers = λ i h n. board-answer (atPly chess b ms i) (here i) n;
     bare = λ i h
         n. (bare-over (atPly chess b ms i) (here i .legality) n, bare-drawn (atPly chess b ms i) (here i .legality) n);

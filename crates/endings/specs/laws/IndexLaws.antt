@@ -37,7 +37,7 @@ first-apart : (e f g : Bool) → T (not (e || f) && g) → e ≡ false
 first-apart true f g t = absurd t
 first-apart false f g t = refl
 
-legal-kings : (b : Board) → T (legal b) → T (separate (b .white) (b .black))
+pub legal-kings : (b : Board) → T (legal b) → T (separate (b .white) (b .black))
 unfolding separate all apart any touching
 legal-kings b t =
     let l = legal-facts b t in

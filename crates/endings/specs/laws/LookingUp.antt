@@ -36,7 +36,7 @@ use Rattle.endings.specs.Truth.{First, Chosen, TrueAnswer}
 use Rattle.endings.specs.Answers.{checkOf, answerOf, chosen, lookUpOf}
 use Rattle.endings.specs.GamePromise.{given}
 use Rattle.endings.specs.laws.Checking.{byte-reads, keyed-ending, accepted-ending}
-use Rattle.endings.specs.laws.Turning.{turned-normal, normal-ending, byte-turned, given-some, chosen-first, chosen-suits, chosen-chooses}
+use Rattle.endings.specs.laws.Turning.{Carries, normal-ending, ending-carries, given-some, chosen-first, chosen-suits, chosen-chooses}
 
 -- ---- the answer of a true byte
 
@@ -74,53 +74,53 @@ module _ (b : Board) where
 
 -- ---- what suits the bytes is what is sought, where the bytes are true
 
-abbrev Seeks : List ℕ → (Board → Type 0) → Board → Type 0
-Seeks t Sought q = (v : Move) → v ∈ moves q → T (suits (byteOf t q) (byteOf t (played q v))) ↔ Sought (played q v)
+abbrev Seeks : (Board → ℕ) → (Board → Type 0) → Board → Type 0
+Seeks reads Sought q = (v : Move) → v ∈ moves q → T (suits (reads q) (reads (played q v))) ↔ Sought (played q v)
 
-abbrev TrueNext : List ℕ → Board → Type 0
-TrueNext t q = (v : Move) → v ∈ moves q → TrueByte chess (played q v) (byteOf t (played q v))
+abbrev pub TrueNext : (Board → ℕ) → Board → Type 0
+TrueNext reads q = (v : Move) → v ∈ moves q → TrueByte chess (played q v) (reads (played q v))
 
-module _ (t : List ℕ) (q : Board) (true-next : TrueNext t q) where
+module _ (reads : Board → ℕ) (q : Board) (true-next : TrueNext reads q) where
   -- from depth n, not 0, the moves sought lead to depth n - 1
-  depth-sought : (n : ℕ) → byteOf t q ≡ 2 + n → 1 ≤ n → Seeks t (DepthIs chess (n - 1)) q
+  depth-sought : (n : ℕ) → reads q ≡ 2 + n → 1 ≤ n → Seeks reads (DepthIs chess (n - 1)) q
   depth-sought n e h v i =
-      let k = byte-is chess (played q v) (byteOf t (played q v)) (n - 1) (true-next v i) in (
-        λ s. k .0 (omega (arith, suits-less (byteOf t q) (byteOf t (played q v)) (omega arith) s)),
+      let k = byte-is chess (played q v) (reads (played q v)) (n - 1) (true-next v i) in (
+        λ s. k .0 (omega (arith, suits-less (reads q) (reads (played q v)) (omega arith) s)),
         λ d. less-suits
-            (byteOf t q) (byteOf t (played q v)) (omega arith) (omega (arith, k .1 d)),
+            (reads q) (reads (played q v)) (omega arith) (omega (arith, k .1 d)),
       )
 
-  draw-sought : byteOf t q ≡ 1 → Seeks t (Drawn chess) q
+  draw-sought : reads q ≡ 1 → Seeks reads (Drawn chess) q
   draw-sought e v i = (
-    λ s. go (suits-draw (byteOf t q) (byteOf t (played q v)) (omega arith) s)
+    λ s. go (suits-draw (reads q) (reads (played q v)) (omega arith) s)
         (true-next v i),
-    λ d. let z = byte-one chess (played q v) (byteOf t (played q v)) 1 (true-next v i)
-        (TrueByte.draw d refl) in draw-suits (byteOf t q) (byteOf t (played q v)) (omega arith) (omega arith),
+    λ d. let z = byte-one chess (played q v) (reads (played q v)) 1 (true-next v i)
+        (TrueByte.draw d refl) in draw-suits (reads q) (reads (played q v)) (omega arith) (omega arith),
   )
     where
-      go : byteOf t (played q v) ≤ 1 → TrueByte chess (played q v) (byteOf t (played q v)) → Drawn chess (played q v)
+      go : reads (played q v) ≤ 1 → TrueByte chess (played q v) (reads (played q v)) → Drawn chess (played q v)
       go h (TrueByte.win n w z) = absurd (omega arith)
       go h (TrueByte.loss n w z) = absurd (omega arith)
       go h (TrueByte.draw d z) = d
 
-  won-sought : (n : ℕ) → n % 2 ≡ 1 → byteOf t q ≡ 2 + n → Seeks t (LostIn chess (n - 1)) q
+  won-sought : (n : ℕ) → n % 2 ≡ 1 → reads q ≡ 2 + n → Seeks reads (LostIn chess (n - 1)) q
   won-sought n o e v i =
       let k = depth-sought n e (omega arith) v i in
       (λ s. depth-even chess (n - 1) (played q v) (k .0 s) (omega arith), λ l. k .1 (DepthIs.loss l))
 
-  lost-sought : (n : ℕ) → n % 2 ≡ 0 → 1 ≤ n → byteOf t q ≡ 2 + n → Seeks t (WonIn chess (n - 1)) q
+  lost-sought : (n : ℕ) → n % 2 ≡ 0 → 1 ≤ n → reads q ≡ 2 + n → Seeks reads (WonIn chess (n - 1)) q
   lost-sought n o h e v i =
       let k = depth-sought n e h v i in
       (λ s. depth-odd chess (n - 1) (played q v) (k .0 s) (omega arith), λ l. k .1 (DepthIs.win l))
 
-module _ (kind : ℕ) (t : List ℕ) (b : Board) (d : Ending kind b) where
-  first-of : (Sought : Board → Type 0) → Seeks t Sought (normalised b) → (m : Move)
-      → firstSuited chess (byteOf t) (normalised b) ≡ some m
+module _ (reads : Board → ℕ) (b : Board) (c : Carries reads b) where
+  first-of : (Sought : Board → Type 0) → Seeks reads Sought (normalised b) → (m : Move)
+      → firstSuited chess reads (normalised b) ≡ some m
       → First (λ v. Sought (played (normalised b) v)) (moves (normalised b)) m
   unfolding firstSuited
   first-of Sought same m e =
-      let c = normalised b in
-      let f = first-split (λ v. suits (byteOf t c) (byteOf t (played c v))) (moves c) m e in
+      let n = normalised b in
+      let f = first-split (λ v. suits (reads n) (reads (played n v))) (moves n) m e in
       record {
         before = f .0;
         rest = f .1;
@@ -129,51 +129,49 @@ module _ (kind : ℕ) (t : List ℕ) (b : Board) (d : Ending kind b) where
             same m (subst (λ (l : List Move). m ∈ l) (sym (f .2)) (Memᴰ·append-right (f .0) (List·Memᴰ·head refl))) .0
             (f .3);
         none-earlier =
-            λ v i s. let j : v ∈ moves c = subst (λ (l : List Move). v ∈ l) (sym (f .2))
+            λ v i s. let j : v ∈ moves n = subst (λ (l : List Move). v ∈ l) (sym (f .2))
             (Memᴰ·append-left (m ∷ f .1) i) in refuted (f .4 v i) (same v j .1 s);
       }
 
-  chosen-of : (Sought : Board → Type 0) → Seeks t Sought b → Seeks t Sought (normalised b) → (m : Move)
-      → chosen (byteOf t) b ≡ BestMove.Play m → Chosen Sought b m
+  chosen-of : (Sought : Board → Type 0) → Seeks reads Sought b → Seeks reads Sought (normalised b) → (m : Move)
+      → chosen reads b ≡ BestMove.Play m → Chosen Sought b m
   chosen-of Sought here there m e =
-      let s = chosen-suits kind t b d m e in
+      let s = chosen-suits reads b c m e in
       record {
         legal = s .0;
         leads = here m (s .0) .0 (s .1);
         there = first-of Sought there
-            (mappedMove (normalBy b) m) (chosen-first t b m e);
+            (mappedMove (normalBy b) m) (chosen-first reads b m e);
       }
 
-  pub over-none : Over chess b → chosen (byteOf t) b ≡ BestMove.NoMove
-  over-none o = go (chosen (byteOf t) b) (λ m e. chosen-suits kind t b d m e .0)
+  pub over-none : Over chess b → chosen reads b ≡ BestMove.NoMove
+  over-none o = go (chosen reads b) (λ m e. chosen-suits reads b c m e .0)
     where
       go : (a : BestMove) → ((m : Move) → a ≡ BestMove.Play m → m ∈ moves b) → a ≡ BestMove.NoMove
       go (BestMove.Play m) f = absurd (none-in o (f m refl))
       go BestMove.NoMove f = refl
 
-  module _ (truth : TrueByte chess b (byteOf t b)) (next : TrueNext t b) (normal-next : TrueNext t (normalised b)) where
-    same : byteOf t (normalised b) ≡ byteOf t b
-    same = byte-turned kind t b (normalised b) (turned-normal kind b d)
-
+  module _ (truth : TrueByte chess b (reads b)) (next : TrueNext reads b)
+      (normal-next : TrueNext reads (normalised b)) where
     abbrev advice : BestMove
-    advice = chosen (byteOf t) b
+    advice = chosen reads b
 
     -- a move where the game goes on
     abbrev Goes : Type 0
     Goes = (m : Move) × (given advice ≡ some m) × (m ∈ moves b)
 
-    true-answer : Over chess b ⊎ Goes → TrueAnswer b (answerOf (byteOf t b) advice)
+    pub true-answer : Over chess b ⊎ Goes → TrueAnswer b (answerOf (reads b) advice)
     true-answer g = go truth g
       where
         play : (x : Goes) → advice ≡ BestMove.Play (x .0)
         play x = given-some advice (x .0) (x .1)
 
-        go : TrueByte chess b (byteOf t b) → Over chess b ⊎ Goes → TrueAnswer b (answerOf (byteOf t b) advice)
+        go : TrueByte chess b (reads b) → Over chess b ⊎ Goes → TrueAnswer b (answerOf (reads b) advice)
         go (TrueByte.win n v e) (inl o) = absurd (won-moves b n v o)
         go (TrueByte.win n v e) (inr x) =
             let d = won-odd chess n b v in
-            TrueAnswer.won n (x .0) v (chosen-of (LostIn chess (n - 1)) (won-sought t b next n d e)
-            (won-sought t (normalised b) normal-next n d (same ∙ e)) (x .0) (play x))
+            TrueAnswer.won n (x .0) v (chosen-of (LostIn chess (n - 1)) (won-sought reads b next n d e)
+            (won-sought reads (normalised b) normal-next n d (c .own ∙ e)) (x .0) (play x))
             (rw (e, play x) (answer-win n (BestMove.Play (x .0)) d))
         go (TrueByte.loss n v e) (inl o) =
             let z = lost-over b n v o in
@@ -182,13 +180,13 @@ module _ (kind : ℕ) (t : List ℕ) (b : Board) (d : Ending kind b) where
         go (TrueByte.loss n v e) (inr x) =
             let d = lost-even chess n b v in
             let h = lost-moves b n v (x .0) (x .2) in
-            TrueAnswer.lost n (x .0) v (chosen-of (WonIn chess (n - 1)) (lost-sought t b next n d h e)
-            (lost-sought t (normalised b) normal-next n d h (same ∙ e)) (x .0) (play x))
+            TrueAnswer.lost n (x .0) v (chosen-of (WonIn chess (n - 1)) (lost-sought reads b next n d h e)
+            (lost-sought reads (normalised b) normal-next n d h (c .own ∙ e)) (x .0) (play x))
             (rw (e, play x) (answer-loss n (BestMove.Play (x .0)) d))
         go (TrueByte.draw v e) (inl o) = TrueAnswer.stalemate v o (rw (e, over-none o) (answer-draw BestMove.NoMove))
         go (TrueByte.draw v e) (inr x) =
-            TrueAnswer.drawn (x .0) v (chosen-of (Drawn chess) (draw-sought t b next e)
-            (draw-sought t (normalised b) normal-next (same ∙ e)) (x .0) (play x))
+            TrueAnswer.drawn (x .0) v (chosen-of (Drawn chess) (draw-sought reads b next e)
+            (draw-sought reads (normalised b) normal-next (c .own ∙ e)) (x .0) (play x))
             (rw (e, play x) (answer-draw (BestMove.Play (x .0))))
 
 -- ---- an accepted table
@@ -216,9 +214,9 @@ module _ (kind : ℕ) (t : List ℕ) (ok : checkOf kind t ≡ Checked.Accepted) 
   board-answered : (b : Board) → Ending kind b → Answered chess (byteOf t) (λ c. given (chosen (byteOf t) c)) b
   board-answered =
       answered-at chess (Ending kind) (ending-closed kind) (byteOf t) accepted-bytes
-      (λ c. given (chosen (byteOf t) c)) (chosen-chooses kind t)
+      (λ c. given (chosen (byteOf t) c)) (chosen-chooses (Ending kind) (byteOf t) (ending-carries kind t))
 
-  true-next : (b : Board) → Ending kind b → TrueNext t b
+  true-next : (b : Board) → Ending kind b → TrueNext (byteOf t) b
   true-next b d v i =
       board-answered (played b v) (ending-closed kind b (played b v) d (map-in (played b) i)) .truth
 
@@ -228,5 +226,5 @@ module _ (kind : ℕ) (t : List ℕ) (ok : checkOf kind t ≡ Checked.Accepted) 
       let b = boardOf p in
       let d = keyed-ending kind p e z in
       rw (look-up-answers p e z)
-      (true-answer kind t b d (board-answered b d .truth) (true-next b d)
+      (true-answer (byteOf t) b (ending-carries kind t b d) (board-answered b d .truth) (true-next b d)
       (true-next (normalised b) (normal-ending kind b d)) (board-answered b d .goes-on))

@@ -1,6 +1,6 @@
 -- Boards of an ending, their bytes, what these require and the moves that suit them go with the eight maps, the colours exchanged or not; so the move
 -- chosen on the normal board and carried back is a rule for ties.
-use mathlib.Core.Path.{_≡_, refl, sym, ap, subst, subst⁻¹, _∙_}
+use mathlib.Core.Path.{_≡_, refl, sym, ap, ap₂, subst, subst⁻¹, _∙_}
 use mathlib.Core.Bool.{Bool, true, false, cond, not}
 use mathlib.Core.Logic.{_⊎_, inl, inr}
 use mathlib.Core.List.{List, [], _∷_, map}
@@ -68,6 +68,14 @@ module _ (kind : ℕ) (b : Board) (d : Ending kind b) where
 
 -- ---- bytes
 
+-- The moves of a board, and what the bytes say of it and of what its moves leave, go with the map by which it is made normal.
+pub record Carries (reads : Board → ℕ) (b : Board) : Type 0 where
+  pub own : reads (normalised b) ≡ reads b
+  pub forth : (v : Move) → v ∈ moves b → mappedMove (normalBy b) v ∈ moves (normalised b)
+  pub back : (v : Move) → v ∈ moves (normalised b) → mappedMove (inverse (normalBy b)) v ∈ moves b
+  pub next : (v : Move) → v ∈ moves b
+      → reads (played (normalised b) (mappedMove (normalBy b) v)) ≡ reads (played b v)
+
 module _ (kind : ℕ) (t : List ℕ) where
   pub byte-turned : (b c : Board) → Turned kind b c → byteOf t c ≡ byteOf t b
   unfolding byteOf
@@ -86,18 +94,22 @@ module _ (kind : ℕ) (t : List ℕ) where
       sym (alike-required chess chess (Turned kind) (turned-alike kind) (byteOf t) (byteOf t)
       (λ p q y. sym (byte-turned p q y)) b c x)
 
-  -- a legal move that suits
-  abbrev pub Suited : Board → Move → Type 0
-  Suited b v = (v ∈ moves b) × T (suits (byteOf t b) (byteOf t (played b v)))
-
-  suited-turned : (m : Symmetry) (x : Bool) (b : Board) → Ending kind b → (v : Move) → Suited b v
-      → Suited (changed m x b) (mappedMove m v)
-  suited-turned m x b d v s =
-      let next = ending-closed kind b (played b v) d (map-in (played b) (s .0)) in
-      let own = byte-turned b (changed m x b) (d, m, x, (d .legality, refl)) in
-      let after = ap (byteOf t) (played-changed m x b (d .legality) v)
-      ∙ byte-turned (played b v) (changed m x (played b v)) (next, m, x, (next .legality, refl)) in
-      (moves-changed m x b (d .legality) v (s .0), rw (own, after) (s .1))
+  -- and so do the moves of a board of the ending, and the bytes of what they leave
+  pub ending-carries : (b : Board) → Ending kind b → Carries (byteOf t) b
+  ending-carries b d =
+      let k = normalBy b in
+      let x = firstBlack (b .men) in
+      record {
+        own = byte-turned b (normalised b) (turned-normal kind b d);
+        forth = λ v i. subst⁻¹ (λ (c : Board). mappedMove k v ∈ moves c) (normal-turned kind b d)
+            (moves-changed k x b (d .legality) v i);
+        back = λ v i. subst (λ (c : Board). mappedMove (inverse k) v ∈ moves c) (back-normal kind b d)
+            (moves-changed (inverse k) x (normalised b) (normal-ending kind b d .legality) v i);
+        next = λ v i. let n = ending-closed kind b (played b v) d (map-in (played b) i) in
+            ap (λ (c : Board). byteOf t (played c (mappedMove k v))) (normal-turned kind b d)
+            ∙ ap (byteOf t) (played-changed k x b (d .legality) v)
+            ∙ byte-turned (played b v) (changed k x (played b v)) (n, k, x, (n .legality, refl));
+      }
 
 -- ---- the chosen move
 
@@ -112,37 +124,48 @@ given-some (BestMove.Play v) m e = cc
 given-some BestMove.NoMove m e = let z : _≡_ {A = ℕ} 0 1 = cc in absurd (omega arith)
 
 -- on the normal board it is the first that suits
-pub chosen-first : (t : List ℕ) (b : Board) (m : Move) → chosen (byteOf t) b ≡ BestMove.Play m
-    → firstSuited chess (byteOf t) (normalised b) ≡ some (mappedMove (normalBy b) m)
+pub chosen-first : (reads : Board → ℕ) (b : Board) (m : Move) → chosen reads b ≡ BestMove.Play m
+    → firstSuited chess reads (normalised b) ≡ some (mappedMove (normalBy b) m)
 unfolding chosen
-chosen-first t b m e = found (normalBy b) (firstSuited chess (byteOf t) (normalised b)) m e
+chosen-first reads b m e = found (normalBy b) (firstSuited chess reads (normalised b)) m e
 
-module _ (kind : ℕ) (t : List ℕ) (b : Board) (d : Ending kind b) where
-  pub chosen-suits : (m : Move) → chosen (byteOf t) b ≡ BestMove.Play m → Suited kind t b m
+-- a legal move that suits
+abbrev Suited : (Board → ℕ) → Board → Move → Type 0
+Suited reads b v = (v ∈ moves b) × T (suits (reads b) (reads (played b v)))
+
+firsts : (reads : Board → ℕ) → Chooses chess (λ b. Unit {0}) reads (firstSuited chess reads)
+firsts reads = first-chooses chess (λ b. Unit {0}) reads
+
+module _ (reads : Board → ℕ) (b : Board) (c : Carries reads b) where
+  suited-forth : (v : Move) → Suited reads b v → Suited reads (normalised b) (mappedMove (normalBy b) v)
+  suited-forth v s = (c .forth v (s .0), subst⁻¹ T (ap₂ suits (c .own) (c .next v (s .0))) (s .1))
+
+  suited-back : (v : Move) → Suited reads (normalised b) v → Suited reads b (mappedMove (inverse (normalBy b)) v)
+  suited-back v s =
+      let i = c .back v (s .0) in
+      let e = ap (λ (w : Move). reads (played (normalised b) w)) (sym (move-forth (normalBy b) v))
+      ∙ c .next (mappedMove (inverse (normalBy b)) v) i in
+      (i, subst T (ap₂ suits (c .own) e) (s .1))
+
+  pub chosen-suits : (m : Move) → chosen reads b ≡ BestMove.Play m → Suited reads b m
   chosen-suits m e =
       let v = mappedMove (normalBy b) m in
-      let there = first-chooses chess (Ending kind) (byteOf t) .sound (normalised b) (normal-ending kind b d) v
-      (chosen-first t b m e) in
-      let back = suited-turned kind t (inverse (normalBy b)) (firstBlack (b .men)) (normalised b)
-      (normal-ending kind b d) v there in
-      subst (Suited kind t b) (move-back (normalBy b) m)
-      (subst (λ (c : Board). Suited kind t c (mappedMove (inverse (normalBy b)) v)) (back-normal kind b d) back)
+      subst (Suited reads b) (move-back (normalBy b) m)
+      (suited-back v (firsts reads .sound (normalised b) tt v (chosen-first reads b m e)))
 
-  chosen-some : (m : Move) → Suited kind t b m → (k : Move) × (given (chosen (byteOf t) b) ≡ some k)
+  chosen-some : (m : Move) → Suited reads b m → (k : Move) × (given (chosen reads b) ≡ some k)
   unfolding chosen
   chosen-some m s =
-      let there : Suited kind t (normalised b) (mappedMove (normalBy b) m) =
-      subst⁻¹ (λ (c : Board). Suited kind t c (mappedMove (normalBy b) m)) (normal-turned kind b d)
-      (suited-turned kind t (normalBy b) (firstBlack (b .men)) b d m s) in
-      let f = first-chooses chess (Ending kind) (byteOf t) .total (normalised b) (normal-ending kind b d)
-      (mappedMove (normalBy b) m) (there .0) (there .1) in (
+      let there = suited-forth m s in
+      let f = firsts reads .total (normalised b) tt (mappedMove (normalBy b) m) (there .0) (there .1) in (
         mappedMove (inverse (normalBy b)) (f .0),
         ap (λ (o : Option Move). given (mappedAdvice (inverse (normalBy b)) (adviceOf o))) (f .1),
       )
 
--- In an ending it is a rule for ties.
-pub chosen-chooses : (kind : ℕ) (t : List ℕ) → Chooses chess (Ending kind) (byteOf t) (λ b. given (chosen (byteOf t) b))
-chosen-chooses kind t = record {
-  sound = λ b d m e. chosen-suits kind t b d m (given-some (chosen (byteOf t) b) m e);
-  total = λ b d m i s. chosen-some kind t b d m (i, s);
+-- Where moves and bytes are carried it is a rule for ties.
+pub chosen-chooses : (D : Board → Type 0) (reads : Board → ℕ) → ((b : Board) → D b → Carries reads b)
+    → Chooses chess D reads (λ b. given (chosen reads b))
+chosen-chooses D reads carries = record {
+  sound = λ b d m e. chosen-suits reads b (carries b d) m (given-some (chosen reads b) m e);
+  total = λ b d m i s. chosen-some reads b (carries b d) m (i, s);
 }

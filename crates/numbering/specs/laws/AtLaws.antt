@@ -74,7 +74,7 @@ unfolding boardAt
 ruled-at ending n = kings-at ending n .ruled
 
 -- a list of men is an ending where it is some board's
-numberable-at : (ending : List Piece) (n : ℕ) → map unplaced ending ≡ ending → n < 924 * spread ending
+pub numberable-at : (ending : List Piece) (n : ℕ) → map unplaced ending ≡ ending → n < 924 * spread ending
     → Numberable ending (boardAt ending n)
 unfolding boardAt endingOf
 numberable-at ending n p h =

@@ -40,10 +40,10 @@ slots-known (Present m) Absent e = rw (lt-ltb (m .kind) 4 (leb-false 4 (m .kind)
 
 -- ---- the chain, over the tests: men, side, colours, squares on the board, apart, touching kings, check
 
-chain : Bool → Bool → Bool → Bool → Bool → Bool → ℕ
+unfoldable pub chain : Bool → Bool → Bool → Bool → Bool → Bool → ℕ
 chain m s h q a t = cond m 1 (cond (not s || not h) 2 (cond (not q) 3 (cond (not a) 4 (cond t 5 0))))
 
-agree : (m s k h q a t c : Bool) → (m ≡ false → k ≡ h)
+pub agree : (m s k h q a t c : Bool) → (m ≡ false → k ≡ h)
     → (not m && (s && k && q && a && not t && not c))
     ≡ eqb (cond (eqb (chain m s h q a t) 0) (cond c 6 0) (chain m s h q a t)) 0
 unfolding chain

@@ -30,10 +30,11 @@ pub record WellPlaced (p : Position) : Type 0 where
   pub kings : touching (boardOf p) ≡ false
 
 -- five tests in a chain of refusals
-abbrev chain : Bool → Bool → Bool → Bool → Bool → ℕ
+abbrev pub chain : Bool → Bool → Bool → Bool → Bool → ℕ
 chain a b c d e = cond a 1 (cond b 2 (cond c 3 (cond d 4 (cond e 5 0))))
 
-five : (a b c d e : Bool) → chain a b c d e ≡ 0 → (a ≡ false) × (b ≡ false) × (c ≡ false) × (d ≡ false) × (e ≡ false)
+pub five : (a b c d e : Bool) → chain a b c d e ≡ 0
+    → (a ≡ false) × (b ≡ false) × (c ≡ false) × (d ≡ false) × (e ≡ false)
 five true b c d e z = absurd (omega arith)
 five false true c d e z = absurd (omega arith)
 five false false true d e z = absurd (omega arith)
@@ -41,23 +42,23 @@ five false false false true e z = absurd (omega arith)
 five false false false false true z = absurd (omega arith)
 five false false false false false z = (refl, refl, refl, refl, refl)
 
-five-back : (a b c d e : Bool) → a ≡ false → b ≡ false → c ≡ false → d ≡ false → e ≡ false → chain a b c d e ≡ 0
+pub five-back : (a b c d e : Bool) → a ≡ false → b ≡ false → c ≡ false → d ≡ false → e ≡ false → chain a b c d e ≡ 0
 five-back a b c d e p q r s t = rw (p, q, r, s, t)
 
-passes : (b : Bool) → not b ≡ false → T b
+pub passes : (b : Bool) → not b ≡ false → T b
 passes true e = tt
 passes false e = absurd (refuted e tt)
 
-fulfilled : (b : Bool) → T b → not b ≡ false
+pub fulfilled : (b : Bool) → T b → not b ≡ false
 fulfilled true t = refl
 fulfilled false t = absurd t
 
-either : (a b : Bool) → (a || not b) ≡ false → (a ≡ false) × T b
+pub either : (a b : Bool) → (a || not b) ≡ false → (a ≡ false) × T b
 either true b e = absurd (refuted e tt)
 either false true e = (refl, tt)
 either false false e = absurd (refuted e tt)
 
-neither : (a b : Bool) → a ≡ false → T b → (a || not b) ≡ false
+pub neither : (a b : Bool) → a ≡ false → T b → (a || not b) ≡ false
 neither a b e t = rw (e, true-of {b = b} t)
 
 pub placed-facts : (p : Position) → placingRefusal p ≡ 0 → WellPlaced p
@@ -94,7 +95,8 @@ first-apart : (e f g : Bool) → T (not (e || f) && g) → e ≡ false
 first-apart true f g t = absurd t
 first-apart false f g t = refl
 
-kings-separate : (b : Board) → T (all (λ m. ltb (m .square) 64) (pieces b)) → T (apart (pieces b)) → touching b ≡ false
+pub kings-separate : (b : Board) → T (all (λ m. ltb (m .square) 64) (pieces b)) → T (apart (pieces b))
+    → touching b ≡ false
     → T (separate (b .white) (b .black))
 unfolding separate all apart any touching
 kings-separate b on distinct kings =

@@ -46,7 +46,7 @@ module _ (G : Game) (N : Numbering G) (t : List ℕ) where
 
 module _ (G : Game) (N : Numbering G) (L : Lawful G N) (t : List ℕ) where
   -- positions that go alike read the same byte
-  reads-same : (p q : G .Pos) → L .Same p q → reads G N t p ≡ reads G N t q
+  pub reads-same : (p q : G .Pos) → L .Same p q → reads G N t p ≡ reads G N t q
   reads-same p q s = go (decided (N .inside p))
     where
       go : T (N .inside p) ⊎ T (not (N .inside p)) → reads G N t p ≡ reads G N t q

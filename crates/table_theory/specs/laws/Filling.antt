@@ -20,7 +20,7 @@ use Rattle.theory.specs.laws.Passes.{complete, all-below}
 use Rattle.table_theory.specs.Tables.{Numbering, Lawful, OuterTrue, True, Result, undecided, deepest, tooDeep, Outcome, ended, settles, someSettles, startByte, passByte, passed, passesFrom, filled}
 use Rattle.table_theory.specs.laws.Passing.{DepthsBelow, start-holds, settles-depth, pass-holds}
 
-cleared : (t : List ℕ) (n : ℕ) → getD (mapFrom (λ i b. 0) 0 t) n 0 ≡ 0
+pub cleared : (t : List ℕ) (n : ℕ) → getD (mapFrom (λ i b. 0) 0 t) n 0 ≡ 0
 cleared t n = go (le-or-lt (length t) n)
   where
     go : (length t ≤ n) ⊎ (n < length t) → getD (mapFrom (λ i b. 0) 0 t) n 0 ≡ 0
@@ -41,7 +41,7 @@ module _ (G : Game) (N : Numbering G) (L : Lawful G N) where
   FillRight tooDeep t = ((n : ℕ) → getD t n 0 ≡ 0) × ((k : ℕ) × (253 < k) × SomeDepth k)
 
   -- where no position has depth k, the table after k passes is true
-  holds-true : (k : ℕ) (t : List ℕ) → DepthsBelow G N k t → ((p : G .Pos) → L .D p → DepthIs G k p → ⊥) → True G N t
+  pub holds-true : (k : ℕ) (t : List ℕ) → DepthsBelow G N k t → ((p : G .Pos) → L .D p → DepthIs G k p → ⊥) → True G N t
   holds-true k t w none = record {
     legal-true =
         λ n h l. subst (λ (b : ℕ). TrueByte G (N .at n) b) (sym (w .byte n h ∙ rw (true-of {b = N .live n} l)))
@@ -51,7 +51,7 @@ module _ (G : Game) (N : Numbering G) (L : Lawful G N) where
 
   module _ (truth : OuterTrue G N L) where
     -- pass k settles a number exactly where some position with a number has depth k
-    some-depth : (k : ℕ) (t : List ℕ) → DepthsBelow G N k t → T (someSettles G N k t) → SomeDepth k
+    pub some-depth : (k : ℕ) (t : List ℕ) → DepthsBelow G N k t → T (someSettles G N k t) → SomeDepth k
     unfolding someSettles
     some-depth k t w s =
         let f = fails-below (λ n. not (settles G N k t n)) (N .size) s in

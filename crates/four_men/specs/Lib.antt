@@ -1,0 +1,10 @@
+pub mod Material
+pub mod Reading
+pub mod Same
+pub mod Refusals
+pub mod Answers
+pub mod Steps
+pub mod Numbers
+pub mod Truth
+pub mod GamePromise
+pub mod laws

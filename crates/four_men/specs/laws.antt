@@ -1,0 +1,15 @@
+pub mod Alone
+pub mod Materials
+pub mod Room
+pub mod Same
+pub mod Captures
+pub mod Numbered
+pub mod Lent
+pub mod Checking
+pub mod Filling
+pub mod Steps
+pub mod Standing
+pub mod Numbers
+pub mod LookingUp
+pub mod Games
+pub mod AloneGames

@@ -1,0 +1,206 @@
+-- The ending's boards, numbered over lent tables: what `table_theory` asks of a numbering, for one man and for two at once.
+use mathlib.Core.Path.{_≡_, refl, sym, ap, ap₂, subst, subst⁻¹, _∙_}
+use mathlib.Core.Bool.{Bool, true, false, cond, _&&_}
+use mathlib.Core.Logic.{inl}
+use mathlib.Core.List.{List, [], _∷_, map}
+use Prim.Native.Nat.{ℕ, _<_}
+use lib.Dec.{T, ltb}
+use lib.ListN.{getD}
+use Rattle.finite.specs.Truth.{and-left, and-right, and-both, refuted}
+use Rattle.finite.specs.Members.{all}
+use Rattle.table_theory.specs.Tables.{Lawful}
+use Rattle.rules.specs.declared.Piece.{Piece}
+use Rattle.rules.specs.Rules.{Board, empty, known, legal}
+use Rattle.rules.specs.Changed.{changed, changedPiece}
+use Rattle.rules.specs.Reordered.{crossed, reordered}
+use Rattle.rules.specs.laws.Legal.{legal-facts}
+use Rattle.rules.specs.laws.ChangedRules.{legal-changed}
+use Rattle.rules.specs.laws.ReorderedLaws.{legal-reordered}
+use Rattle.rules.specs.Chess.{chess}
+use Rattle.numbering.specs.Keys.{menAt, boardAt}
+use Rattle.numbering.specs.Men.{exchangeable, materialOf}
+use Rattle.numbering.specs.Change.{Change, changedBy}
+use Rattle.numbering.specs.Number.{numberOf, used}
+use Rattle.numbering.specs.laws.ChangeLaws.{HasNumber, coloured}
+use Rattle.numbering.specs.laws.ClassLaws.{number-lt, number-along}
+use Rattle.numbering.specs.laws.AtLaws.{used-number, image-at, number-used}
+use Rattle.endings.specs.Ending.{byteOf}
+use Rattle.endings.specs.laws.IndexLaws as index
+use Rattle.four_men.specs.Material as materials
+use Rattle.four_men.specs.Material.{Material, menOf, OfMaterial, sizeOf, Lent}
+use Rattle.four_men.specs.Reading.{Within, full, lentTo, lentByte, legalNumberOf, numbered}
+use Rattle.four_men.specs.Same.{Same, Manned}
+use Rattle.four_men.specs.laws.Materials.{size-is, own-material, full-of}
+use Rattle.four_men.specs.laws.Same.{same-alike, changed-same, same-changed}
+use Rattle.four_men.specs.laws.Captures.{within-closed, within-few, fewer-next, fewer-not-full, own-of, fewer-of}
+
+-- ---- legal boards have numbers
+
+all-coloured : (l : List Piece) → T (all known l) → T (all coloured l)
+unfolding all
+all-coloured [] t = tt
+all-coloured (a ∷ l) t =
+    and-both (coloured a) (all coloured l)
+    (and-right (ltb (a .kind) 4) (coloured a) (and-left (known a) (all known l) t))
+    (all-coloured l (and-right (known a) (all known l) t))
+
+pub legal-number : {material : List Piece} (b : Board) → T (legal b) → materialOf (b .men) ≡ material
+    → HasNumber material b
+unfolding all
+legal-number b t e =
+    let l = legal-facts b t in
+    let men = all (λ m. ltb (m .square) 64) (b .men) in
+    record {
+      men = e;
+      side = l .side;
+      colours = all-coloured (b .men) (l .men);
+      squares =
+          and-right (ltb (b .black) 64) men (and-right (ltb (b .white) 64) (ltb (b .black) 64 && men) (l .squares));
+      kings = index.legal-kings b t;
+    }
+
+pub legal-by : (s : Change) (b : Board) → legal (changedBy s b) ≡ legal b
+unfolding changedBy
+legal-by s b =
+    legal-changed (s .symmetry) (s .colours && exchangeable (b .men)) (reordered (s .order) b)
+    ∙ legal-reordered (s .order) b
+
+-- ---- boards that go alike are read alike
+
+pub full-same : (m : Material) (b c : Board) → Same b c → full m (b .men) ≡ full m (c .men)
+unfolding changed
+full-same m b c x =
+    sym (ap (λ (d : Board). full m (d .men)) (x .3) ∙ go m (x .0 .order) (b .men))
+  where
+    go : (m : Material) (e : Bool) (l : List Piece)
+        → full m (map (changedPiece (x .0 .symmetry) (x .0 .colours)) (crossed e l)) ≡ full m l
+    go (Material.one kind) false [] = unfold crossed in refl
+    go (Material.one kind) false (a ∷ l) = unfold crossed in refl
+    go (Material.one kind) true [] = unfold crossed in refl
+    go (Material.one kind) true (a ∷ []) = unfold crossed in refl
+    go (Material.one kind) true (a ∷ d ∷ []) = unfold crossed in refl
+    go (Material.one kind) true (a ∷ d ∷ f ∷ l) = unfold crossed in refl
+    go (Material.two j k r) false [] = unfold crossed in refl
+    go (Material.two j k r) false (a ∷ []) = unfold crossed in refl
+    go (Material.two j k r) false (a ∷ d ∷ l) = unfold crossed in refl
+    go (Material.two j k r) true [] = unfold crossed in refl
+    go (Material.two j k r) true (a ∷ []) = unfold crossed in refl
+    go (Material.two j k r) true (a ∷ d ∷ []) = unfold crossed in refl
+    go (Material.two j k r) true (a ∷ d ∷ f ∷ l) = unfold crossed in refl
+
+-- bare kings and a man alone: his kind stays and so does his number
+byte-same : (first : ℕ) (l : Lent) (b c : Board) → Same b c → full (Material.two 0 0 false) (b .men) ≡ false
+    → byteOf (lentTo first l (b .men)) b ≡ byteOf (lentTo first l (c .men)) c
+byte-same first l b c x e = go (b .men) refl e
+  where
+    none : (f : Bool) → crossed f [] ≡ []
+    none true = unfold crossed in refl
+    none false = unfold crossed in refl
+
+    single : (f : Bool) (a : Piece) → crossed f (a ∷ []) ≡ a ∷ []
+    single true a = unfold crossed in refl
+    single false a = unfold crossed in refl
+
+    men-there : (k : List Piece) → crossed (x .0 .order) (b .men) ≡ k
+        → c .men ≡ map (changedPiece (x .0 .symmetry) (x .0 .colours)) k
+    men-there k h = ap (λ (d : Board). d .men) (x .3)
+        ∙ (unfold changed in ap (map (changedPiece (x .0 .symmetry) (x .0 .colours))) h)
+
+    bare-byte : (t : List ℕ) (d : Board) → d .men ≡ [] → byteOf t d ≡ 1
+    bare-byte t d h = unfold byteOf in ap (λ (k : List Piece). cond (empty k) 1 (getD t (numberOf d) 0)) h
+
+    man-byte : (t : List ℕ) (d : Board) (a : Piece) → d .men ≡ a ∷ [] → byteOf t d ≡ getD t (numberOf d) 0
+    man-byte t d a h = unfold byteOf in ap (λ (k : List Piece). cond (empty k) 1 (getD t (numberOf d) 0)) h
+
+    go : (k : List Piece) → b .men ≡ k → full (Material.two 0 0 false) k ≡ false
+        → byteOf (lentTo first l (b .men)) b ≡ byteOf (lentTo first l (c .men)) c
+    go [] h f =
+        bare-byte (lentTo first l (b .men)) b h
+        ∙ sym (bare-byte (lentTo first l (c .men)) c (men-there [] (ap (crossed (x .0 .order)) h ∙ none (x .0 .order))))
+    go (a ∷ []) h f =
+        let q = ap (crossed (x .0 .order)) h ∙ single (x .0 .order) a in
+        let g = men-there (a ∷ []) q in
+        let n : numberOf c ≡ numberOf b =
+        ap numberOf (x .3
+        ∙ ap (λ (k : List Piece). changed (x .0 .symmetry) (x .0 .colours)
+        (record { side = b .side; white = b .white; black = b .black; men = k })) (q ∙ sym h))
+        ∙ index.number-image (a .kind) (x .0 .symmetry) (x .0 .colours) b (x .1 .legality) (a .colour, (a .square, h))
+        in
+        man-byte (lentTo first l (b .men)) b a h
+        ∙ ap₂ (λ (t : List ℕ) (i : ℕ). getD t i 0)
+        (ap (lentTo first l) h ∙ sym (ap (lentTo first l) g)) (sym n)
+        ∙ sym (man-byte (lentTo first l (c .men)) c (changedPiece (x .0 .symmetry) (x .0 .colours) a) g)
+    go (a ∷ d ∷ k) h f = absurd (refuted f tt)
+
+pub outer-same : (m : Material) (l : Lent) (b c : Board) → Same b c → full m (b .men) ≡ false
+    → lentByte m l b ≡ lentByte m l c
+outer-same (Material.one kind) l b c x e = refl
+outer-same (Material.two j k r) l b c x e = byte-same j l b c x (plain (b .men) e)
+  where
+    plain : (men : List Piece) → full (Material.two j k r) men ≡ false → full (Material.two 0 0 false) men ≡ false
+    plain [] e = refl
+    plain (a ∷ []) e = refl
+    plain (a ∷ d ∷ men) e = e
+
+-- ---- the numbering
+
+module _ (m : Material) (w : T (materials.known m)) where
+  pub numbers : (b : Board) → Within m b → T (full m (b .men)) → HasNumber (menOf m) b
+  numbers b d t = legal-number b (d .legality) (own-of m b d t)
+
+  pub manned : (b : Board) → T (full m (b .men)) → Manned (b .men)
+  manned b t = go m (b .men) t
+    where
+      go : (m : Material) (l : List Piece) → T (full m l) → Manned l
+      go (Material.one kind) [] t = absurd t
+      go (Material.one kind) (a ∷ l) t = tt
+      go (Material.two j k r) [] t = absurd t
+      go (Material.two j k r) (a ∷ l) t = tt
+
+  pub number-live : (b : Board) → Within m b → T (full m (b .men))
+      → (numberOf b < sizeOf m) × T (legalNumberOf m (numberOf b))
+  unfolding legalNumberOf
+  number-live b d t =
+      let s = numbers b d t in
+      let i = image-at (own-material m w) b s in (
+        subst (λ (n : ℕ). numberOf b < n) (size-is m) (number-lt b s),
+        and-both (used (boardAt (menOf m) (numberOf b))) (legal (boardAt (menOf m) (numberOf b)))
+            (number-used (own-material m w) b s (legal-facts b (d .legality) .apart))
+            (rw (i .1, legal-by (i .0) b) (d .legality)),
+      )
+
+  -- the board at a number has the ending's men
+  pub material-at : (n : ℕ) → OfMaterial m (boardAt (menOf m) n)
+  material-at n = go m w
+    where
+      go : (m : Material) → T (materials.known m) → OfMaterial m (boardAt (menOf m) n)
+      go (Material.one kind) t = unfold boardAt menAt materialOf in refl
+      go (Material.two j k r) t = unfold boardAt menAt materialOf in own-material (Material.two j k r) t
+
+  pub live-at : (n : ℕ) → n < sizeOf m → T (legalNumberOf m n)
+      → Within m (boardAt (menOf m) n) × T (full m (boardAt (menOf m) n .men)) × (numberOf (boardAt (menOf m) n) ≡ n)
+  unfolding legalNumberOf
+  live-at n h t =
+      let e = material-at n in (
+        record { legality = and-right (used (boardAt (menOf m) n)) (legal (boardAt (menOf m) n)) t; men = inl e },
+        full-of m (boardAt (menOf m) n .men) e,
+        used-number (own-material m w) n (and-left (used (boardAt (menOf m) n)) (legal (boardAt (menOf m) n)) t),
+      )
+
+  unfoldable pub lawfulWith : (l : Lent) → Lawful chess (numbered m l)
+  unfolding numbered
+  lawfulWith l = record {
+    D = Within m;
+    closed = within-closed m;
+    number-live = number-live;
+    live-at = live-at;
+    outer-next = λ b q d e h. fewer-not-full m q (fewer-next m b q d (fewer-of m b d e) h);
+    Same = Same;
+    alike = same-alike;
+    same-inside = full-same m;
+    same-number = λ b c x t. sym (ap numberOf (same-changed b c (manned b t) x)
+        ∙ number-along (x .0) b (legal-number b (x .1 .legality) refl));
+    same-outer = outer-same m l;
+    same-at = λ b d t. let i = image-at (own-material m w) b (numbers b d t) in
+        subst⁻¹ (Same b) (i .1) (changed-same (i .0) b (within-few m b d));
+  }
