@@ -5,7 +5,7 @@
  *
  * Look-up and count take every seventh placement of the kings and White's man, legal or not,
  * either side to move. Prints each build's least processor time in milliseconds; exit status 1 says that
- * they answer differently.
+ * they answer differently. Both builds take their arguments in the order of sledgewren.h.
  */
 #define _POSIX_C_SOURCE 199309L
 #include <stdint.h>
@@ -20,8 +20,8 @@ enum { BYTES = 59136, PLACEMENTS = 64 * 64 * 64, EVERY = 7 };
 
 #define DECLARE(build)                                                                          \
     uint32_t build##_fill(uint8_t, uint8_t *, size_t);                                          \
-    uint64_t build##_look_up(const uint8_t *, size_t, uint8_t, uint8_t, uint8_t, uint32_t,      \
-                             uint32_t, uint32_t);                                               \
+    uint64_t build##_look_up(uint8_t, uint8_t, uint8_t, uint32_t, uint32_t, uint32_t,           \
+                             const uint8_t *, size_t);                                          \
     uint32_t build##_count(uint8_t, uint8_t, uint8_t, uint32_t, uint32_t);
 
 DECLARE(before)
@@ -29,8 +29,8 @@ DECLARE(after)
 
 struct build {
     uint32_t (*fill)(uint8_t, uint8_t *, size_t);
-    uint64_t (*look_up)(const uint8_t *, size_t, uint8_t, uint8_t, uint8_t, uint32_t, uint32_t,
-                        uint32_t);
+    uint64_t (*look_up)(uint8_t, uint8_t, uint8_t, uint32_t, uint32_t, uint32_t, const uint8_t *,
+                        size_t);
     uint32_t (*count)(uint8_t, uint8_t, uint8_t, uint32_t, uint32_t);
 };
 
@@ -57,7 +57,7 @@ static uint64_t work(const struct build *build, char what, uint8_t man)
         uint32_t first = SLEDGEWREN_A_MAN(man, SLEDGEWREN_WHITE, square);
         sum *= 31;
         if (what == 'l')
-            sum += build->look_up(table, BYTES, side, white, black, first, SLEDGEWREN_ABSENT, 0);
+            sum += build->look_up(side, white, black, first, SLEDGEWREN_ABSENT, 0, table, BYTES);
         else
             sum += build->count(side, white, black, first, SLEDGEWREN_ABSENT);
     }

@@ -35,6 +35,9 @@
  * keeps nothing between calls and calls nothing back. It may be called from several threads as
  * long as none writes to a buffer that another one uses.
  *
+ * Values come first, then buffers that are only read, then buffers that are written to, each with
+ * its length after it. Values of a position are the side to move, the kings and the two men.
+ *
  * A pointer must not be null, even where its length is 0, and must lead to at least as many bytes
  * as its length says. Buffers that one call is lent must not overlap.
  *
@@ -61,6 +64,9 @@ extern "C" {
 #define SLEDGEWREN_VERSION_MINOR 1
 #define SLEDGEWREN_VERSION_PATCH 0
 #define SLEDGEWREN_VERSION "0.1.0"
+#define SLEDGEWREN_VERSION_NUMBER \
+    (SLEDGEWREN_VERSION_MAJOR * 0x10000u + SLEDGEWREN_VERSION_MINOR * 0x100u + \
+     SLEDGEWREN_VERSION_PATCH)
 
 /* Lengths of the buffers that the functions are lent. */
 #define SLEDGEWREN_TABLE_BYTES 59136
@@ -88,6 +94,9 @@ extern "C" {
 
 /* Set in sledgewren_number's answer where it is a refusal. */
 #define SLEDGEWREN_NUMBER_REFUSED 0x80000000u
+
+/* sledgewren_play's answer where the move is not legal. */
+#define SLEDGEWREN_NOT_LEGAL 0x8000u
 
 /* sledgewren_moves was lent a list, or sledgewren_answer_line a slip, of another length. */
 #define SLEDGEWREN_MOVES_LENGTH 255u
@@ -207,6 +216,18 @@ uint32_t sledgewren_moves(uint8_t side, uint8_t white, uint8_t black, uint32_t f
                           uint32_t second, uint8_t *moves, size_t len);
 
 /*
+ * The position after a legal move: the piece set on its target, a man that stood there taken off,
+ * the other side to move. A man left alone is the first, and with bare kings both are absent:
+ * hand side, kings and men to the next call as they are. A move that is not legal is no refusal
+ * but an answer of its own, the word SLEDGEWREN_NOT_LEGAL. Refusals 1 to 6.
+ *   bits 0-7 refusal, bit 8 side, bit 15 the move is not legal, 16-23 white king, 24-31 black
+ *   king, 32-47 the first man, 48-63 the second
+ * A man's 16 bits: 0-3 kind, bit 4 colour, bit 5 he is there, 8-15 square; all 0 for none.
+ */
+uint64_t sledgewren_play(uint8_t side, uint8_t white, uint8_t black, uint32_t first,
+                         uint32_t second, uint8_t from, uint8_t to);
+
+/*
  * Writes the true table of an ending, whatever the bytes held before. Refusals 1 and 7 leave them
  * untouched, 10 leaves them all 0.
  *   bits 0-7 refusal, bit 8 some position is decided, 16-23 greatest depth
@@ -243,7 +264,7 @@ uint64_t sledgewren_fill_start(uint8_t man, uint8_t *table, size_t len);
  *   step repeats that, and table and progress stay.
  * Stage 2 or more, 10 was given: the step answers refusal 10, and table and progress stay.
  */
-uint64_t sledgewren_fill_step(uint8_t man, uint8_t *table, size_t len, uint32_t progress);
+uint64_t sledgewren_fill_step(uint8_t man, uint32_t progress, uint8_t *table, size_t len);
 
 /*
  * Holds every byte of a table to the one that its successors' bytes require. An answer of 0 says
@@ -266,8 +287,8 @@ uint64_t sledgewren_check(uint8_t man, const uint8_t *table, size_t len);
  * nothing, then mates before the loser may claim a draw by the fifty-move rule (FIDE 9.3). A draw
  * is never marked. Nothing else hangs on `plies`: a caller who does not count them gives 0.
  */
-uint64_t sledgewren_look_up(const uint8_t *table, size_t len, uint8_t side, uint8_t white,
-                            uint8_t black, uint32_t first, uint32_t second, uint32_t plies);
+uint64_t sledgewren_look_up(uint8_t side, uint8_t white, uint8_t black, uint32_t first,
+                            uint32_t second, uint32_t plies, const uint8_t *table, size_t len);
 
 /*
  * A second opinion without a table: a search straight from the rules, which takes up to a few
@@ -288,7 +309,7 @@ uint32_t sledgewren_second_opinion(uint8_t side, uint8_t white, uint8_t black, u
  * written and the answer is SLEDGEWREN_SLIP_LENGTH.
  *   bits 0-7 length of the slip, 8-15 the man held afterwards
  */
-uint32_t sledgewren_answer_line(const uint8_t *line, size_t line_len, uint8_t held,
+uint32_t sledgewren_answer_line(uint8_t held, const uint8_t *line, size_t line_len,
                                 uint8_t *table, size_t table_len, uint8_t *slip,
                                 size_t slip_len);
 
@@ -305,9 +326,8 @@ uint32_t sledgewren_pack(const uint8_t *table, size_t table_len, uint8_t *pocket
  * Refusals 1 to 7, and 11 where a legal position's entry is 0.
  *   bits 0-7 refusal, 8-15 value
  */
-uint32_t sledgewren_pocket_look_up(const uint8_t *pocket, size_t len, uint8_t side,
-                                   uint8_t white, uint8_t black, uint32_t first,
-                                   uint32_t second);
+uint32_t sledgewren_pocket_look_up(uint8_t side, uint8_t white, uint8_t black, uint32_t first,
+                                   uint32_t second, const uint8_t *pocket, size_t len);
 
 /*
  * How many numbers have each of a pocket's four entries; together they make 59,136. Refusal 7 is
@@ -340,11 +360,17 @@ uint32_t sledgewren_set_start(uint8_t queen, uint8_t rook, uint8_t bishop, uint8
 uint32_t sledgewren_set_fill(uint8_t man, uint8_t *set, size_t len);
 
 /*
- * Where a set holds an ending's table, for sledgewren_look_up(set + offset, length, ..).
+ * Where a set holds an ending's table, for sledgewren_look_up(.., set + offset, length).
  * Refusals 1, 14, 15. What the table's bytes hold is not asked: sledgewren_check tells.
  *   bits 0-7 refusal, 8-31 length, 32-63 offset
  */
-uint64_t sledgewren_set_find(const uint8_t *set, size_t len, uint8_t man);
+uint64_t sledgewren_set_find(uint8_t man, const uint8_t *set, size_t len);
+
+/*
+ * The version of the library that is linked; SLEDGEWREN_VERSION_NUMBER is this header's.
+ *   bits 0-7 patch, 8-15 minor, 16-23 major
+ */
+uint32_t sledgewren_version_number(void);
 
 /* ---- The version as the program sees it that includes this header */
 
@@ -367,6 +393,32 @@ static inline uint8_t sledgewren_position_side(uint64_t answer) { return SLEDGEW
 static inline uint8_t sledgewren_position_white(uint64_t answer) { return SLEDGEWREN_BITS(answer, 16); }
 static inline uint8_t sledgewren_position_square(uint64_t answer) { return SLEDGEWREN_BITS(answer, 24); }
 static inline uint8_t sledgewren_position_black(uint64_t answer) { return SLEDGEWREN_BITS(answer, 32); }
+
+/*
+ * sledgewren_play. A man is given as the functions take him, SLEDGEWREN_ABSENT for none; the
+ * functions at the end of this file read his kind, colour and square.
+ */
+static inline uint8_t sledgewren_played_refusal(uint64_t answer) { return SLEDGEWREN_BITS(answer, 0); }
+static inline int sledgewren_played_is_not_legal(uint64_t answer)
+{
+    return SLEDGEWREN_BITS(answer, 8) >> 7;
+}
+static inline uint8_t sledgewren_played_side(uint64_t answer) { return SLEDGEWREN_BITS(answer, 8) & 1; }
+static inline uint8_t sledgewren_played_white(uint64_t answer) { return SLEDGEWREN_BITS(answer, 16); }
+static inline uint8_t sledgewren_played_black(uint64_t answer) { return SLEDGEWREN_BITS(answer, 24); }
+static inline uint32_t sledgewren_short_man(uint16_t man)
+{
+    return (man >> 5 & 1) == 0 ? SLEDGEWREN_ABSENT
+                               : SLEDGEWREN_A_MAN(man & 15, man >> 4 & 1, man >> 8);
+}
+static inline uint32_t sledgewren_played_first(uint64_t answer)
+{
+    return sledgewren_short_man((uint16_t)(answer >> 32));
+}
+static inline uint32_t sledgewren_played_second(uint64_t answer)
+{
+    return sledgewren_short_man((uint16_t)(answer >> 48));
+}
 
 /* sledgewren_write_number; the places are 0 to 6, and a digit is a character. */
 static inline uint8_t sledgewren_written_refusal(uint64_t answer) { return SLEDGEWREN_BITS(answer, 0); }
@@ -445,6 +497,11 @@ static inline uint16_t sledgewren_tallies_losses(uint64_t answer) { return (uint
 static inline uint8_t sledgewren_found_refusal(uint64_t answer) { return SLEDGEWREN_BITS(answer, 0); }
 static inline uint32_t sledgewren_found_length(uint64_t answer) { return (uint32_t)answer >> 8; }
 static inline uint32_t sledgewren_found_offset(uint64_t answer) { return (uint32_t)(answer >> 32); }
+
+/* sledgewren_version_number */
+static inline uint8_t sledgewren_version_major(uint32_t version) { return SLEDGEWREN_BITS(version, 16); }
+static inline uint8_t sledgewren_version_minor(uint32_t version) { return SLEDGEWREN_BITS(version, 8); }
+static inline uint8_t sledgewren_version_patch(uint32_t version) { return SLEDGEWREN_BITS(version, 0); }
 
 /* A man's word, as SLEDGEWREN_A_MAN makes it. */
 static inline uint8_t sledgewren_man_kind(uint32_t man) { return SLEDGEWREN_BITS(man, 0); }

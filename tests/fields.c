@@ -23,6 +23,17 @@ static void same(const char *what, uint64_t found, uint64_t expected)
 #define BITS(word, first, count) ((word) >> (first) & (((uint64_t)1 << (count)) - 1))
 #define FIELD(name, word, first, count) same(#name, (uint64_t)name(word), BITS((uint64_t)(word), first, count))
 
+/* A man's word beside the sixteen bits that it was read from. */
+static void man(const char *what, uint32_t word, uint64_t bits)
+{
+    int there = BITS(bits, 5, 1) == 1;
+
+    same(what, (uint64_t)sledgewren_man_is_there(word), (uint64_t)there);
+    same(what, sledgewren_man_kind(word), there ? BITS(bits, 0, 4) : 0);
+    same(what, sledgewren_man_colour(word), there ? BITS(bits, 4, 1) : 0);
+    same(what, sledgewren_man_square(word), there ? BITS(bits, 8, 8) : 0);
+}
+
 static void words_of_64(uint64_t word)
 {
     int place;
@@ -32,6 +43,13 @@ static void words_of_64(uint64_t word)
     FIELD(sledgewren_position_white, word, 16, 8);
     FIELD(sledgewren_position_square, word, 24, 8);
     FIELD(sledgewren_position_black, word, 32, 8);
+    FIELD(sledgewren_played_refusal, word, 0, 8);
+    FIELD(sledgewren_played_side, word, 8, 1);
+    FIELD(sledgewren_played_is_not_legal, word, 15, 1);
+    FIELD(sledgewren_played_white, word, 16, 8);
+    FIELD(sledgewren_played_black, word, 24, 8);
+    man("first", sledgewren_played_first(word), BITS(word, 32, 16));
+    man("second", sledgewren_played_second(word), BITS(word, 48, 16));
     FIELD(sledgewren_written_refusal, word, 0, 8);
     for (place = 0; place < SLEDGEWREN_TYPED_DIGITS; place++)
         same("digit", (uint8_t)sledgewren_written_digit(word, place), BITS(word, 8 + 8 * place, 8));
@@ -75,6 +93,9 @@ static void words_of_32(uint32_t word)
     FIELD(sledgewren_slip_held, word, 8, 8);
     FIELD(sledgewren_told_refusal, word, 0, 8);
     FIELD(sledgewren_told_value, word, 8, 8);
+    FIELD(sledgewren_version_patch, word, 0, 8);
+    FIELD(sledgewren_version_minor, word, 8, 8);
+    FIELD(sledgewren_version_major, word, 16, 8);
     FIELD(sledgewren_man_kind, word, 0, 8);
     FIELD(sledgewren_man_colour, word, 8, 8);
     FIELD(sledgewren_man_square, word, 16, 8);
@@ -91,7 +112,7 @@ static void answers(void)
 
     same("filled", sledgewren_filled_depth(sledgewren_fill(SLEDGEWREN_QUEEN, table, sizeof table)), 20);
     same("accepted", sledgewren_check(SLEDGEWREN_QUEEN, table, sizeof table), 0);
-    answer = sledgewren_look_up(table, sizeof table, 0, 17, 0, queen, SLEDGEWREN_ABSENT, 0);
+    answer = sledgewren_look_up(0, 17, 0, queen, SLEDGEWREN_ABSENT, 0, table, sizeof table);
     same("value", sledgewren_answer_value(answer), SLEDGEWREN_WIN);
     same("from", sledgewren_answer_from(answer), 15);
     same("to", sledgewren_answer_to(answer), 8);
@@ -109,15 +130,49 @@ static void answers(void)
     same("tallied", sledgewren_tallies_refusal(sledgewren_tallies(pocket, sizeof pocket)), 0);
     same("length", sledgewren_tallies_refusal(sledgewren_tallies(pocket, 1)), SLEDGEWREN_TABLE_LENGTH);
     same("opinion", sledgewren_opinion_depth(sledgewren_second_opinion(0, 17, 0, queen, 0, 6)), 1);
-    same("told", sledgewren_told_value(sledgewren_pocket_look_up(pocket, sizeof pocket, 0, 17, 0, queen, 0)),
+    same("told", sledgewren_told_value(sledgewren_pocket_look_up(0, 17, 0, queen, 0, pocket, sizeof pocket)),
          SLEDGEWREN_WIN);
-    count = sledgewren_answer_line((const uint8_t *)"Q w b3 h2 a1", 12, SLEDGEWREN_QUEEN, table,
+    count = sledgewren_answer_line(SLEDGEWREN_QUEEN, (const uint8_t *)"Q w b3 h2 a1", 12, table,
                                    sizeof table, slip, sizeof slip);
     same("slip", sledgewren_slip_length(count), 11);
     same("held", sledgewren_slip_held(count), SLEDGEWREN_QUEEN);
     same("set", sledgewren_set_start(0, 0, 0, 0, set, sizeof set), 0);
-    same("not in set", sledgewren_found_refusal(sledgewren_set_find(set, sizeof set, 0)), SLEDGEWREN_NOT_IN_SET);
+    same("not in set", sledgewren_found_refusal(sledgewren_set_find(0, set, sizeof set)), SLEDGEWREN_NOT_IN_SET);
+}
+
+/* Moves played: Qh2-a2 mates, Ka1xb2 leaves bare kings, and a1-a8 is no move of the first. */
+static void plays(void)
+{
+    uint32_t queen = SLEDGEWREN_A_MAN(SLEDGEWREN_QUEEN, SLEDGEWREN_WHITE, 15);
+    uint64_t answer = sledgewren_play(0, 17, 0, queen, SLEDGEWREN_ABSENT, 15, 8);
+
+    same("play refusal", sledgewren_played_refusal(answer), SLEDGEWREN_NOT_REFUSED);
+    same("play side", sledgewren_played_side(answer), SLEDGEWREN_BLACK);
+    same("play white", sledgewren_played_white(answer), 17);
+    same("play black", sledgewren_played_black(answer), 0);
+    same("play first", sledgewren_played_first(answer), SLEDGEWREN_A_MAN(SLEDGEWREN_QUEEN, SLEDGEWREN_WHITE, 8));
+    same("play second", sledgewren_played_second(answer), SLEDGEWREN_ABSENT);
+    same("mate", sledgewren_count(1, 17, 0, sledgewren_played_first(answer), SLEDGEWREN_ABSENT), 0);
+    queen = SLEDGEWREN_A_MAN(SLEDGEWREN_QUEEN, SLEDGEWREN_WHITE, 9);
+    answer = sledgewren_play(1, 63, 0, queen, SLEDGEWREN_ABSENT, 0, 9);
+    same("bare kings", sledgewren_played_first(answer), SLEDGEWREN_ABSENT);
+    same("bare kings", sledgewren_played_black(answer), 9);
+    same("bare kings", sledgewren_played_side(answer), SLEDGEWREN_WHITE);
+    same("not legal", sledgewren_play(1, 63, 0, queen, SLEDGEWREN_ABSENT, 0, 56), SLEDGEWREN_NOT_LEGAL);
+    same("refused", sledgewren_play(0, 17, 0, queen, SLEDGEWREN_ABSENT, 9, 0), SLEDGEWREN_OTHER_IN_CHECK);
+}
+
+/* Header and archive are of one version. */
+static void version(void)
+{
+    char text[16];
+    uint32_t number = sledgewren_version_number();
+
+    same("version number", number, SLEDGEWREN_VERSION_NUMBER);
     same("version", (uint64_t)strcmp(sledgewren_version(), SLEDGEWREN_VERSION), 0);
+    sprintf(text, "%d.%d.%d", sledgewren_version_major(number), sledgewren_version_minor(number),
+            sledgewren_version_patch(number));
+    same("version in words", (uint64_t)strcmp(text, SLEDGEWREN_VERSION), 0);
 }
 
 int main(void)
@@ -130,6 +185,8 @@ int main(void)
         words_of_32((uint32_t)words[i]);
     }
     answers();
+    plays();
+    version();
     printf("%d fields wrong\n", wrong);
     return wrong != 0;
 }

@@ -1,6 +1,6 @@
 /*
- * Fills the queen's table, has it checked, looks six positions up, one with Black's queen, writes a
- * number with its check digits, and packs the table to a pocket. From the repository's root:
+ * Fills the queen's table, has it checked, looks six positions up, one with Black's queen, plays one
+ * out, writes a number with its check digits, and packs the table to a pocket. From the repository's root:
  *
  *   cc -std=c99 -Iinclude host/c/example.c target/staticlib/libsledgewren.a -o target/c-example
  */
@@ -41,9 +41,9 @@ static void print_value(uint64_t answer)
 
 static void look_up(uint8_t side, uint8_t white, uint8_t black, uint8_t owner, uint8_t queen)
 {
-    uint64_t answer = sledgewren_look_up(table, sizeof table, side, white, black,
+    uint64_t answer = sledgewren_look_up(side, white, black,
                                          SLEDGEWREN_A_MAN(SLEDGEWREN_QUEEN, owner, queen),
-                                         SLEDGEWREN_ABSENT, 0);
+                                         SLEDGEWREN_ABSENT, 0, table, sizeof table);
 
     printf("%s to move, white king ", sides[side]);
     print_square(white);
@@ -70,6 +70,37 @@ static void look_up(uint8_t side, uint8_t white, uint8_t black, uint8_t owner, u
     printf("\n");
 }
 
+/* Plays the table's moves for both sides, White to move first, to mate, stalemate or bare kings. */
+static void play_out(uint8_t white, uint8_t black, uint32_t queen)
+{
+    uint8_t side = SLEDGEWREN_WHITE;
+    int ply;
+
+    printf("played out:");
+    for (ply = 0; ply < 40 && sledgewren_man_is_there(queen); ply++) {
+        uint64_t answer = sledgewren_look_up(side, white, black, queen, SLEDGEWREN_ABSENT, 0, table,
+                                             sizeof table);
+        uint64_t played;
+
+        if (!sledgewren_answer_has_move(answer))
+            break;
+        putchar(' ');
+        print_square(sledgewren_answer_from(answer));
+        print_square(sledgewren_answer_to(answer));
+        played = sledgewren_play(side, white, black, queen, SLEDGEWREN_ABSENT,
+                                 sledgewren_answer_from(answer), sledgewren_answer_to(answer));
+        if (sledgewren_played_refusal(played) != SLEDGEWREN_NOT_REFUSED)
+            break;
+        if (sledgewren_played_is_not_legal(played))
+            break;
+        side = sledgewren_played_side(played);
+        white = sledgewren_played_white(played);
+        black = sledgewren_played_black(played);
+        queen = sledgewren_played_first(played);
+    }
+    printf("\n");
+}
+
 static void write_number(uint32_t number)
 {
     uint64_t answer = sledgewren_write_number(number);
@@ -90,8 +121,8 @@ static void pocket_edition(void)
 {
     uint64_t tallies = sledgewren_tallies(pocket, sizeof pocket);
     uint32_t queen = SLEDGEWREN_A_MAN(SLEDGEWREN_QUEEN, SLEDGEWREN_WHITE, 15);
-    uint32_t answer = sledgewren_pocket_look_up(pocket, sizeof pocket, SLEDGEWREN_WHITE, 17, 0,
-                                                queen, SLEDGEWREN_ABSENT);
+    uint32_t answer = sledgewren_pocket_look_up(SLEDGEWREN_WHITE, 17, 0, queen,
+                                                SLEDGEWREN_ABSENT, pocket, sizeof pocket);
 
     printf("pocket: %d wins, %d draws, %d losses, %d unused or illegal\n",
            sledgewren_tallies_wins(tallies), sledgewren_tallies_draws(tallies),
@@ -116,6 +147,7 @@ int main(void)
     look_up(SLEDGEWREN_BLACK, 63, 0, SLEDGEWREN_WHITE, 9);
     look_up(SLEDGEWREN_WHITE, 17, 0, SLEDGEWREN_WHITE, 9);
     look_up(SLEDGEWREN_BLACK, 0, 17, SLEDGEWREN_BLACK, 15);
+    play_out(17, 3, SLEDGEWREN_A_MAN(SLEDGEWREN_QUEEN, SLEDGEWREN_WHITE, 46));
     write_number(2049);
     write_number(2056);
     if (sledgewren_pack(table, sizeof table, pocket, sizeof pocket) != SLEDGEWREN_NOT_REFUSED) {

@@ -8,25 +8,9 @@ use std::error::Error;
 use std::process::ExitCode;
 
 use sledgewren::MOST_PLIES;
-use sledgewren::{second_opinion, Accepted, Move, Opinion, Position, Side, Table};
+use sledgewren::{second_opinion, Accepted, Opinion, Played, Position, Table};
 
 const DEFAULT: &str = "Q w b3 g6 d1";
-
-/// The position after a move, or none if the man is taken.
-fn played(position: Position, chosen: Move) -> Option<Position> {
-    let mut next = Position { side: position.side.other(), ..position };
-    if chosen.from == position.man_square {
-        next.man_square = chosen.to;
-    } else if chosen.takes {
-        return None;
-    } else {
-        match position.side {
-            Side::White => next.white_king = chosen.to,
-            Side::Black => next.black_king = chosen.to,
-        }
-    }
-    Some(next)
-}
 
 /// The second opinion, as deep as it may be asked for.
 fn searched(position: Position) -> Result<String, Box<dyn Error>> {
@@ -43,9 +27,10 @@ fn line(table: &Accepted, mut position: Position, plies: usize) -> Result<String
         let answer = table.look_up(position)?;
         let Some(best) = answer.best() else { return Ok(text + &format!("{answer}")) };
         text += &format!("{best} ");
-        match played(position, best) {
-            Some(next) => position = next,
-            None => return Ok(text + "bare kings"),
+        match position.play(best)? {
+            Played::At(next) => position = next,
+            Played::BareKings { .. } => return Ok(text + "bare kings"),
+            Played::NotLegal => return Err(format!("{best} is not legal").into()),
         }
     }
     Ok(text + "...")

@@ -4,8 +4,10 @@
 //! [`Position`]; a man as his code, any byte, or as a [`Man`]. The methods of the crate's types
 //! rest on these functions.
 
+mod plays;
 mod sets;
 
+pub use plays::play;
 pub use sets::{set_fill, set_find, set_start, set_write};
 
 use crate::ffi;
@@ -80,6 +82,13 @@ pub fn write_number(number: u32) -> Result<Typed, Refusal> {
     Ok(typed.unwrap_or_else(|| broken("write_number", answer)))
 }
 
+/// The version of the library that is linked: major, minor and patch.
+pub fn version() -> [u8; 3] {
+    // SAFETY: no pointers.
+    let number = unsafe { ffi::sledgewren_version_number() } as u64;
+    [16, 8, 0].map(|first| bits(number, first))
+}
+
 /// How many legal moves a position has, at most 35. Refusals 1 to 6.
 pub fn count(keyed: impl Into<Keyed>) -> Result<u8, Refusal> {
     let keyed = keyed.into();
@@ -133,7 +142,7 @@ pub fn fill_step(
     let (start, len) = (table.as_mut_ptr(), table.len());
     // SAFETY: the slice's pointer leads to as many bytes as its length says, and is lent to us
     // alone.
-    let answer = unsafe { ffi::sledgewren_fill_step(man.into(), start, len, progress.word()) };
+    let answer = unsafe { ffi::sledgewren_fill_step(man.into(), progress.word(), start, len) };
     let next = Progress::from_word((answer >> 32) as u32);
     let said = unless_refused("fill_step", answer).map(|answer| match next.stage() {
         Stage::Going(_) => Step::Settled(answer as u32 >> 8),
@@ -168,7 +177,7 @@ pub fn look_up_at(table: &[u8], keyed: impl Into<Keyed>, plies: u32) -> Result<M
     let (start, len) = (table.as_ptr(), table.len());
     // SAFETY: the slice's pointer leads to as many bytes as its length says.
     let answer = unsafe {
-        ffi::sledgewren_look_up(start, len, side, white_king, black_king, first, second, plies)
+        ffi::sledgewren_look_up(side, white_king, black_king, first, second, plies, start, len)
     };
     unless_refused("look_up", answer)?;
     let chosen = || Move::from_bytes(((answer >> 32) as u32).to_le_bytes());
@@ -212,9 +221,9 @@ pub fn answer_line(line: &[u8], held: Option<Man>, table: &mut [u8]) -> (Slip, O
     // through are lent to us alone.
     let answer = unsafe {
         ffi::sledgewren_answer_line(
+            held.map_or(NO_MAN, Man::code),
             line.as_ptr(),
             line.len(),
-            held.map_or(NO_MAN, Man::code),
             table.as_mut_ptr(),
             table.len(),
             slip.as_mut_ptr(),
@@ -245,7 +254,7 @@ pub fn pocket_look_up(pocket: &[u8], keyed: impl Into<Keyed>) -> Result<Outcome,
     let (start, len) = (pocket.as_ptr(), pocket.len());
     // SAFETY: the slice's pointer leads to as many bytes as its length says.
     let answer = unsafe {
-        ffi::sledgewren_pocket_look_up(start, len, side, white_king, black_king, first, second)
+        ffi::sledgewren_pocket_look_up(side, white_king, black_king, first, second, start, len)
     } as u64;
     match bits(unless_refused("pocket_look_up", answer)?, 8) {
         1 => Ok(Outcome::Win),

@@ -4,6 +4,8 @@
 //! as its length says, and buffers lent to one call must not overlap. The crate's other functions
 //! see to that; nothing else need call these.
 //!
+//! Values come first, then buffers that are only read, then buffers that are written to.
+//!
 //! `white` and `black` are the kings' squares. A man besides them is a word: bits 0-7 kind, 8-15
 //! colour, 16-23 square; he is absent where bits 24-31 are 0.
 
@@ -32,6 +34,19 @@ extern "C" {
         len: usize,
     ) -> u32;
 
+    /// Bits 0-7 refusal, bit 8 side, bit 15 the move is not legal, 16-23 white king, 24-31 black
+    /// king, 32-47 the first man, 48-63 the second; a man's bits 0-3 kind, bit 4 colour, bit 5 he
+    /// is there, 8-15 square.
+    pub fn sledgewren_play(
+        side: u8,
+        white: u8,
+        black: u8,
+        first: u32,
+        second: u32,
+        from: u8,
+        to: u8,
+    ) -> u64;
+
     /// Bits 0-7 refusal, bit 8 some position is decided, 16-23 greatest depth.
     pub fn sledgewren_fill(man: u8, table: *mut u8, len: usize) -> u32;
 
@@ -39,7 +54,7 @@ extern "C" {
     pub fn sledgewren_fill_start(man: u8, table: *mut u8, len: usize) -> u64;
 
     /// Bits 0-7 refusal, 8-31 how many numbers the step settled, 32-63 the progress.
-    pub fn sledgewren_fill_step(man: u8, table: *mut u8, len: usize, progress: u32) -> u64;
+    pub fn sledgewren_fill_step(man: u8, progress: u32, table: *mut u8, len: usize) -> u64;
 
     /// Bits 0-7 refusal, bit 8 wrong, 32-63 the lowest wrong number.
     pub fn sledgewren_check(man: u8, table: *const u8, len: usize) -> u64;
@@ -48,14 +63,14 @@ extern "C" {
     /// bit 25 within fifty at this count of plies since the last capture, 32-39 from, 40-47 to,
     /// bit 48 it takes a man.
     pub fn sledgewren_look_up(
-        table: *const u8,
-        len: usize,
         side: u8,
         white: u8,
         black: u8,
         first: u32,
         second: u32,
         plies: u32,
+        table: *const u8,
+        len: usize,
     ) -> u64;
 
     /// Bits 0-7 refusal, 8-15 value (1 win, 2 loss, 4 not within so many plies), 16-23 depth.
@@ -71,9 +86,9 @@ extern "C" {
     /// Bits 0-7 length of the slip, 8-15 the man held afterwards. Where `slip_len` is 16 it writes
     /// the slip; with any other `slip_len` it writes nothing and answers 0xFFFF.
     pub fn sledgewren_answer_line(
+        held: u8,
         line: *const u8,
         line_len: usize,
-        held: u8,
         table: *mut u8,
         table_len: usize,
         slip: *mut u8,
@@ -90,13 +105,13 @@ extern "C" {
 
     /// Bits 0-7 refusal, 8-15 value (1 win, 2 loss, 3 draw).
     pub fn sledgewren_pocket_look_up(
-        pocket: *const u8,
-        len: usize,
         side: u8,
         white: u8,
         black: u8,
         first: u32,
         second: u32,
+        pocket: *const u8,
+        len: usize,
     ) -> u32;
 
     /// Bits 0-15 numbers with entry 0, 16-31 draws, 32-47 wins, 48-63 losses; or refusal 7 as
@@ -127,5 +142,8 @@ extern "C" {
     pub fn sledgewren_set_fill(man: u8, set: *mut u8, len: usize) -> u32;
 
     /// Bits 0-7 refusal, 8-31 length of the table, 32-63 its offset.
-    pub fn sledgewren_set_find(set: *const u8, len: usize, man: u8) -> u64;
+    pub fn sledgewren_set_find(man: u8, set: *const u8, len: usize) -> u64;
+
+    /// Bits 0-7 patch, 8-15 minor, 16-23 major.
+    pub fn sledgewren_version_number() -> u32;
 }

@@ -24,6 +24,7 @@
 //! | `sledgewren_write_number` | [`entry::write_number`] | [`Typed::of`], [`Position::typed`] |
 //! | `sledgewren_count` | [`entry::count`] | [`Position::count`] |
 //! | `sledgewren_moves` | [`entry::moves`] | [`Position::moves`] |
+//! | `sledgewren_play` | [`entry::play`] | [`Position::play`] |
 //! | `sledgewren_fill` | [`entry::fill`] | [`Table::fill`], [`Table::filled`] |
 //! | `sledgewren_fill_start` | [`entry::fill_start`] | [`Filling::start`] |
 //! | `sledgewren_fill_step` | [`entry::fill_step`] | [`Filling::step`] |
@@ -39,6 +40,7 @@
 //! | `sledgewren_set_start` | [`entry::set_start`] | [`Set::written_by_endings`] |
 //! | `sledgewren_set_fill` | [`entry::set_fill`] | [`Set::written_by_endings`] |
 //! | `sledgewren_set_find` | [`entry::set_find`] | [`Set::from_bytes`], [`Set::table`] |
+//! | `sledgewren_version_number` | [`entry::version`] | |
 
 #![deny(missing_docs, missing_debug_implementations)]
 
@@ -51,6 +53,7 @@ mod man;
 mod moves;
 mod opinion;
 mod parse;
+mod played;
 mod pocket;
 mod position;
 mod refusal;
@@ -66,6 +69,7 @@ pub use man::{Man, Side};
 pub use moves::{Move, Moves, MOST_MOVES, MOVES_BYTES};
 pub use opinion::{second_opinion, Opinion, MOST_PLIES};
 pub use parse::NotRead;
+pub use played::Played;
 pub use pocket::{Outcome, Pocket, Tallies, POCKET_BYTES};
 pub use position::{Keyed, KeyedMan, Position};
 pub use refusal::Refusal;

@@ -2,7 +2,7 @@
 
 use std::fmt;
 
-use crate::{entry, Man, Moves, Refusal, Side, Square};
+use crate::{entry, Man, Move, Moves, Played, Refusal, Side, Square};
 
 /// Two kings and one man of either side, and the side to move. It need not be legal: men may
 /// share a square, kings touch, and the side not to move be in check. The library says so where
@@ -42,6 +42,12 @@ impl Position {
     /// Its legal moves in list order. Refusals 4, 5, 6.
     pub fn moves(self) -> Result<Moves, Refusal> {
         entry::moves(self)
+    }
+
+    /// The position after a move, if it is legal; its two squares are asked and not its mark.
+    /// Refusals 4, 5, 6.
+    pub fn play(self, chosen: Move) -> Result<Played, Refusal> {
+        entry::play(self, chosen.from.code(), chosen.to.code())
     }
 }
 

@@ -52,9 +52,9 @@ fn answer_line(line: &[u8], held: u8, table: &mut [u8], slip: &mut [u8]) -> u32 
     // SAFETY: each pointer leads to as many bytes as its length says, and the slices are apart.
     unsafe {
         ffi::sledgewren_answer_line(
+            held,
             line.as_ptr(),
             line.len(),
-            held,
             table.as_mut_ptr(),
             table.len(),
             slip.as_mut_ptr(),

@@ -41,7 +41,7 @@ fn due(man: u8, table: &mut [u8], word: u32) -> u64 {
 fn found(man: u8, table: &mut [u8], word: u32) -> u64 {
     let (start, len) = (table.as_mut_ptr(), table.len());
     // SAFETY: `start` leads to `len` bytes that nothing else refers to.
-    unsafe { ffi::sledgewren_fill_step(man, start, len, word) }
+    unsafe { ffi::sledgewren_fill_step(man, word, start, len) }
 }
 
 /// One step of each on the same bytes; the library's answer.

@@ -3,9 +3,9 @@
 use second::fifty::{look_up_counted, Counted};
 use second::number::number;
 use second::pocket::{self, PocketAnswer};
-use second::position::{Keyed, KeyedMan, Refused};
+use second::position::{Keyed, KeyedMan, Position, Refused, Side};
 use second::rule::Value;
-use second::rules::{legal_position, moves, Move};
+use second::rules::{legal_position, moves, play, Move};
 use second::search::{search, Opinion};
 use second::table::Answer;
 use sledgewren::{ffi, MOVES_BYTES, POCKET_BYTES};
@@ -148,13 +148,75 @@ fn compare_moves(given: Given, tally: &mut Tally) {
     tally.add("moves' bytes and word", &given, our_list(given), due);
 }
 
+/// A man's sixteen bits; 0 for none.
+fn short_man(man: Option<KeyedMan>) -> u64 {
+    man.map_or(0, |KeyedMan { kind, colour, square }| {
+        u64::from(kind) | u64::from(colour) << 4 | 1 << 5 | u64::from(square) << 8
+    })
+}
+
+/// The position after a move; with bare kings no man is left. It is taken back to the board as
+/// keyed where the oracle has exchanged the colours.
+fn after(keyed: &Keyed, position: &Position, chosen: Move) -> Keyed {
+    let next = play(position, chosen).map_or(
+        Keyed {
+            side: Side::White.code(),
+            white_king: position.white_king,
+            black_king: chosen.to,
+            men: [None; 2],
+        },
+        |next| next.keyed(),
+    );
+    match keyed.men[0] {
+        Some(KeyedMan { colour: 1, .. }) => next.exchanged(),
+        _ => next,
+    }
+}
+
+fn played_word(keyed: &Keyed, from: u8, to: u8) -> u64 {
+    word(legal_position(keyed), |position| {
+        let list = moves(&position);
+        let named = |chosen: &&Move| (chosen.from, chosen.to) == (from, to);
+        list.as_slice().iter().find(named).map_or(1 << 15, |&chosen| {
+            let Keyed { side, white_king, black_king, men } = after(keyed, &position, chosen);
+            let low = u64::from(side) << 8 | u64::from(white_king) << 16;
+            low | u64::from(black_king) << 24 | short_man(men[0]) << 32 | short_man(men[1]) << 48
+        })
+    })
+}
+
+/// The position after a move, legal or not.
+fn compare_play(given: Given, from: u8, to: u8, tally: &mut Tally) {
+    let Given { side, white, black, first, second } = given;
+    // SAFETY: no pointers.
+    let found = unsafe { ffi::sledgewren_play(side, white, black, first, second, from, to) };
+    let due = played_word(&given.keyed(), from, to);
+    tally.add("play's word", &(given, from, to), found, due);
+}
+
+/// Every move of the oracle's list played, and one of any two bytes.
+fn compare_plays(given: Given, sequence: &mut Sequence, tally: &mut Tally) {
+    let list = list_of(&given.keyed()).0;
+    for chosen in list.chunks_exact(4).take_while(|bytes| bytes[..2] != [0, 0]) {
+        compare_play(given, chosen[0], chosen[1], tally);
+    }
+    let from = match sequence.below(4) {
+        0 => sequence.byte(),
+        1 => given.white,
+        2 => given.black,
+        _ => (given.first >> 16) as u8,
+    };
+    let to = if sequence.below(8) == 0 { sequence.byte() } else { sequence.below(64) as u8 };
+    compare_play(given, from, to, tally);
+}
+
 /// The look-up in a table, at a count.
 fn compare_look_up(given: Given, table: &[u8], count: u32, tally: &mut Tally) {
     let Given { side, white, black, first, second } = given;
     let (start, len) = (table.as_ptr(), table.len());
     // SAFETY: the slice's pointer leads to as many bytes as its length says.
     let found =
-        unsafe { ffi::sledgewren_look_up(start, len, side, white, black, first, second, count) };
+        unsafe { ffi::sledgewren_look_up(side, white, black, first, second, count, start, len) };
     let due = word(look_up_counted(table, &given.keyed(), count), counted_word);
     tally.add("look-up's word", &(given, count), found, due);
 }
@@ -165,7 +227,7 @@ fn compare_pocket(given: Given, packed: &[u8], tally: &mut Tally) {
     let (start, len) = (packed.as_ptr(), packed.len());
     // SAFETY: the slice's pointer leads to as many bytes as its length says.
     let found =
-        unsafe { ffi::sledgewren_pocket_look_up(start, len, side, white, black, first, second) };
+        unsafe { ffi::sledgewren_pocket_look_up(side, white, black, first, second, start, len) };
     let due = word(pocket::look_up(packed, &given.keyed()), pocket_word);
     tally.add("pocket look-up's word", &given, found as u64, due);
 }
@@ -196,6 +258,7 @@ pub fn random_words(sequence: &mut Sequence, tally: &mut Tally) {
         let given = Given::random(sequence);
         let (kind, plies) = (given.first as usize % 4, PLIES[sequence.below(PLIES.len())]);
         compare_moves(given, tally);
+        compare_plays(given, sequence, tally);
         let count = COUNTS[sequence.below(COUNTS.len())];
         compare_look_up(given, &tables[kind], count, tally);
         compare_pocket(given, &packed[kind], tally);

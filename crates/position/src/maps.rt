@@ -71,33 +71,7 @@ impl Map {
     }
 }
 
-// The men in a slot, likewise.
-fn slot_file_reversed(slot: Slot) -> Slot
-    ensures { λ r. ⌜ r ≡ mappedSlot filesReversed slot ⌝ }
-{
-    match slot {
-        Slot::Absent => Slot::Absent,
-        Slot::Present(m) => Slot::Present(Piece {
-            kind: m.kind,
-            colour: m.colour,
-            square: file_reversed(m.square),
-        }),
-    }
-}
-
-fn slot_rank_reversed(slot: Slot) -> Slot
-    ensures { λ r. ⌜ r ≡ mappedSlot ranksReversed slot ⌝ }
-{
-    match slot {
-        Slot::Absent => Slot::Absent,
-        Slot::Present(m) => Slot::Present(Piece {
-            kind: m.kind,
-            colour: m.colour,
-            square: rank_reversed(m.square),
-        }),
-    }
-}
-
+// The man in a slot, likewise.
 fn slot_reversed(files: bool, ranks: bool, slot: Slot) -> Slot
     ensures { λ r. ⌜ r ≡ mappedSlot (reversals files ranks) slot ⌝ }
 {
@@ -150,34 +124,6 @@ fn men_above(first: Slot, second: Slot) -> bool
 }
 
 impl Position {
-    pub fn files_reversed(self) -> Position
-        ensures { λ r. ⌜ r ≡ mappedPosition filesReversed self ⌝ }
-    {
-        let first = self.first;
-        let second = self.second;
-        Position {
-            side: self.side,
-            white_king: file_reversed(self.white_king),
-            black_king: file_reversed(self.black_king),
-            first: slot_file_reversed(first),
-            second: slot_file_reversed(second),
-        }
-    }
-
-    pub fn ranks_reversed(self) -> Position
-        ensures { λ r. ⌜ r ≡ mappedPosition ranksReversed self ⌝ }
-    {
-        let first = self.first;
-        let second = self.second;
-        Position {
-            side: self.side,
-            white_king: rank_reversed(self.white_king),
-            black_king: rank_reversed(self.black_king),
-            first: slot_rank_reversed(first),
-            second: slot_rank_reversed(second),
-        }
-    }
-
     pub fn exchanged(self) -> Position
         ensures { λ r. ⌜ r ≡ mappedPosition exchange self ⌝ }
     {

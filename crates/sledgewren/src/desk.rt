@@ -23,8 +23,8 @@ fn write_slip(bytes: [u8; 16], slip: &mut [u8])
 // `held` is the man whose table the lent table is. With another slip than 16 bytes nothing is written.
 #[no_mangle]
 pub extern "C" fn sledgewren_answer_line(
-    line: &[u8],
     held: u8,
+    line: &[u8],
     table: &mut [u8],
     slip: &mut [u8],
 ) -> u32

@@ -23,12 +23,12 @@ pub extern "C" fn sledgewren_pack(table: &[u8], pocket: &mut [u8]) -> u32
 // Refusals 1 to 7 and 11.
 #[no_mangle]
 pub extern "C" fn sledgewren_pocket_look_up(
-    pocket: &[u8],
     side: u8,
     white: u8,
     black: u8,
     first: u32,
     second: u32,
+    pocket: &[u8],
 ) -> u32
     ensures { λ r. ⌜ r ≡ toldWord (pocketLookUpOf (now (pocket .entry)) (positionRead side white black first second)) ⌝ }
 {

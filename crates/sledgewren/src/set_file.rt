@@ -79,7 +79,7 @@ pub extern "C" fn sledgewren_set_fill(kind: u8, set: &mut [u8]) -> u32
 
 // Refusals 1, 14 and 15.
 #[no_mangle]
-pub extern "C" fn sledgewren_set_find(set: &[u8], kind: u8) -> u64
+pub extern "C" fn sledgewren_set_find(kind: u8, set: &[u8]) -> u64
     ensures { λ r. ⌜ r ≡ foundWord (findOf (now (set .entry)) kind) ⌝ }
 {
     found_word(find(set, kind))

@@ -66,7 +66,7 @@ pub extern "C" fn sledgewren_fill_start(kind: u8, table: &mut [u8]) -> u64
 
 // Refusals 1 and 7 leave the table and the progress as they were, 10 leaves the table all zero.
 #[no_mangle]
-pub extern "C" fn sledgewren_fill_step(kind: u8, table: &mut [u8], progress: u32) -> u64
+pub extern "C" fn sledgewren_fill_step(kind: u8, progress: u32, table: &mut [u8]) -> u64
     ensures { λ r. ⌜ (r ≡ stepWord (stepOf kind (now (table .entry)) (progressOf progress) .step)) × (now (table .exit) ≡ stepOf kind (now (table .entry)) (progressOf progress) .bytes) ⌝ }
 {
     let p = progress_of(progress);

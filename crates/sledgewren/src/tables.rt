@@ -31,13 +31,13 @@ pub extern "C" fn sledgewren_check(kind: u8, table: &[u8]) -> u64
 // Refusals 1 to 7, 11 and 19.
 #[no_mangle]
 pub extern "C" fn sledgewren_look_up(
-    table: &[u8],
     side: u8,
     white: u8,
     black: u8,
     first: u32,
     second: u32,
     plies: u32,
+    table: &[u8],
 ) -> u64
     ensures { λ r. ⌜ r ≡ markedWord (lookUpAt (now (table .entry)) plies (positionRead side white black first second)) ⌝ }
 {

@@ -2,4 +2,6 @@ pub mod Words
 pub mod Reading
 pub mod HostGame
 pub mod Men
+pub mod Played
+pub mod Version
 pub mod laws

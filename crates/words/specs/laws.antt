@@ -2,3 +2,4 @@ pub mod ReadingLaws
 pub mod AnswersFit
 pub mod HostGames
 pub mod MenLaws
+pub mod PlayedLaws

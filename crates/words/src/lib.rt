@@ -1,5 +1,7 @@
 // The word of each answer, and the words that a position is given in (include/sledgewren.h).
 mod men;
+mod played;
+mod version;
 
 use answers::Answer;
 use answers::BestMove;
@@ -10,9 +12,11 @@ use index::NumberAnswer;
 use index::Placed;
 pub use men::position_read;
 use move_list::Counted;
+pub use played::played_word;
 use position::Position;
 use position::man_in;
 use rules::Move;
+pub use version::version_word;
 ghost use mathlib.Core.Path.{_≡_};
 ghost use Prim.Native.Nat.{_+_, _*_, _^_, _≤_, _<_};
 ghost use Rattle.words.specs.Words.{numberWord, placedWord, countWord, filledWord, checkedWord, flagOf, adviceWord, answerWord, markedWord};

@@ -44,7 +44,7 @@ pub fn set_fill(man: impl Into<u8>, set: &mut [u8]) -> Result<Option<u8>, Refusa
 /// Where a set holds an ending's table. Refusals 1, 14, 15.
 pub fn set_find(set: &[u8], man: impl Into<u8>) -> Result<Range<usize>, Refusal> {
     // SAFETY: the slice's pointer leads to as many bytes as its length says.
-    let answer = unsafe { ffi::sledgewren_set_find(set.as_ptr(), set.len(), man.into()) };
+    let answer = unsafe { ffi::sledgewren_set_find(man.into(), set.as_ptr(), set.len()) };
     let answer = unless_refused("set_find", answer)?;
     let (offset, length) = ((answer >> 32) as usize, (answer >> 8) as usize & 0xFF_FFFF);
     let place = offset..offset + length;

@@ -54,7 +54,7 @@ positive : (n : ℕ) → (n ≡ 0 → ⊥) → 1 ≤ n
 positive zero f = absurd (f refl)
 positive (suc n) f = omega arith
 
-refusal-fits : (n most : ℕ) → eqb n 0 ≡ false → n ≤ most → most < 256 → RefusalFits n
+pub refusal-fits : (n most : ℕ) → eqb n 0 ≡ false → n ≤ most → most < 256 → RefusalFits n
 refusal-fits n most e h k = let low = positive n (eqb-false n 0 e) in (low, omega arith)
 
 -- ---- number, position and count

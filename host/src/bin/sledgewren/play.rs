@@ -2,11 +2,10 @@
 
 use std::io::{self, BufRead, Write};
 
-use sledgewren::{Accepted, Move, Position, Side, Value};
+use sledgewren::{Accepted, Move, Played, Position, Side, Value};
 
 use crate::failure::{Done, Failure};
-use crate::game::{self, After};
-use crate::{board, fen, words};
+use crate::{board, fen, game, words};
 
 const DEFAULT: &str = "R w e3 h1 e5";
 
@@ -83,9 +82,11 @@ fn game(
         if position.side != player {
             writeln!(out, "{} (desk): {san} ({chosen})", position.side)?;
         }
-        match game::after(position, chosen) {
-            After::BareKings => return Ok(writeln!(out, "{san}: bare kings, a draw")?),
-            After::Position(next) => position = next,
+        match position.play(chosen)? {
+            Played::At(next) => position = next,
+            Played::BareKings { .. } => return Ok(writeln!(out, "{san}: bare kings, a draw")?),
+            // Moves come from the library's list or its look-up.
+            Played::NotLegal => return Err(Failure::Refused(format!("{chosen} is not legal"))),
         }
         if position.side == player {
             writeln!(out, "{}", board::text(position))?;

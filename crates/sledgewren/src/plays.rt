@@ -1,0 +1,25 @@
+// A legal move played.
+use playing::play;
+use words::played_word;
+use words::position_read;
+ghost use mathlib.Core.Path.{_≡_};
+ghost use Rattle.playing.specs.Playing.{playOf};
+ghost use Rattle.words.specs.Men.{positionRead};
+ghost use Rattle.words.specs.Played.{playedWord};
+
+// Refusals 1 to 6.
+#[no_mangle]
+pub extern "C" fn sledgewren_play(
+    side: u8,
+    white: u8,
+    black: u8,
+    first: u32,
+    second: u32,
+    from: u8,
+    to: u8,
+) -> u64
+    ensures { λ r. ⌜ r ≡ playedWord (playOf (positionRead side white black first second) from to) ⌝ }
+{
+    let p = position_read(side, white, black, first, second);
+    played_word(play(p, from, to))
+}
