@@ -48,5 +48,5 @@ pub fn row(desk: &str, oracle: &str, folder: &Path, repeats: usize) -> Result<Ro
     let timed_run = |words: &[&str]| timed_program(|| drop(run(words, &input)));
     let (library, other) = medians(repeats, || timed_run(programs[0]), || timed_run(programs[1]));
     let what = format!("desk program, {LINES} lines, queen");
-    Ok(Row { what, library, beside: "oracle's desk", other, of: Of::Whole, goal: None })
+    Ok(Row { what, library, beside: "oracle's desk", other, of: Of::Whole, goal: Some(1.0) })
 }

@@ -85,7 +85,7 @@ mod probing {
         /// One probe a position: value and depth, no move.
         pub fn beside_probe(&self, gaviota: &Gaviota, repeats: usize) -> Row {
             let seconds = self.seconds();
-            self.row("Gaviota's probe, no move", Some(1.0), repeats, || {
+            self.row("Gaviota's probe, no move", Some(0.6), repeats, || {
                 seconds.iter().for_each(|keyed| probe(gaviota, keyed))
             })
         }

@@ -1,7 +1,10 @@
 //! Measures the library beside the oracle and Gaviota, in one run.
 //!
 //! usage: bench ORACLE DESK GAVIOTA-FOLDER OUTPUT-FOLDER, with - for what is not there
+//!
+//! It runs itself as `bench count WORK SIDE GAVIOTA-FOLDER` to have instructions counted.
 
+mod counts;
 mod desk;
 mod look_ups;
 mod moves;
@@ -95,18 +98,25 @@ fn measure(oracle: &str, program: &str, gaviota: &str, folder: &Path) -> Result<
     Ok(rows)
 }
 
+fn all(oracle: &str, desk: &str, gaviota: &str, folder: &Path) -> Result<(), String> {
+    says();
+    print(&measure(oracle, desk, gaviota, folder)?);
+    counts::print(gaviota);
+    Ok(())
+}
+
 fn main() -> ExitCode {
     let words: Vec<String> = std::env::args().skip(1).collect();
     let [oracle, desk, gaviota, folder] = &words[..] else {
         eprintln!("usage: bench ORACLE DESK GAVIOTA-FOLDER OUTPUT-FOLDER");
         return ExitCode::from(2);
     };
-    says();
-    match measure(oracle, desk, gaviota, Path::new(folder)) {
-        Ok(rows) => {
-            print(&rows);
-            ExitCode::SUCCESS
-        }
+    let done = match oracle.as_str() {
+        "count" => counts::run(desk, gaviota == "other", folder),
+        _ => all(oracle, desk, gaviota, Path::new(folder)),
+    };
+    match done {
+        Ok(()) => ExitCode::SUCCESS,
         Err(message) => {
             eprintln!("bench: {message}");
             ExitCode::from(1)

@@ -10,12 +10,12 @@ use crate::positions::{legal, second};
 use crate::timing::{medians, timed, Of, Row};
 
 /// The oracle's way to the same answer: refusals 1 to 6, then the list.
-fn oracle_moves(keyed: &SecondKeyed) -> usize {
+pub fn oracle_moves(keyed: &SecondKeyed) -> usize {
     legal_position(keyed).map_or(0, |position| black_box(moves(&position)).as_slice().len())
 }
 
 /// The C function as it is: the safe one also makes squares of the bytes.
-fn library_moves(keyed: Keyed) -> usize {
+pub fn library_moves(keyed: Keyed) -> usize {
     let Keyed { side, white_king, black_king, .. } = keyed;
     let [first, second] = keyed.words();
     let mut list = [0; MOVES_BYTES];
@@ -27,7 +27,7 @@ fn library_moves(keyed: Keyed) -> usize {
     (answer >> 8) as usize
 }
 
-fn library_count(keyed: Keyed) -> usize {
+pub fn library_count(keyed: Keyed) -> usize {
     entry::count(keyed).map_or(0, |count| count as usize)
 }
 
@@ -36,7 +36,7 @@ pub fn rows(man: Man, side: Side, repeats: usize) -> Result<[Row; 2], String> {
     let positions = legal(man, side);
     let seconds: Vec<SecondKeyed> = positions.iter().copied().map(second).collect();
     let mut total = (0, 0);
-    let mut row = |name: &str, ours: fn(Keyed) -> usize| {
+    let mut row = |name: &str, goal: f64, ours: fn(Keyed) -> usize| {
         let (library, other) = medians(
             repeats,
             || timed(|| total.0 = positions.iter().map(|&keyed| ours(keyed)).sum()),
@@ -52,8 +52,8 @@ pub fn rows(man: Man, side: Side, repeats: usize) -> Result<[Row; 2], String> {
             beside: "oracle's list",
             other,
             of: Of::Each(positions.len()),
-            goal: None,
+            goal: Some(goal),
         })
     };
-    Ok([row("moves", library_moves)?, row("count", library_count)?])
+    Ok([row("moves", 2.0, library_moves)?, row("count", 1.2, library_count)?])
 }

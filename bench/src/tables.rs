@@ -35,7 +35,7 @@ pub fn fill(man: Man, repeats: usize) -> Result<Row, String> {
         beside: "oracle, every position",
         other,
         of: Of::Whole,
-        goal: Some(1.5),
+        goal: Some(0.6),
     })
 }
 
@@ -57,5 +57,5 @@ pub fn check(man: Man, repeats: usize) -> Result<Row, String> {
         return Err(format!("{man}: the table is not accepted"));
     }
     let what = format!("check, {man}");
-    Ok(Row { what, library, beside: "oracle", other, of: Of::Whole, goal: None })
+    Ok(Row { what, library, beside: "oracle", other, of: Of::Whole, goal: Some(0.5) })
 }

@@ -1,3 +1,4 @@
+pub mod MatchLaws
 pub mod SquareLaws
 pub mod LineLaws
 pub mod WalkLaws
@@ -9,3 +10,4 @@ pub mod LowestLaws
 pub mod SweepLaws
 pub mod StepLaws
 pub mod WalkBits
+pub mod EmptyLaws

@@ -1,4 +1,5 @@
 // Squares, the lines along which pieces attack, and sets of squares.
+mod empty_board;
 mod lines;
 mod sets;
 mod steps;

@@ -1,9 +1,12 @@
 // The squares that a piece attacks, as one set.
+use super::empty_board::bishop_lines;
+use super::empty_board::king_steps;
+use super::empty_board::knight_steps;
+use super::empty_board::rook_lines;
 use super::steps::ends_of;
 use super::steps::step_at;
 use super::steps::stepped;
 ghost use mathlib.Core.Path.{_≡_};
-ghost use mathlib.Core.Bool.{false};
 ghost use Prim.Native.Nat.{ℕ, _-_, _≤_, _<_};
 ghost use Rattle.finite.specs.Members.{any};
 ghost use Rattle.finite.specs.Numbers.{numbers};
@@ -36,43 +39,46 @@ fn lines(occ: u64, from: u8, first: u8, end: u8) -> u64
     }
 }
 
-// The squares of the steps `first` up to `end`, each made once: nothing stands in their way.
-pub fn near(from: u8, first: u8, end: u8) -> u64
-    requires { ⌜ (from < 64) × (end ≤ 16) ⌝ }
-    ensures { λ r. ⌜ ((t : ℕ) → t < 64 → holds r t ≡ any (lineOf (λ (u : ℕ). false) 5 from t) (numbers (end - first) first)) ⌝ }
+// The squares that a rook attacks. Its lines are walked only where a piece stands on them.
+fn rook_targets(occ: u64, from: u8) -> u64
+    ensures { λ r. ⌜ r ≡ setOf (reachesOf (holds occ) 1 from) ⌝ }
 {
-    let b: u64 = 1 << from;
-    let mut set: u64 = 0;
-    let mut k = first;
-    while k < end {
-        let step = step_at(k);
-        set |= stepped(b, step, ends_of(step));
-        k += 1;
+    let full = rook_lines(from);
+    if full & occ == 0 {
+        return full;
     }
-    set
+    lines(occ, from, 0, 4)
+}
+
+// The squares that a bishop attacks, in the same way.
+fn bishop_targets(occ: u64, from: u8) -> u64
+    ensures { λ r. ⌜ r ≡ setOf (reachesOf (holds occ) 2 from) ⌝ }
+{
+    let full = bishop_lines(from);
+    if full & occ == 0 {
+        return full;
+    }
+    lines(occ, from, 4, 8)
 }
 
 // All the squares that a piece of this kind on `from` attacks: queen 0, rook 1, bishop 2, knight 3, king 5.
 pub fn targets(occ: u64, kind: u8, from: u8) -> u64
     ensures { λ r. ⌜ r ≡ setOf (reachesOf (holds occ) kind from) ⌝ }
 {
-    if 64 <= from {
-        return 0;
-    }
     if kind == 0 {
-        return lines(occ, from, 0, 8);
+        return rook_targets(occ, from) | bishop_targets(occ, from);
     }
     if kind == 1 {
-        return lines(occ, from, 0, 4);
+        return rook_targets(occ, from);
     }
     if kind == 2 {
-        return lines(occ, from, 4, 8);
+        return bishop_targets(occ, from);
     }
     if kind == 3 {
-        return near(from, 8, 16);
+        return knight_steps(from);
     }
     if kind == 5 {
-        return near(from, 0, 8);
+        return king_steps(from);
     }
     0
 }

@@ -6,13 +6,13 @@ ghost use Rattle.board.specs.Sets.{setOf};
 ghost use Rattle.board.specs.SetLaws.{bit};
 ghost use Rattle.board.specs.StepLaws.{IsStep, endsOn};
 
-// The king's eight steps, of which four are the rook's directions and four the bishop's, and the knight's eight.
+// The eight directions, of which four are the rook's and four the bishop's.
 // A step is one number x + 8 * y, of its changes of file and of rank, each plus 2; so the one that stays is 18.
-const STEPS: [u8; 16] = [10, 17, 19, 26, 9, 11, 25, 27, 1, 3, 8, 12, 24, 28, 33, 35];
+const STEPS: [u8; 8] = [10, 17, 19, 26, 9, 11, 25, 27];
 
-// The k-th step.
+// The step of the k-th direction.
 pub fn step_at(k: u8) -> u8
-    requires { ⌜ k < 16 ⌝ }
+    requires { ⌜ k < 8 ⌝ }
     ensures { λ r. ⌜ IsStep r k ⌝ }
 {
     STEPS[k as usize]

@@ -1,6 +1,6 @@
 // The walk from a square in one direction, and attack by walks.
 use super::Met;
-use super::lines::near;
+use super::empty_board::on_empty;
 use super::sets::has;
 use super::sets::lowest;
 use super::sets::with;
@@ -59,7 +59,7 @@ fn meets(occ: u64, from: u8, first: u8, end: u8, t: u8) -> bool
 pub fn attacks(occ: u64, kind: u8, from: u8, t: u8) -> bool
     ensures { λ r. ⌜ r ≡ reaches (holds occ) kind from t ⌝ }
 {
-    if 64 <= from {
+    if !has(on_empty(kind, from), t) {
         return false;
     }
     if kind == 0 {
@@ -71,11 +71,5 @@ pub fn attacks(occ: u64, kind: u8, from: u8, t: u8) -> bool
     if kind == 2 {
         return meets(occ, from, 4, 8, t);
     }
-    if kind == 3 {
-        return has(near(from, 8, 16), t);
-    }
-    if kind == 5 {
-        return has(near(from, 0, 8), t);
-    }
-    false
+    true
 }

@@ -1,6 +1,9 @@
-// The pair of two kings' squares, by a constant list.
+// The pair of two kings' squares, by a constant list and by the same list packed.
 use super::PairList;
+use super::packed::four_pairs;
 ghost use mathlib.Core.Path.{_≡_};
+ghost use Prim.Native.Nat.{_<_};
+ghost use lib.ListN.{getD};
 ghost use Rattle.numbering.specs.Kings.{pairOf};
 ghost use Rattle.pairs.specs.Tables.{slotOf, pairs, pairIn};
 
@@ -684,10 +687,24 @@ pub fn pair_in(list: &PairList, white: u8, black: u8) -> u16
     list[slot as usize * 64 + black as usize]
 }
 
+// The list's entry, from the packed words: nothing is built to read one.
+fn pair_at(i: u16) -> u16
+    requires { ⌜ i < 640 ⌝ }
+    ensures { λ r. ⌜ r ≡ getD pairs i 0 ⌝ }
+{
+    ((four_pairs(i / 4) >> (i % 4 * 16)) % 65536) as u16
+}
+
 // The pair of any two bytes; 65535 where they form none.
 pub fn pair_of(white: u8, black: u8) -> u16
     ensures { λ r. ⌜ r ≡ pairOf white black ⌝ }
 {
-    let list = pair_list();
-    pair_in(&list, white, black)
+    let slot = slot_of(white);
+    if 10 <= slot {
+        return 65535;
+    }
+    if 64 <= black {
+        return 65535;
+    }
+    pair_at(slot as u16 * 64 + black as u16)
 }

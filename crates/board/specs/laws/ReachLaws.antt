@@ -5,9 +5,10 @@ use mathlib.Core.List.{[]}
 use mathlib.Core.Logic.{_⊎_, inr, ⊎-elim}
 use Prim.Native.Nat.{ℕ, _+_, _^_, _≤_, _<_}
 use native.Mathlib.Omega.{arith}
-use lib.Dec.{T, leb, ltb, leb→le, ltb→lt}
+use lib.Dec.{T, eqb, leb, ltb, eqb→eq, leb→le, ltb→lt}
 use lib.ListN.{getD, List·getD-eq-default}
-use Rattle.finite.specs.Truth.{and-left, and-right, fails, le-or-lt}
+use borrow.Author.Tests.{eq-eqb}
+use Rattle.finite.specs.Truth.{and-left, and-right, by-test, fails, of-true, le-or-lt}
 use Rattle.finite.specs.Members.{_∈_, any, any-out, any-same, none-in}
 use Rattle.finite.specs.Numbers.{numbers, numbers-out}
 use Rattle.finite.specs.Below.{allBelow, below}
@@ -78,6 +79,18 @@ king-reaches occ occ′ s t = near-reaches occ occ′ 5 s t refl
 
 pub knight-reaches : (occ occ′ : ℕ → Bool) (s t : ℕ) → reaches occ 3 s t ≡ reaches occ′ 3 s t
 knight-reaches occ occ′ s t = near-reaches occ occ′ 3 s t refl
+
+-- the same of every code but a queen's, a rook's and a bishop's
+pub near-same : (occ occ′ : ℕ → Bool) (kind s t : ℕ) → 2 < kind → reaches occ kind s t ≡ reaches occ′ kind s t
+near-same occ occ′ kind s t h =
+    by-test (eqb kind 3) (λ q. let e = eqb→eq kind 3 q in rw e (knight-reaches occ occ′ s t))
+    (λ a. by-test (eqb kind 5) (λ q. let e = eqb→eq kind 5 q in rw e (king-reaches occ occ′ s t)) (λ b. neither a b))
+  where
+    neither : (T (eqb kind 3) → ⊥) → (T (eqb kind 5) → ⊥) → reaches occ kind s t ≡ reaches occ′ kind s t
+    neither a b =
+        let x : kind ≡ 3 → ⊥ = λ e. a (of-true (eq-eqb kind 3 e)) in
+        let y : kind ≡ 5 → ⊥ = λ e. b (of-true (eq-eqb kind 5 e)) in
+        reaches-other occ kind s t h x y ∙ sym (reaches-other occ′ kind s t h x y)
 
 -- ---- the ranges of the tables, each by one test over the whole table
 

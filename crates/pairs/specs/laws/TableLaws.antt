@@ -18,7 +18,8 @@ use Rattle.board.specs.Reach.{line, reaches}
 use Rattle.numbering.specs.Kings.{above, inTriangle, cornered, separate, kingRule, kingPair, pairOf, kingsOf}
 use Rattle.numbering.specs.laws.PairLaws.{pair-count}
 use Rattle.numbering.specs.laws.Numberable.{separate-black, ruled-separate, ruled-triangle}
-use Rattle.pairs.specs.Tables.{whites, firsts, slotOf, rowFrom, rowOf, blacks, pairs, pairIn}
+use Rattle.pairs.specs.Tables.{whites, firsts, slotOf, rowFrom, rowOf, pairs, pairIn}
+use Rattle.pairs.specs.Packed.{entryOf, blackOf}
 
 -- ---- the ten white squares
 
@@ -83,14 +84,14 @@ abbrev entry : ℕ → ℕ → ℕ
 entry white black = getD pairs (slotOf white * 64 + black) 0
 
 abbrev kingsAt : ℕ → ℕ
-kingsAt pair = getD whites (rowOf pair) 0 * 64 + getD blacks pair 0
+kingsAt pair = getD whites (rowOf pair) 0 * 64 + blackOf pair
 
 right : ℕ → ℕ → Bool
 right k c = implies (inTriangle (k / 64)) (eqb (entry (k / 64) (k % 64)) (cond (kingPair k) c 65535)) && implies
     (kingPair k) (eqb (kingsAt c) k)
 
 all-right : T (pass kingPair right 4096 0 0)
-unfolding pass right pairs slotOf blacks rowFrom kingPair kingRule cornered separate reaches any numbers line shift stays
+unfolding pass right pairs slotOf rowFrom kingPair kingRule cornered separate reaches any numbers line shift stays
 all-right = tt
 
 right-at : (k : ℕ) → k < 4096 → T (right k (rank kingPair k))
@@ -149,11 +150,24 @@ lent-pair list white black e =
     (le-or-lt 64 black))
     (le-or-lt 10 (slotOf white))
 
+-- ---- the list packed, by one test over the whole of it
+
+packed : ℕ → Bool
+packed i = eqb (entryOf i) (getD pairs i 0)
+
+all-packed : T (allBelow packed 640)
+unfolding allBelow packed pairs
+all-packed = tt
+
+pub entry-packed : (i : ℕ) → i < 640 → entryOf i ≡ getD pairs i 0
+unfolding packed
+entry-packed i h = eqb→eq (entryOf i) (getD pairs i 0) (below packed 640 all-packed i h)
+
 -- ---- from pair to squares
 
 pub record Found (pair row : ℕ) : Type 0 where
-  pub kings : getD whites row 0 * 64 + getD blacks pair 0 ≡ kingsOf pair
-  pub small : getD whites row 0 * 64 + getD blacks pair 0 < 4096
+  pub kings : getD whites row 0 * 64 + blackOf pair ≡ kingsOf pair
+  pub small : getD whites row 0 * 64 + blackOf pair < 4096
 
 -- the white square of the pair's row and the pair's black square
 pub kings-found : (pair row : ℕ) → pair < 462 → row ≡ rowOf pair → Found pair row
