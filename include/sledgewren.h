@@ -1,7 +1,7 @@
 /*
- * Sledgewren: two kings and one man of either side. Positions are numbered, their tables filled and
- * checked, positions looked up, searched without a table, and a desk's lines answered; tables are
- * packed to pockets.
+ * Sledgewren: two kings and one man or two of either side. Positions are numbered, their tables
+ * filled and checked, positions looked up; with one man also searched without a table, a desk's
+ * lines answered, and tables packed to pockets.
  *
  * Link with libsledgewren.a (x86-64 Linux). C99; C++ may include it.
  *
@@ -11,19 +11,31 @@
  *   side     to move: White 0, Black 1
  *   square   8 x rank + file: a1 is 0, h1 is 7, h8 is 63
  *   white    the white king's square; black: the black king's
- *   number   of a position, 0 to 59,135; positions that the board's eight maps, with or without
- *            an exchange of the colours, turn into each other have one number
+ *   ending   one man: his code; two: SLEDGEWREN_TWO_MEN(first, second, rivals), where the first is
+ *            the man earlier in queen, rook, bishop, knight, and rivals is 0 for two men of one
+ *            side and 1 for one each. Any other word is refused 1. sledgewren_ending gives the
+ *            ending of a position's men.
+ *   number   of a position, 0 to 59,135 with one man and 0 to 3,784,703 with two; positions that
+ *            the board's eight maps, an exchange of like men, and an exchange of the colours turn
+ *            into each other have one number (the colours stay with like kinds one each)
  *
  * A position is given by the side to move, the kings' squares and two words, each a man besides
  * the kings or none: bits 0-7 kind (a man's code), 8-15 colour, 16-23 square; the man is absent
  * where bits 24-31 are 0. SLEDGEWREN_A_MAN makes such a word, SLEDGEWREN_ABSENT is none. One man
- * in the first word has a table, of either colour: with Black's man the colours, the kings and
- * the side to move are exchanged and the position is looked up in the table of White's man; every
- * square stays, so that a move is one of the board as given. Two men have no table yet.
+ * stands in the first word; two stand in either order and are of any colours. Where White's men
+ * are not the ending's, the colours, the kings and the side to move are exchanged and the position
+ * is looked up so; every square stays, so that a move is one of the board as given. Pockets, sets,
+ * second opinions, typed numbers and lines of the desk keep to one man: two are refused 1 there.
  *
- * A table has 59,136 bytes, one a number. Byte 0: the number is unused or its position illegal;
- * 1: a draw; 2 + n: depth n in plies, a win for the side to move where n is odd and a loss where
- * it is even. Checkmate is a loss in 0.
+ * A table has one byte a number: 59,136 with one man, 3,784,704 with two. Byte 0: the number is
+ * unused or its position illegal; 1: a draw; 2 + n: depth n in plies, a win for the side to move
+ * where n is odd and a loss where it is even. Checkmate is a loss in 0.
+ *
+ * With two men captures lead into tables of one man, which a call is lent beside the ending's own:
+ * `small_first` is the table of the first man's kind and `small_second` that of the second's; of
+ * like kinds one table is lent twice. With one man they are not read, and their lengths are not
+ * asked: SLEDGEWREN_NO_TABLES stands for the four arguments. A man left alone is looked up in the
+ * table of his own ending, with one man.
  *
  * A pocket is a table packed to two bits a number, 14,784 bytes. Number k has its entry in byte
  * k / 4 at bit 2 x (k mod 4): 0 for byte 0, 1 for a draw, 2 for a win, 3 for a loss.
@@ -39,7 +51,8 @@
  * its length after it. Values of a position are the side to move, the kings and the two men.
  *
  * A pointer must not be null, even where its length is 0, and must lead to at least as many bytes
- * as its length says. Buffers that one call is lent must not overlap.
+ * as its length says. Buffers that one call is lent must not overlap, but that the two small
+ * tables may be one.
  *
  * An answer is one integer. A refusal gives its number and nothing else: every other field is 0.
  * The bit ranges below are proved to give each answer back, and no two answers of a function have
@@ -70,6 +83,7 @@ extern "C" {
 
 /* Lengths of the buffers that the functions are lent. */
 #define SLEDGEWREN_TABLE_BYTES 59136
+#define SLEDGEWREN_LARGE_TABLE_BYTES 3784704
 #define SLEDGEWREN_MOVES_BYTES 248
 #define SLEDGEWREN_SLIP_BYTES 16
 #define SLEDGEWREN_POCKET_BYTES 14784
@@ -80,8 +94,8 @@ extern "C" {
 /* Length of a set of so many tables: 4 with none, 236,596 with all four. */
 #define SLEDGEWREN_SET_BYTES(tables) (4 + (12 + SLEDGEWREN_TABLE_BYTES) * (size_t)(tables))
 
-/* No position has more legal moves. */
-#define SLEDGEWREN_MOST_MOVES 35
+/* No position has more legal moves; with one man there are at most 35. */
+#define SLEDGEWREN_MOST_MOVES 62
 
 /* The most plies that a second opinion may be asked for. */
 #define SLEDGEWREN_MOST_PLIES 6
@@ -113,6 +127,17 @@ extern "C" {
     (0x1000000u | (uint32_t)(uint8_t)(man) | (uint32_t)(uint8_t)(colour) << 8 | \
      (uint32_t)(uint8_t)(square) << 16)
 #define SLEDGEWREN_ABSENT 0u
+
+/* The ending of two men, the first not after the second; rivals: 0 one side's, 1 one each. */
+#define SLEDGEWREN_TWO_MEN(first, second, rivals) \
+    ((uint32_t)(uint8_t)(first) | ((uint32_t)(uint8_t)(second) + 1u) << 8 | \
+     (uint32_t)((rivals) != 0) << 16)
+
+/* sledgewren_ending's answer where the men are no ending's. */
+#define SLEDGEWREN_NO_ENDING 0xFFFFFFFFu
+
+/* The two small tables and their lengths where there is one man. */
+#define SLEDGEWREN_NO_TABLES (const uint8_t *)"", 0, (const uint8_t *)"", 0
 
 enum sledgewren_man {
     SLEDGEWREN_QUEEN = 0,
@@ -155,15 +180,15 @@ enum sledgewren_stage {
 /* Where several apply the lowest counts, except that a line's shape comes first, then its check. */
 enum sledgewren_refusal {
     SLEDGEWREN_NOT_REFUSED = 0,
-    SLEDGEWREN_BAD_MAN = 1,          /* material code above 3; no man, an absent one before a
-                                        present one, or two */
+    SLEDGEWREN_BAD_MAN = 1,          /* a man's code above 3, or no ending's word; no man, or an
+                                        absent one before a present one; two where one is served */
     SLEDGEWREN_BAD_SIDE = 2,         /* side, or a man's colour, not 0 or 1 */
     SLEDGEWREN_BAD_SQUARE = 3,       /* a square above 63 */
     SLEDGEWREN_SHARED_SQUARE = 4,    /* two men on one square */
     SLEDGEWREN_KINGS_TOUCH = 5,      /* kings touch */
     SLEDGEWREN_OTHER_IN_CHECK = 6,   /* side not to move is in check */
-    SLEDGEWREN_TABLE_LENGTH = 7,     /* table not 59,136 bytes, or pocket not 14,784 */
-    SLEDGEWREN_NUMBER_TOO_HIGH = 8,  /* number above 59,135 */
+    SLEDGEWREN_TABLE_LENGTH = 7,     /* a table not as long as its ending's, or pocket not 14,784 */
+    SLEDGEWREN_NUMBER_TOO_HIGH = 8,  /* number above 59,135, or 3,784,703 with two men */
     SLEDGEWREN_NUMBER_UNUSED = 9,    /* number unused */
     SLEDGEWREN_TOO_DEEP = 10,        /* a legal position's true depth exceeds 253 */
     SLEDGEWREN_INCONSISTENT = 11,    /* the byte is not what the successors' bytes require, or a
@@ -173,6 +198,7 @@ enum sledgewren_refusal {
     SLEDGEWREN_WRONG_SET = 14,       /* not a right set, or not as long as the endings need */
     SLEDGEWREN_NOT_IN_SET = 15,      /* the ending is not in the set */
     SLEDGEWREN_TOO_MANY_PLIES = 16,  /* more than 6 plies asked for */
+    SLEDGEWREN_NOT_ACCEPTED = 17,    /* a small table is not accepted by the checker */
     SLEDGEWREN_TOO_MANY_QUIET = 19   /* more than 99 plies since the last capture */
 };
 
@@ -184,10 +210,21 @@ uint32_t sledgewren_number(uint8_t side, uint8_t white, uint8_t black, uint32_t 
                            uint32_t second);
 
 /*
- * The position that a number stands for, with White's man. Refusals 1, 8, 9.
- *   bits 0-7 refusal, 8-15 side, 16-23 white king, 24-31 man's square, 32-39 black king
+ * The position that a number of an ending stands for. The first man is White's, the second White's
+ * or, with one each, Black's. Refusals 1, 8, 9.
+ *   bits 0-7 refusal, 8-15 side, 16-23 white king, 24-31 the first man's square, 32-39 black king,
+ *   40-47 the second man's square, 64 where there is none
  */
-uint64_t sledgewren_position(uint8_t man, uint32_t number);
+uint64_t sledgewren_position(uint32_t ending, uint32_t number);
+
+/*
+ * The ending of a position's men, which may be given in either order and be of any colours; with
+ * Black's men for White's it is the same. SLEDGEWREN_NO_ENDING where they are no ending's.
+ */
+uint32_t sledgewren_ending(uint32_t first, uint32_t second);
+
+/* How many bytes an ending's table has; 0 where there is no such ending. */
+uint32_t sledgewren_table_bytes(uint32_t ending);
 
 /*
  * A number as a clerk types it: its five digits and two check digits (ISO 7064 MOD 97-10), so that
@@ -209,8 +246,7 @@ uint32_t sledgewren_count(uint8_t side, uint8_t white, uint8_t black, uint32_t f
  * sledgewren_count's. Where len is 248, moves gets 62 places of four bytes: from-square,
  * to-square, 1 if the move takes a man and 0 if not, and 0. The places after the last move hold
  * 0, and all of them on a refusal. With any other len nothing is written and the answer is
- * SLEDGEWREN_MOVES_LENGTH. (62 places are room for endings with two men, and the fourth byte is
- * kept for the piece that a pawn becomes, so that neither need change with them.)
+ * SLEDGEWREN_MOVES_LENGTH. (The fourth byte is kept for the piece that a pawn becomes.)
  */
 uint32_t sledgewren_moves(uint8_t side, uint8_t white, uint8_t black, uint32_t first,
                           uint32_t second, uint8_t *moves, size_t len);
@@ -228,26 +264,30 @@ uint64_t sledgewren_play(uint8_t side, uint8_t white, uint8_t black, uint32_t fi
                          uint32_t second, uint8_t from, uint8_t to);
 
 /*
- * Writes the true table of an ending, whatever the bytes held before. Refusals 1 and 7 leave them
- * untouched, 10 leaves them all 0.
+ * Writes the true table of an ending, whatever the bytes held before. With two men each small table
+ * is checked first, and 17 says that one is not accepted. Refusals 1, 7 and 17 leave the table's
+ * bytes untouched, 10 leaves them all 0.
  *   bits 0-7 refusal, bit 8 some position is decided, 16-23 greatest depth
  */
-uint32_t sledgewren_fill(uint8_t man, uint8_t *table, size_t len);
+uint32_t sledgewren_fill(uint32_t ending, const uint8_t *small_first, size_t small_first_len,
+                         const uint8_t *small_second, size_t small_second_len, uint8_t *table,
+                         size_t len);
 
 /*
  * Filling in steps, for a caller that shows how far it is. Start sets every legal position's
- * number to 1 and every other one to 0, and hands back SLEDGEWREN_START. Refusals 1 and 7 leave
- * the table untouched.
+ * number to 1 and every other one to 0, and hands back SLEDGEWREN_START. The small tables are not
+ * asked for. Refusals 1 and 7 leave the table untouched.
  *   bits 0-7 refusal, 8-31 numbers settled (none), 32-63 progress
  */
-uint64_t sledgewren_fill_start(uint8_t man, uint8_t *table, size_t len);
+uint64_t sledgewren_fill_start(uint32_t ending, uint8_t *table, size_t len);
 
 /*
  * One step, on any bytes and any progress: hand each progress to the next step. From a start,
- * with one man and no other hand on the table, k steps leave the true byte wherever the depth is
- * less than k and the start's byte elsewhere, and the step that says done leaves what
- * sledgewren_fill leaves; that is after 255 steps at most. Refusals 1 and 7 leave the table and
- * the progress as they were; 10 leaves the table all 0.
+ * with one ending, small tables that sledgewren_check accepts and no other hand on any table, k
+ * steps leave the true byte wherever the depth is less than k and the start's byte elsewhere, and
+ * the step that says done leaves what sledgewren_fill leaves; that is after 255 steps at most. 17
+ * is not asked: the small tables' bytes are read as they stand. Refusals 1 and 7 leave the table
+ * and the progress as they were; 10 leaves the table all 0.
  *   bits 0-7 refusal, 8-31 how many numbers the step settled, 32-63 progress
  *
  * A progress is one word and every word is a progress:
@@ -257,24 +297,32 @@ uint64_t sledgewren_fill_start(uint8_t man, uint8_t *table, size_t len);
  * Stage 0, going on: the step writes 2 + k at the legal positions' numbers that hold 1 and whose
  *   successors' bytes, as they stood before it, require depth k. If there are some, the progress
  *   goes on with k + 1; at k = 254 there is no such byte: the answer is refusal 10, the table is
- *   cleared and the stage is 2. If there are none, the stage is 1, the table stays, and the
- *   greatest depth is k - 1, none being decided at k = 0. Bits 24-31 are not asked: with one man
- *   besides the kings each step before this one settled its depth.
+ *   cleared and the stage is 2. If there are none and no small table holds a depth of k or more,
+ *   the stage is 1, the table stays, and the greatest depth is the greatest settled. If there are
+ *   none and a small table does, the progress goes on with k + 1: with two men depths may skip.
+ *   Bits 24-31 are asked only where a small table holds a depth of k - 1 or more; else the step
+ *   before this one settled its depth, and with one man that is so always.
  * Stage 1, done: bits 24-31 less 1 are the greatest depth; none is decided where they are 0. The
  *   step repeats that, and table and progress stay.
  * Stage 2 or more, 10 was given: the step answers refusal 10, and table and progress stay.
  */
-uint64_t sledgewren_fill_step(uint8_t man, uint32_t progress, uint8_t *table, size_t len);
+uint64_t sledgewren_fill_step(uint32_t ending, uint32_t progress, const uint8_t *small_first,
+                              size_t small_first_len, const uint8_t *small_second,
+                              size_t small_second_len, uint8_t *table, size_t len);
 
 /*
  * Holds every byte of a table to the one that its successors' bytes require. An answer of 0 says
- * that the table is accepted: it is then the true one. Refusals 1, 7.
+ * that the table is accepted: it is then the true one. With two men each small table is checked
+ * first, and 17 says that one is not accepted. Refusals 1, 7, 17.
  *   bits 0-7 refusal, bit 8 wrong, 32-63 the lowest wrong number
  */
-uint64_t sledgewren_check(uint8_t man, const uint8_t *table, size_t len);
+uint64_t sledgewren_check(uint32_t ending, const uint8_t *small_first, size_t small_first_len,
+                          const uint8_t *small_second, size_t small_second_len,
+                          const uint8_t *table, size_t len);
 
 /*
- * A position's value, its depth in plies and a move, from the table of its ending. There is no
+ * A position's value, its depth in plies and a move, from the table of its ending (which is
+ * sledgewren_ending's) and, with two men, the small tables. There is no
  * move at checkmate and stalemate, and the depth of a draw is 0. Of several best moves it is the
  * first on the normalised board, carried back: a turned position has its move turned. Refusals
  * 1 to 7 and 11, and after them 19 where `plies` is above SLEDGEWREN_MOST_QUIET.
@@ -288,7 +336,9 @@ uint64_t sledgewren_check(uint8_t man, const uint8_t *table, size_t len);
  * is never marked. Nothing else hangs on `plies`: a caller who does not count them gives 0.
  */
 uint64_t sledgewren_look_up(uint8_t side, uint8_t white, uint8_t black, uint32_t first,
-                            uint32_t second, uint32_t plies, const uint8_t *table, size_t len);
+                            uint32_t second, uint32_t plies, const uint8_t *small_first,
+                            size_t small_first_len, const uint8_t *small_second,
+                            size_t small_second_len, const uint8_t *table, size_t len);
 
 /*
  * A second opinion without a table: a search straight from the rules, which takes up to a few
@@ -360,7 +410,8 @@ uint32_t sledgewren_set_start(uint8_t queen, uint8_t rook, uint8_t bishop, uint8
 uint32_t sledgewren_set_fill(uint8_t man, uint8_t *set, size_t len);
 
 /*
- * Where a set holds an ending's table, for sledgewren_look_up(.., set + offset, length).
+ * Where a set holds an ending's table, for sledgewren_look_up(.., SLEDGEWREN_NO_TABLES,
+ * set + offset, length).
  * Refusals 1, 14, 15. What the table's bytes hold is not asked: sledgewren_check tells.
  *   bits 0-7 refusal, 8-31 length, 32-63 offset
  */
@@ -393,6 +444,16 @@ static inline uint8_t sledgewren_position_side(uint64_t answer) { return SLEDGEW
 static inline uint8_t sledgewren_position_white(uint64_t answer) { return SLEDGEWREN_BITS(answer, 16); }
 static inline uint8_t sledgewren_position_square(uint64_t answer) { return SLEDGEWREN_BITS(answer, 24); }
 static inline uint8_t sledgewren_position_black(uint64_t answer) { return SLEDGEWREN_BITS(answer, 32); }
+static inline uint8_t sledgewren_position_second(uint64_t answer) { return SLEDGEWREN_BITS(answer, 40); }
+
+/* An ending's word: how many men besides the kings, their kinds, and whether they are one each. */
+static inline int sledgewren_ending_men(uint32_t ending) { return ending < 0x100 ? 1 : 2; }
+static inline uint8_t sledgewren_ending_first(uint32_t ending) { return SLEDGEWREN_BITS(ending, 0); }
+static inline uint8_t sledgewren_ending_second(uint32_t ending)
+{
+    return (uint8_t)(SLEDGEWREN_BITS(ending, 8) - 1);
+}
+static inline int sledgewren_ending_is_rivals(uint32_t ending) { return ending >> 16 & 1; }
 
 /*
  * sledgewren_play. A man is given as the functions take him, SLEDGEWREN_ABSENT for none; the

@@ -9,6 +9,7 @@
 #include "sledgewren.h"
 
 static uint8_t table[SLEDGEWREN_TABLE_BYTES];
+static uint8_t large[SLEDGEWREN_LARGE_TABLE_BYTES];
 static uint8_t pocket[SLEDGEWREN_POCKET_BYTES];
 static int wrong = 0;
 
@@ -43,6 +44,7 @@ static void words_of_64(uint64_t word)
     FIELD(sledgewren_position_white, word, 16, 8);
     FIELD(sledgewren_position_square, word, 24, 8);
     FIELD(sledgewren_position_black, word, 32, 8);
+    FIELD(sledgewren_position_second, word, 40, 8);
     FIELD(sledgewren_played_refusal, word, 0, 8);
     FIELD(sledgewren_played_side, word, 8, 1);
     FIELD(sledgewren_played_is_not_legal, word, 15, 1);
@@ -96,6 +98,8 @@ static void words_of_32(uint32_t word)
     FIELD(sledgewren_version_patch, word, 0, 8);
     FIELD(sledgewren_version_minor, word, 8, 8);
     FIELD(sledgewren_version_major, word, 16, 8);
+    FIELD(sledgewren_ending_first, word, 0, 8);
+    FIELD(sledgewren_ending_is_rivals, word, 16, 1);
     FIELD(sledgewren_man_kind, word, 0, 8);
     FIELD(sledgewren_man_colour, word, 8, 8);
     FIELD(sledgewren_man_square, word, 16, 8);
@@ -110,9 +114,9 @@ static void answers(void)
     uint64_t answer;
     uint32_t count;
 
-    same("filled", sledgewren_filled_depth(sledgewren_fill(SLEDGEWREN_QUEEN, table, sizeof table)), 20);
-    same("accepted", sledgewren_check(SLEDGEWREN_QUEEN, table, sizeof table), 0);
-    answer = sledgewren_look_up(0, 17, 0, queen, SLEDGEWREN_ABSENT, 0, table, sizeof table);
+    same("filled", sledgewren_filled_depth(sledgewren_fill(SLEDGEWREN_QUEEN, SLEDGEWREN_NO_TABLES, table, sizeof table)), 20);
+    same("accepted", sledgewren_check(SLEDGEWREN_QUEEN, SLEDGEWREN_NO_TABLES, table, sizeof table), 0);
+    answer = sledgewren_look_up(0, 17, 0, queen, SLEDGEWREN_ABSENT, 0, SLEDGEWREN_NO_TABLES, table, sizeof table);
     same("value", sledgewren_answer_value(answer), SLEDGEWREN_WIN);
     same("from", sledgewren_answer_from(answer), 15);
     same("to", sledgewren_answer_to(answer), 8);
@@ -162,6 +166,55 @@ static void plays(void)
     same("refused", sledgewren_play(0, 17, 0, queen, SLEDGEWREN_ABSENT, 9, 0), SLEDGEWREN_OTHER_IN_CHECK);
 }
 
+/*
+ * Two men: Kc3 Qd4 Rh1 against Ke8 in both orders and both colours, and what a capture leaves. A
+ * queen's table lent twice, no table lent where one is needed, and one that is not accepted.
+ */
+static void two_men(void)
+{
+    uint32_t queen = SLEDGEWREN_A_MAN(SLEDGEWREN_QUEEN, SLEDGEWREN_WHITE, 27);
+    uint32_t rook = SLEDGEWREN_A_MAN(SLEDGEWREN_ROOK, SLEDGEWREN_WHITE, 7);
+    uint32_t rival = SLEDGEWREN_A_MAN(SLEDGEWREN_ROOK, SLEDGEWREN_BLACK, 59);
+    uint32_t both = SLEDGEWREN_TWO_MEN(SLEDGEWREN_QUEEN, SLEDGEWREN_ROOK, 0);
+    uint32_t each = SLEDGEWREN_TWO_MEN(SLEDGEWREN_QUEEN, SLEDGEWREN_ROOK, 1);
+    uint32_t queens = SLEDGEWREN_TWO_MEN(SLEDGEWREN_QUEEN, SLEDGEWREN_QUEEN, 0);
+    uint8_t moves[SLEDGEWREN_MOVES_BYTES];
+    uint32_t number = sledgewren_number(0, 18, 60, queen, rook);
+    uint64_t answer = sledgewren_position(both, number);
+
+    same("ending", sledgewren_ending(rook, queen), both);
+    same("rivals", sledgewren_ending(rival, queen), each);
+    same("alone", sledgewren_ending(rook, SLEDGEWREN_ABSENT), SLEDGEWREN_ROOK);
+    same("no ending", sledgewren_ending(SLEDGEWREN_ABSENT, SLEDGEWREN_ABSENT), SLEDGEWREN_NO_ENDING);
+    same("second", sledgewren_ending_second(each), SLEDGEWREN_ROOK);
+    same("men", (uint64_t)sledgewren_ending_men(each), 2);
+    same("bytes", sledgewren_table_bytes(each), SLEDGEWREN_LARGE_TABLE_BYTES);
+    same("bytes", sledgewren_table_bytes(SLEDGEWREN_KNIGHT), SLEDGEWREN_TABLE_BYTES);
+    same("no bytes", sledgewren_table_bytes(SLEDGEWREN_NO_ENDING), 0);
+    same("either order", sledgewren_number(0, 18, 60, rook, queen), number);
+    same("back", sledgewren_number(sledgewren_position_side(answer), sledgewren_position_white(answer),
+                                   sledgewren_position_black(answer),
+                                   SLEDGEWREN_A_MAN(SLEDGEWREN_QUEEN, SLEDGEWREN_WHITE,
+                                                    sledgewren_position_square(answer)),
+                                   SLEDGEWREN_A_MAN(SLEDGEWREN_ROOK, SLEDGEWREN_WHITE,
+                                                    sledgewren_position_second(answer))), number);
+    same("none", sledgewren_position_second(sledgewren_position(SLEDGEWREN_QUEEN, 2049)), 64);
+    same("counted", sledgewren_moves(0, 18, 60, queen, rook, moves, sizeof moves),
+         sledgewren_count(0, 18, 60, rook, queen));
+    answer = sledgewren_play(0, 18, 60, queen, rival, 27, 59);
+    same("taken", sledgewren_played_first(answer), SLEDGEWREN_A_MAN(SLEDGEWREN_QUEEN, SLEDGEWREN_WHITE, 59));
+    same("taken", sledgewren_played_second(answer), SLEDGEWREN_ABSENT);
+    same("length", sledgewren_fill(queens, table, sizeof table, table, sizeof table, pocket, sizeof pocket),
+         SLEDGEWREN_TABLE_LENGTH);
+    same("not lent", sledgewren_look_up(0, 18, 60, queen, rook, 0, SLEDGEWREN_NO_TABLES, large, sizeof large),
+         SLEDGEWREN_TABLE_LENGTH);
+    same("not accepted", sledgewren_fill(both, table, sizeof table, table, sizeof table, large, sizeof large),
+         SLEDGEWREN_NOT_ACCEPTED);
+    same("not accepted", sledgewren_check(both, table, sizeof table, table, sizeof table, large, sizeof large),
+         SLEDGEWREN_NOT_ACCEPTED);
+    same("untouched", sledgewren_check(queens, table, sizeof table, table, sizeof table, large, sizeof large) >> 8 & 1, 1);
+}
+
 /* Header and archive are of one version. */
 static void version(void)
 {
@@ -186,6 +239,7 @@ int main(void)
     }
     answers();
     plays();
+    two_men();
     version();
     printf("%d fields wrong\n", wrong);
     return wrong != 0;

@@ -5,11 +5,14 @@
 
 use std::env;
 use std::hint::black_box;
+use std::path::Path;
 use std::process::Command;
 
 use second::{fill_every, table};
-use sledgewren::{entry, Keyed, Man, Side, TABLE_BYTES};
+use sledgewren::entry::{self, Lent};
+use sledgewren::{Keyed, Man, Side, TABLE_BYTES};
 
+use crate::four::{self, Ground, Small};
 use crate::moves::{library_count, library_moves, oracle_moves};
 use crate::positions::{legal, man_of, of_ending, second};
 
@@ -24,13 +27,13 @@ pub fn bench_counted(work: &mut dyn FnMut()) {
 }
 
 /// A row: what both sides do, what stands beside the library, and the greatest ratio wanted.
-struct Counted {
+pub struct Counted {
     what: &'static str,
     beside: &'static str,
     goal: f64,
 }
 
-const ROWS: [Counted; 9] = [
+pub const ROWS: [Counted; 9] = [
     Counted { what: "fill, queen", beside: "oracle, every position", goal: 0.6 },
     Counted { what: "fill, rook", beside: "oracle, every position", goal: 0.6 },
     Counted { what: "check, queen", beside: "oracle", goal: 0.5 },
@@ -42,9 +45,13 @@ const ROWS: [Counted; 9] = [
     Counted { what: "count, rook", beside: "oracle's list", goal: 1.2 },
 ];
 
+/// The rows of two men, which read tables that the timed rows have written.
+pub const FOUR: [Counted; 1] =
+    [Counted { what: "look-up, two men", beside: "library's look-up, one man", goal: 1.5 }];
+
 fn filled(man: Man) -> Result<Vec<u8>, String> {
     let mut bytes = vec![0; TABLE_BYTES];
-    entry::fill(man, &mut bytes).map_err(|refusal| refusal.to_string())?;
+    entry::fill(man, Lent::NONE, &mut bytes).map_err(|refusal| refusal.to_string())?;
     Ok(bytes)
 }
 
@@ -55,7 +62,7 @@ fn fill(man: Man, other: bool) -> Result<usize, String> {
             let _ = black_box(fill_every::fill(man.code(), &mut bytes));
         }
         false => {
-            let _ = black_box(entry::fill(man, &mut bytes));
+            let _ = black_box(entry::fill(man, Lent::NONE, &mut bytes));
         }
     });
     Ok(1)
@@ -68,7 +75,7 @@ fn check(man: Man, other: bool) -> Result<usize, String> {
             let _ = black_box(table::check(man.code(), &bytes));
         }
         false => {
-            let _ = black_box(entry::check(man, &bytes));
+            let _ = black_box(entry::check(man, Lent::NONE, &bytes));
         }
     });
     Ok(1)
@@ -116,20 +123,38 @@ fn look_up(folder: &str, other: bool) -> Result<usize, String> {
     let tables = tables?;
     bench_counted(&mut || {
         for &keyed in &positions {
-            let _ = black_box(entry::look_up(&tables[man_of(keyed).0], keyed));
+            let _ = black_box(entry::look_up(keyed, Lent::NONE, &tables[man_of(keyed).0]));
         }
     });
     Ok(positions.len())
 }
 
+/// With two men, or with one; the tables are read from files, since filling takes long here.
+fn look_up_four(folder: &Path, one_man: bool) -> Result<usize, String> {
+    let small = Small::read(folder)?;
+    if one_man {
+        let asked = four::of_one_man(ONE_IN);
+        let ground = Ground { small: &small, large: &[] };
+        bench_counted(&mut || ground.one_man(&asked));
+        return Ok(asked.len());
+    }
+    let large: Result<Vec<_>, _> =
+        four::MEASURED.into_iter().map(|name| four::read(folder, name)).collect();
+    let (large, asked) = (large?, four::of_two_men(5 * ONE_IN)?);
+    let ground = Ground { small: &small, large: &large };
+    bench_counted(&mut || ground.two_men(&asked));
+    Ok(asked.len())
+}
+
 /// Under valgrind: one work, the library's or the other's. Writes how many positions it was for.
-pub fn run(what: &str, other: bool, folder: &str) -> Result<(), String> {
+pub fn run(what: &str, other: bool, gaviota: &str, folder: &Path) -> Result<(), String> {
     let units = match what {
         "fill, queen" => fill(Man::Queen, other),
         "fill, rook" => fill(Man::Rook, other),
         "check, queen" => check(Man::Queen, other),
         "check, rook" => check(Man::Rook, other),
-        "look-up" => look_up(folder, other),
+        "look-up" => look_up(gaviota, other),
+        "look-up, two men" => look_up_four(folder, other),
         "moves, queen" => listed(Man::Queen, library_moves, other),
         "moves, rook" => listed(Man::Rook, library_moves, other),
         "count, queen" => listed(Man::Queen, library_count, other),
@@ -141,12 +166,13 @@ pub fn run(what: &str, other: bool, folder: &str) -> Result<(), String> {
 }
 
 /// Instructions for each position, or for the whole; none where valgrind or the work is missing.
-fn counted(what: &str, side: &str, folder: &str) -> Option<f64> {
+fn counted(what: &str, side: &str, gaviota: &str, folder: &Path) -> Option<f64> {
     let output = Command::new("valgrind")
         .args(["--tool=callgrind", "--callgrind-out-file=/dev/null"])
         .arg("--toggle-collect=bench_counted")
         .arg(env::current_exe().ok()?)
-        .args(["count", what, side, folder])
+        .args(["count", what, side, gaviota])
+        .arg(folder)
         .output()
         .ok()?;
     let told = String::from_utf8_lossy(&output.stderr).into_owned();
@@ -162,7 +188,7 @@ fn written(count: f64) -> String {
     }
 }
 
-pub fn print(folder: &str) {
+pub fn print(gaviota: &str, folder: &Path, rows: &[Counted]) {
     if Command::new("valgrind").arg("--version").output().is_err() {
         println!("\nNot counted: instructions, for which valgrind is missing.");
         return;
@@ -170,8 +196,9 @@ pub fn print(folder: &str) {
     println!("\nInstructions, for one fill, check or position; one position in {ONE_IN}.\n");
     println!("| What | Library | Beside it | Its instructions | Ratio | Goal |");
     println!("|---|---|---|---|---|---|");
-    for Counted { what, beside, goal } in ROWS {
-        let counts = (counted(what, "library", folder), counted(what, "other", folder));
+    for &Counted { what, beside, goal } in rows {
+        let [ours, theirs] = ["library", "other"].map(|side| counted(what, side, gaviota, folder));
+        let counts = (ours, theirs);
         let (Some(ours), theirs) = counts else { continue };
         let (count, ratio, is_met) = match theirs {
             Some(theirs) if ours <= goal * theirs => (written(theirs), ours / theirs, "met"),

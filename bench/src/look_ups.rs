@@ -3,7 +3,8 @@
 use std::hint::black_box;
 
 use second::position::Keyed as SecondKeyed;
-use sledgewren::{entry, Keyed, Man, Table};
+use sledgewren::entry::{self, Lent};
+use sledgewren::{Keyed, Man, Table};
 
 use crate::positions::{man_of, of_ending, second, shuffled};
 use crate::timing::{medians, timed, Of, Row};
@@ -32,7 +33,7 @@ impl Ground {
     fn library(&self) {
         for &keyed in &self.positions {
             let table = self.tables[man_of(keyed).0].bytes();
-            let _ = black_box(entry::look_up(table, keyed));
+            let _ = black_box(entry::look_up(keyed, Lent::NONE, table));
         }
     }
 

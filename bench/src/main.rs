@@ -1,11 +1,16 @@
 //! Measures the library beside the oracle and Gaviota, in one run.
 //!
 //! usage: bench ORACLE DESK GAVIOTA-FOLDER OUTPUT-FOLDER, with - for what is not there
+//!        bench four OUTPUT-FOLDER, for the rows of two men alone
 //!
-//! It runs itself as `bench count WORK SIDE GAVIOTA-FOLDER` to have instructions counted.
+//! It runs itself as `bench count WORK SIDE GAVIOTA-FOLDER OUTPUT-FOLDER` to have instructions counted.
 
 mod counts;
 mod desk;
+mod four;
+#[path = "../../hostile/src/lent.rs"]
+#[allow(dead_code)]
+mod lent;
 mod look_ups;
 mod moves;
 mod pocket;
@@ -95,25 +100,39 @@ fn measure(oracle: &str, program: &str, gaviota: &str, folder: &Path) -> Result<
         }
     }
     rows.extend(search::rows()?);
+    rows.extend(four::rows(folder, FEW)?);
     Ok(rows)
 }
 
 fn all(oracle: &str, desk: &str, gaviota: &str, folder: &Path) -> Result<(), String> {
     says();
     print(&measure(oracle, desk, gaviota, folder)?);
-    counts::print(gaviota);
+    counts::print(gaviota, folder, &counts::ROWS);
+    counts::print(gaviota, folder, &counts::FOUR);
+    Ok(())
+}
+
+/// The rows of two men alone.
+fn four_alone(folder: &Path) -> Result<(), String> {
+    print(&four::rows(folder, FEW)?);
+    counts::print("-", folder, &counts::FOUR);
     Ok(())
 }
 
 fn main() -> ExitCode {
     let words: Vec<String> = std::env::args().skip(1).collect();
-    let [oracle, desk, gaviota, folder] = &words[..] else {
-        eprintln!("usage: bench ORACLE DESK GAVIOTA-FOLDER OUTPUT-FOLDER");
-        return ExitCode::from(2);
-    };
-    let done = match oracle.as_str() {
-        "count" => counts::run(desk, gaviota == "other", folder),
-        _ => all(oracle, desk, gaviota, Path::new(folder)),
+    let words: Vec<&str> = words.iter().map(String::as_str).collect();
+    let done = match words[..] {
+        ["four", folder] => four_alone(Path::new(folder)),
+        ["count", what, side, gaviota, folder] => {
+            counts::run(what, side == "other", gaviota, Path::new(folder))
+        }
+        [oracle, desk, gaviota, folder] => all(oracle, desk, gaviota, Path::new(folder)),
+        _ => {
+            eprintln!("usage: bench ORACLE DESK GAVIOTA-FOLDER OUTPUT-FOLDER");
+            eprintln!("       bench four OUTPUT-FOLDER");
+            return ExitCode::from(2);
+        }
     };
     match done {
         Ok(()) => ExitCode::SUCCESS,

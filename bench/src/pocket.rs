@@ -5,7 +5,8 @@ use std::hint::black_box;
 
 use second::pocket as second_pocket;
 use second::position::Keyed as SecondKeyed;
-use sledgewren::{entry, Keyed, Man, Pocket, Table, POCKET_BYTES};
+use sledgewren::entry::{self, Lent};
+use sledgewren::{Keyed, Man, Pocket, Table, POCKET_BYTES};
 
 #[cfg(feature = "gaviota")]
 use crate::positions::probed;
@@ -108,7 +109,7 @@ impl Ground {
         self.row("the library's look-up in a table", Some(0.333), repeats, || {
             for &keyed in &self.positions {
                 let table = &self.tables[man_of(keyed).0].bytes()[..];
-                let _ = black_box(entry::look_up(table, keyed));
+                let _ = black_box(entry::look_up(keyed, Lent::NONE, table));
             }
         })
     }

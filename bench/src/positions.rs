@@ -47,7 +47,7 @@ pub fn of_ending(man: Man) -> Vec<Keyed> {
 }
 
 /// The same positions in an order without pattern, the same in every run.
-pub fn shuffled(mut positions: Vec<Keyed>) -> Vec<Keyed> {
+pub fn shuffled<T>(mut positions: Vec<T>) -> Vec<T> {
     let mut state = 2049u64;
     for last in (1..positions.len()).rev() {
         state = state.wrapping_mul(6364136223846793005).wrapping_add(1442695040888963407);

@@ -30,7 +30,6 @@ const AGAIN: usize = 9;
 fn classes(man: Man) -> Vec<Keyed> {
     (0..59_136)
         .filter_map(|number| entry::position(man, number).ok())
-        .map(Keyed::from)
         .filter(|&keyed| entry::count(keyed).is_ok())
         .collect()
 }

@@ -2,7 +2,8 @@
 
 use std::hint::black_box;
 
-use sledgewren::{entry, Man, Refusal, Step, TABLE_BYTES};
+use sledgewren::entry::{self, Lent};
+use sledgewren::{Man, Refusal, Step, TABLE_BYTES};
 
 use crate::tables::DIRT;
 use crate::timing::{medians, timed, Of, Row};
@@ -11,7 +12,7 @@ use crate::timing::{medians, timed, Of, Row};
 fn run(man: Man, table: &mut [u8]) -> Result<Option<u8>, Refusal> {
     let mut progress = entry::fill_start(man, table)?;
     loop {
-        let (said, next) = entry::fill_step(man, table, progress);
+        let (said, next) = entry::fill_step(man, progress, Lent::NONE, table);
         if let Step::Done(greatest) = said? {
             return Ok(greatest);
         }
@@ -31,7 +32,7 @@ pub fn row(man: Man, repeats: usize) -> Result<Row, String> {
         },
         || {
             filled.fill(DIRT);
-            timed(|| answer = black_box(entry::fill(man, &mut filled)))
+            timed(|| answer = black_box(entry::fill(man, Lent::NONE, &mut filled)))
         },
     );
     if stepped != filled || said != answer {

@@ -3,7 +3,8 @@
 use std::hint::black_box;
 
 use second::{fill_every, table};
-use sledgewren::{entry, Checked, Man, TABLE_BYTES};
+use sledgewren::entry::{self, Lent};
+use sledgewren::{Checked, Man, TABLE_BYTES};
 
 use crate::timing::{medians, timed, Of, Row};
 
@@ -18,7 +19,7 @@ pub fn fill(man: Man, repeats: usize) -> Result<Row, String> {
         repeats,
         || {
             ours.fill(DIRT);
-            timed(|| filled = black_box(entry::fill(man, &mut ours)))
+            timed(|| filled = black_box(entry::fill(man, Lent::NONE, &mut ours)))
         },
         || {
             theirs.fill(DIRT);
@@ -46,11 +47,16 @@ fn oracle_accepts(man: Man, bytes: &[u8]) -> bool {
 /// An accepted table: every number is looked at.
 pub fn check(man: Man, repeats: usize) -> Result<Row, String> {
     let mut bytes = vec![DIRT; TABLE_BYTES];
-    entry::fill(man, &mut bytes).map_err(|refusal| format!("{man}: {refusal}"))?;
+    entry::fill(man, Lent::NONE, &mut bytes).map_err(|refusal| format!("{man}: {refusal}"))?;
     let (mut accepted, mut oracle_accepted) = (true, true);
     let (library, other) = medians(
         repeats,
-        || timed(|| accepted &= entry::check(man, black_box(&bytes)) == Ok(Checked::Accepted)),
+        || {
+            timed(|| {
+                accepted &=
+                    entry::check(man, Lent::NONE, black_box(&bytes)) == Ok(Checked::Accepted)
+            })
+        },
         || timed(|| oracle_accepted &= oracle_accepts(man, black_box(&bytes))),
     );
     if !accepted || !oracle_accepted {

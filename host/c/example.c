@@ -43,7 +43,7 @@ static void look_up(uint8_t side, uint8_t white, uint8_t black, uint8_t owner, u
 {
     uint64_t answer = sledgewren_look_up(side, white, black,
                                          SLEDGEWREN_A_MAN(SLEDGEWREN_QUEEN, owner, queen),
-                                         SLEDGEWREN_ABSENT, 0, table, sizeof table);
+                                         SLEDGEWREN_ABSENT, 0, SLEDGEWREN_NO_TABLES, table, sizeof table);
 
     printf("%s to move, white king ", sides[side]);
     print_square(white);
@@ -78,7 +78,7 @@ static void play_out(uint8_t white, uint8_t black, uint32_t queen)
 
     printf("played out:");
     for (ply = 0; ply < 40 && sledgewren_man_is_there(queen); ply++) {
-        uint64_t answer = sledgewren_look_up(side, white, black, queen, SLEDGEWREN_ABSENT, 0, table,
+        uint64_t answer = sledgewren_look_up(side, white, black, queen, SLEDGEWREN_ABSENT, 0, SLEDGEWREN_NO_TABLES, table,
                                              sizeof table);
         uint64_t played;
 
@@ -133,8 +133,8 @@ static void pocket_edition(void)
 
 int main(void)
 {
-    uint32_t filled = sledgewren_fill(SLEDGEWREN_QUEEN, table, sizeof table);
-    uint64_t checked = sledgewren_check(SLEDGEWREN_QUEEN, table, sizeof table);
+    uint32_t filled = sledgewren_fill(SLEDGEWREN_QUEEN, SLEDGEWREN_NO_TABLES, table, sizeof table);
+    uint64_t checked = sledgewren_check(SLEDGEWREN_QUEEN, SLEDGEWREN_NO_TABLES, table, sizeof table);
 
     if (sledgewren_filled_refusal(filled) != SLEDGEWREN_NOT_REFUSED || checked != 0) {
         fprintf(stderr, "the queen's table was refused or is wrong\n");

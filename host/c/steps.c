@@ -17,7 +17,7 @@ int main(void)
     int depth;
 
     for (depth = 0; sledgewren_step_refusal(answer) == SLEDGEWREN_NOT_REFUSED; depth++) {
-        answer = sledgewren_fill_step(SLEDGEWREN_QUEEN, progress, table, sizeof table);
+        answer = sledgewren_fill_step(SLEDGEWREN_QUEEN, progress, SLEDGEWREN_NO_TABLES, table, sizeof table);
         progress = sledgewren_step_progress(answer);
         if (sledgewren_progress_stage(progress) != SLEDGEWREN_GOING)
             break;

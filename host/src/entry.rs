@@ -1,8 +1,8 @@
 //! The library's entry points, one function each, on any bytes and any lengths.
 //!
 //! A position is given as [`Keyed`], bytes of any values, or as a
-//! [`Position`]; a man as his code, any byte, or as a [`Man`]. The methods of the crate's types
-//! rest on these functions.
+//! [`Position`](crate::Position); an ending as its word, or as an [`Ending`] or a [`Man`]. The
+//! methods of the crate's types rest on these functions.
 
 mod plays;
 mod sets;
@@ -11,10 +11,10 @@ pub use plays::play;
 pub use sets::{set_fill, set_find, set_start, set_write};
 
 use crate::ffi;
-use crate::{Answer, Checked, Keyed, Man, Marked, Move, Moves, Opinion, Position, Progress};
 use crate::{
-    Outcome, Refusal, Side, Slip, Square, Stage, Step, Tallies, Typed, MOVES_BYTES, SLIP_BYTES,
+    Answer, Checked, Ending, Keyed, KeyedMan, Man, Marked, Move, Moves, Opinion, Progress,
 };
+use crate::{Outcome, Refusal, Slip, Stage, Step, Tallies, Typed, MOVES_BYTES, SLIP_BYTES};
 
 /// The linked library is not the one this crate is written for.
 #[cold]
@@ -34,11 +34,7 @@ fn unless_refused(entry: &str, answer: u64) -> Result<u64, Refusal> {
     }
 }
 
-fn square(entry: &str, answer: u64, first: u32) -> Square {
-    Square::from_code(bits(answer, first)).unwrap_or_else(|| broken(entry, answer))
-}
-
-/// The number of a position, 0 to 59,135. Refusals 1 to 5.
+/// The number of a position, 0 to 59,135 with one man and 0 to 3,784,703 with two. Refusals 1 to 5.
 pub fn number(keyed: impl Into<Keyed>) -> Result<u32, Refusal> {
     const REFUSED: u32 = 0x8000_0000;
     let keyed = keyed.into();
@@ -52,25 +48,39 @@ pub fn number(keyed: impl Into<Keyed>) -> Result<u32, Refusal> {
     Err(refusal.unwrap_or_else(|| broken("number", answer as u64)))
 }
 
-/// The position that a number stands for, with White's man. Refusals 1, 8, 9.
-pub fn position(man: impl Into<u8>, number: u32) -> Result<Position, Refusal> {
-    let code = man.into();
+/// The position that a number of an ending stands for, as the library's words have it: the first
+/// man White's, the second, if there is one, White's or, with one each, Black's. Refusals 1, 8, 9.
+pub fn position(ending: impl Into<u32>, number: u32) -> Result<Keyed, Refusal> {
+    let word = ending.into();
     // SAFETY: no pointers.
-    let answer = unsafe { ffi::sledgewren_position(code, number) };
+    let answer = unsafe { ffi::sledgewren_position(word, number) };
     unless_refused("position", answer)?;
-    let square = |first| square("position", answer, first);
-    let side = Side::from_code(bits(answer, 8));
-    match Man::from_code(code).zip(side) {
-        Some((man, side)) => Ok(Position {
-            man,
-            owner: Side::White,
-            side,
-            white_king: square(16),
-            man_square: square(24),
-            black_king: square(32),
-        }),
-        None => broken("position", answer),
-    }
+    let ending = Ending::from_word(word).unwrap_or_else(|| broken("position", answer));
+    let first = KeyedMan { kind: ending.first().code(), colour: 0, square: bits(answer, 24) };
+    let second = ending.second().map(|man| KeyedMan {
+        kind: man.code(),
+        colour: ending.is_rivals() as u8,
+        square: bits(answer, 40),
+    });
+    Ok(Keyed {
+        side: bits(answer, 8),
+        white_king: bits(answer, 16),
+        black_king: bits(answer, 32),
+        men: [Some(first), second],
+    })
+}
+
+/// The ending of a position's men, in either order and of any colours, if there is one.
+pub fn ending(keyed: impl Into<Keyed>) -> Option<Ending> {
+    let [first, second] = keyed.into().words();
+    // SAFETY: no pointers.
+    Ending::from_word(unsafe { ffi::sledgewren_ending(first, second) })
+}
+
+/// How many bytes an ending's table has; 0 where there is no such ending.
+pub fn table_bytes(ending: impl Into<u32>) -> usize {
+    // SAFETY: no pointers.
+    unsafe { ffi::sledgewren_table_bytes(ending.into()) as usize }
 }
 
 /// A number with its check digits, as a clerk types it. Refusals 8, 9.
@@ -89,7 +99,7 @@ pub fn version() -> [u8; 3] {
     [16, 8, 0].map(|first| bits(number, first))
 }
 
-/// How many legal moves a position has, at most 35. Refusals 1 to 6.
+/// How many legal moves a position has, at most 62, and 35 with one man. Refusals 1 to 6.
 pub fn count(keyed: impl Into<Keyed>) -> Result<u8, Refusal> {
     let keyed = keyed.into();
     let (Keyed { side, white_king, black_king, .. }, [first, second]) = (keyed, keyed.words());
@@ -113,36 +123,76 @@ pub fn moves(keyed: impl Into<Keyed>) -> Result<Moves, Refusal> {
     Ok(moves.unwrap_or_else(|| broken("moves", answer)))
 }
 
+/// The small tables that a call is lent beside an ending's own with two men: that of the first
+/// man's kind and that of the second's, whatever they hold. With one man they are not read.
+#[derive(Clone, Copy, Debug)]
+pub struct Lent<'a> {
+    /// The table of the first man's kind.
+    pub first: &'a [u8],
+    /// The table of the second man's kind; with like kinds the same one.
+    pub second: &'a [u8],
+}
+
+impl Lent<'_> {
+    /// With one man.
+    pub const NONE: Lent<'static> = Lent { first: &[], second: &[] };
+}
+
 /// Writes the true table of an ending and gives its greatest depth, or none if no position is
-/// decided. Refusals 1 and 7 leave the bytes untouched, 10 leaves them all zero.
-pub fn fill(man: impl Into<u8>, table: &mut [u8]) -> Result<Option<u8>, Refusal> {
-    // SAFETY: the slice's pointer leads to as many bytes as its length says, and is lent to us
-    // alone.
-    let answer = unsafe { ffi::sledgewren_fill(man.into(), table.as_mut_ptr(), table.len()) };
+/// decided. Refusals 1, 7 and 17 leave the bytes untouched, 10 leaves them all zero.
+pub fn fill(ending: impl Into<u32>, lent: Lent, table: &mut [u8]) -> Result<Option<u8>, Refusal> {
+    let Lent { first, second } = lent;
+    // SAFETY: each pointer leads to as many bytes as its length says; the one that is written
+    // through is lent to us alone.
+    let answer = unsafe {
+        ffi::sledgewren_fill(
+            ending.into(),
+            first.as_ptr(),
+            first.len(),
+            second.as_ptr(),
+            second.len(),
+            table.as_mut_ptr(),
+            table.len(),
+        )
+    };
     let answer = unless_refused("fill", answer as u64)?;
     Ok((bits(answer, 8) & 1 == 1).then_some(bits(answer, 16)))
 }
 
 /// Starts filling in steps: every legal position's number is set to 1, every other one to 0.
 /// Refusals 1 and 7 leave the bytes untouched.
-pub fn fill_start(man: impl Into<u8>, table: &mut [u8]) -> Result<Progress, Refusal> {
+pub fn fill_start(ending: impl Into<u32>, table: &mut [u8]) -> Result<Progress, Refusal> {
+    let (start, len) = (table.as_mut_ptr(), table.len());
     // SAFETY: the slice's pointer leads to as many bytes as its length says, and is lent to us
     // alone.
-    let answer = unsafe { ffi::sledgewren_fill_start(man.into(), table.as_mut_ptr(), table.len()) };
+    let answer = unsafe { ffi::sledgewren_fill_start(ending.into(), start, len) };
     Ok(Progress::from_word((unless_refused("fill_start", answer)? >> 32) as u32))
 }
 
 /// One step of filling, on any bytes and any progress, and the progress to hand to the next one.
-/// Refusals 1 and 7 leave the bytes and the progress as they were, 10 leaves the bytes all zero.
+/// The lent tables are read as they stand. Refusals 1 and 7 leave the bytes and the progress as
+/// they were, 10 leaves the bytes all zero.
 pub fn fill_step(
-    man: impl Into<u8>,
-    table: &mut [u8],
+    ending: impl Into<u32>,
     progress: Progress,
+    lent: Lent,
+    table: &mut [u8],
 ) -> (Result<Step, Refusal>, Progress) {
-    let (start, len) = (table.as_mut_ptr(), table.len());
-    // SAFETY: the slice's pointer leads to as many bytes as its length says, and is lent to us
-    // alone.
-    let answer = unsafe { ffi::sledgewren_fill_step(man.into(), progress.word(), start, len) };
+    let Lent { first, second } = lent;
+    // SAFETY: each pointer leads to as many bytes as its length says; the one that is written
+    // through is lent to us alone.
+    let answer = unsafe {
+        ffi::sledgewren_fill_step(
+            ending.into(),
+            progress.word(),
+            first.as_ptr(),
+            first.len(),
+            second.as_ptr(),
+            second.len(),
+            table.as_mut_ptr(),
+            table.len(),
+        )
+    };
     let next = Progress::from_word((answer >> 32) as u32);
     let said = unless_refused("fill_step", answer).map(|answer| match next.stage() {
         Stage::Going(_) => Step::Settled(answer as u32 >> 8),
@@ -152,10 +202,21 @@ pub fn fill_step(
     (said, next)
 }
 
-/// Holds every byte of a table to the one that its successors' bytes require. Refusals 1, 7.
-pub fn check(man: impl Into<u8>, table: &[u8]) -> Result<Checked, Refusal> {
-    // SAFETY: the slice's pointer leads to as many bytes as its length says.
-    let answer = unsafe { ffi::sledgewren_check(man.into(), table.as_ptr(), table.len()) };
+/// Holds every byte of a table to the one that its successors' bytes require. Refusals 1, 7, 17.
+pub fn check(ending: impl Into<u32>, lent: Lent, table: &[u8]) -> Result<Checked, Refusal> {
+    let Lent { first, second } = lent;
+    // SAFETY: each pointer leads to as many bytes as its length says.
+    let answer = unsafe {
+        ffi::sledgewren_check(
+            ending.into(),
+            first.as_ptr(),
+            first.len(),
+            second.as_ptr(),
+            second.len(),
+            table.as_ptr(),
+            table.len(),
+        )
+    };
     let answer = unless_refused("check", answer)?;
     match bits(answer, 8) & 1 {
         0 => Ok(Checked::Accepted),
@@ -163,21 +224,38 @@ pub fn check(man: impl Into<u8>, table: &[u8]) -> Result<Checked, Refusal> {
     }
 }
 
-/// A position's value, depth and move from a table, which do not hang on the count. Refusals 1 to
-/// 7 and 11.
-pub fn look_up(table: &[u8], keyed: impl Into<Keyed>) -> Result<Answer, Refusal> {
-    look_up_at(table, keyed, 0).map(|marked| marked.answer)
+/// A position's value, depth and move from the table of its ending and, with two men, the lent
+/// ones; they do not hang on the count. Refusals 1 to 7 and 11.
+pub fn look_up(keyed: impl Into<Keyed>, lent: Lent, table: &[u8]) -> Result<Answer, Refusal> {
+    look_up_at(keyed, 0, lent, table).map(|marked| marked.answer)
 }
 
 /// The same with the plies since the last capture, 0 to 99, and whether a win or a loss comes
 /// before a fifty-move claim at that count. Refusals 1 to 7, 11, and 19 for more than 99 plies.
-pub fn look_up_at(table: &[u8], keyed: impl Into<Keyed>, plies: u32) -> Result<Marked, Refusal> {
+pub fn look_up_at(
+    keyed: impl Into<Keyed>,
+    plies: u32,
+    lent: Lent,
+    table: &[u8],
+) -> Result<Marked, Refusal> {
     let keyed = keyed.into();
     let (Keyed { side, white_king, black_king, .. }, [first, second]) = (keyed, keyed.words());
-    let (start, len) = (table.as_ptr(), table.len());
-    // SAFETY: the slice's pointer leads to as many bytes as its length says.
+    // SAFETY: each pointer leads to as many bytes as its length says.
     let answer = unsafe {
-        ffi::sledgewren_look_up(side, white_king, black_king, first, second, plies, start, len)
+        ffi::sledgewren_look_up(
+            side,
+            white_king,
+            black_king,
+            first,
+            second,
+            plies,
+            lent.first.as_ptr(),
+            lent.first.len(),
+            lent.second.as_ptr(),
+            lent.second.len(),
+            table.as_ptr(),
+            table.len(),
+        )
     };
     unless_refused("look_up", answer)?;
     let chosen = || Move::from_bytes(((answer >> 32) as u32).to_le_bytes());

@@ -1,20 +1,29 @@
 //! The static library's functions as C has them (`include/sledgewren.h`).
 //!
 //! Each is total on values and lengths. A pointer must not be null and must lead to as many bytes
-//! as its length says, and buffers lent to one call must not overlap. The crate's other functions
+//! as its length says, and buffers lent to one call must not overlap, but that the two small tables may be one. The crate's other functions
 //! see to that; nothing else need call these.
 //!
 //! Values come first, then buffers that are only read, then buffers that are written to.
 //!
 //! `white` and `black` are the kings' squares. A man besides them is a word: bits 0-7 kind, 8-15
-//! colour, 16-23 square; he is absent where bits 24-31 are 0.
+//! colour, 16-23 square; he is absent where bits 24-31 are 0. An ending is a word: one man's kind;
+//! or bits 0-7 the first man's kind, 8-15 1 + the second's, bit 16 one each. With one man the small
+//! tables are not read.
 
 extern "C" {
     /// The number, or 0x80000000 + refusal.
     pub fn sledgewren_number(side: u8, white: u8, black: u8, first: u32, second: u32) -> u32;
 
-    /// Bits 0-7 refusal, 8-15 side, 16-23 white king, 24-31 man's square, 32-39 black king.
-    pub fn sledgewren_position(man: u8, number: u32) -> u64;
+    /// Bits 0-7 refusal, 8-15 side, 16-23 white king, 24-31 the first man's square, 32-39 black
+    /// king, 40-47 the second man's square, 64 where there is none.
+    pub fn sledgewren_position(ending: u32, number: u32) -> u64;
+
+    /// The ending of two men, or all bits set.
+    pub fn sledgewren_ending(first: u32, second: u32) -> u32;
+
+    /// How many bytes an ending's table has; 0 where there is no such ending.
+    pub fn sledgewren_table_bytes(ending: u32) -> u32;
 
     /// Bits 0-7 refusal, 8-15 the first digit as a character, and so on to 56-63, the seventh.
     pub fn sledgewren_write_number(number: u32) -> u64;
@@ -48,16 +57,41 @@ extern "C" {
     ) -> u64;
 
     /// Bits 0-7 refusal, bit 8 some position is decided, 16-23 greatest depth.
-    pub fn sledgewren_fill(man: u8, table: *mut u8, len: usize) -> u32;
+    pub fn sledgewren_fill(
+        ending: u32,
+        small_first: *const u8,
+        small_first_len: usize,
+        small_second: *const u8,
+        small_second_len: usize,
+        table: *mut u8,
+        len: usize,
+    ) -> u32;
 
     /// Bits 0-7 refusal, 8-31 how many numbers were settled, which is 0, 32-63 the progress.
-    pub fn sledgewren_fill_start(man: u8, table: *mut u8, len: usize) -> u64;
+    pub fn sledgewren_fill_start(ending: u32, table: *mut u8, len: usize) -> u64;
 
     /// Bits 0-7 refusal, 8-31 how many numbers the step settled, 32-63 the progress.
-    pub fn sledgewren_fill_step(man: u8, progress: u32, table: *mut u8, len: usize) -> u64;
+    pub fn sledgewren_fill_step(
+        ending: u32,
+        progress: u32,
+        small_first: *const u8,
+        small_first_len: usize,
+        small_second: *const u8,
+        small_second_len: usize,
+        table: *mut u8,
+        len: usize,
+    ) -> u64;
 
     /// Bits 0-7 refusal, bit 8 wrong, 32-63 the lowest wrong number.
-    pub fn sledgewren_check(man: u8, table: *const u8, len: usize) -> u64;
+    pub fn sledgewren_check(
+        ending: u32,
+        small_first: *const u8,
+        small_first_len: usize,
+        small_second: *const u8,
+        small_second_len: usize,
+        table: *const u8,
+        len: usize,
+    ) -> u64;
 
     /// Bits 0-7 refusal, 8-15 value (1 win, 2 loss, 3 draw), 16-23 depth, bit 24 a move is given,
     /// bit 25 within fifty at this count of plies since the last capture, 32-39 from, 40-47 to,
@@ -69,6 +103,10 @@ extern "C" {
         first: u32,
         second: u32,
         plies: u32,
+        small_first: *const u8,
+        small_first_len: usize,
+        small_second: *const u8,
+        small_second_len: usize,
         table: *const u8,
         len: usize,
     ) -> u64;

@@ -2,7 +2,8 @@
 
 use std::fmt;
 
-use crate::{entry, Man, Refusal, Table};
+use crate::entry::{self, Lent};
+use crate::{Man, Refusal, Table};
 
 /// How far filling is: one word that a caller keeps between two steps. Every word is a progress;
 /// the one at the beginning is 0.
@@ -97,7 +98,8 @@ impl Filling {
 
     /// One step. Refusal 10; that and done are repeated by later steps, which write nothing.
     pub fn step(&mut self) -> Result<Step, Refusal> {
-        let (said, progress) = entry::fill_step(self.man, self.table.bytes_mut(), self.progress);
+        let (said, progress) =
+            entry::fill_step(self.man, self.progress, Lent::NONE, self.table.bytes_mut());
         self.progress = progress;
         if let Ok(Step::Settled(count)) = said {
             self.settled += count;

@@ -1,5 +1,5 @@
-//! Two kings and one man of either side: positions are numbered, their tables filled and checked,
-//! positions looked up, and a desk's lines answered. A pocket is a table packed to won, drawn and
+//! Two kings and one man or two of either side: positions are numbered, their tables filled and
+//! checked, positions looked up, and, with one man, a desk's lines answered. A pocket is a table packed to won, drawn and
 //! lost.
 //!
 //! Every answer comes from the proved static library that this crate links; the crate gives it
@@ -21,16 +21,18 @@
 //! |---|---|---|
 //! | `sledgewren_number` | [`entry::number`] | [`Position::number`] |
 //! | `sledgewren_position` | [`entry::position`] | [`Position::from_number`] |
+//! | `sledgewren_ending` | [`entry::ending`] | [`Ending::of`] |
+//! | `sledgewren_table_bytes` | [`entry::table_bytes`] | [`Ending::table_bytes`] |
 //! | `sledgewren_write_number` | [`entry::write_number`] | [`Typed::of`], [`Position::typed`] |
 //! | `sledgewren_count` | [`entry::count`] | [`Position::count`] |
 //! | `sledgewren_moves` | [`entry::moves`] | [`Position::moves`] |
 //! | `sledgewren_play` | [`entry::play`] | [`Position::play`] |
-//! | `sledgewren_fill` | [`entry::fill`] | [`Table::fill`], [`Table::filled`] |
-//! | `sledgewren_fill_start` | [`entry::fill_start`] | [`Filling::start`] |
-//! | `sledgewren_fill_step` | [`entry::fill_step`] | [`Filling::step`] |
-//! | `sledgewren_check` | [`entry::check`] | [`Table::check`], [`Table::accept`] |
-//! | `sledgewren_look_up` | [`entry::look_up`] | [`Table::look_up`], [`Accepted::look_up`], [`Set::look_up`] |
-//! | the same, with a count | [`entry::look_up_at`] | [`Table::look_up_at`], [`Accepted::look_up_at`] |
+//! | `sledgewren_fill` | [`entry::fill`] | [`Table::fill`], [`Table::filled`], [`FourMen::filled`] |
+//! | `sledgewren_fill_start` | [`entry::fill_start`] | [`Filling::start`], [`FourMen::filled_with_progress`] |
+//! | `sledgewren_fill_step` | [`entry::fill_step`] | [`Filling::step`], [`FourMen::filled_with_progress`] |
+//! | `sledgewren_check` | [`entry::check`] | [`Table::check`], [`Table::accept`], [`FourMen::accept`] |
+//! | `sledgewren_look_up` | [`entry::look_up`] | [`Table::look_up`], [`Accepted::look_up`], [`FourMen::look_up`], [`Set::look_up`] |
+//! | the same, with a count | [`entry::look_up_at`] | [`Table::look_up_at`], [`Accepted::look_up_at`], [`FourMen::look_up_at`] |
 //! | `sledgewren_second_opinion` | [`entry::second_opinion`] | [`second_opinion`] |
 //! | `sledgewren_answer_line` | [`entry::answer_line`] | [`Desk::answer`], [`Desk::run`] |
 //! | `sledgewren_pack` | [`entry::pack`] | [`Pocket::packed`], [`Pocket::of_table`] |
@@ -46,9 +48,11 @@
 
 mod answer;
 mod desk;
+mod ending;
 pub mod entry;
 pub mod ffi;
 mod filling;
+mod four_men;
 mod man;
 mod moves;
 mod opinion;
@@ -64,7 +68,9 @@ mod typed;
 
 pub use answer::{Answer, Checked, Marked, Value};
 pub use desk::{Desk, Slip, SLIP_BYTES};
+pub use ending::Ending;
 pub use filling::{Filling, Progress, Settled, Stage, Step};
+pub use four_men::{FourMen, NotAcceptedLarge, LARGE_TABLE_BYTES};
 pub use man::{Man, Side};
 pub use moves::{Move, Moves, MOST_MOVES, MOVES_BYTES};
 pub use opinion::{second_opinion, Opinion, MOST_PLIES};

@@ -5,8 +5,8 @@ use std::ops::Deref;
 
 use crate::Square;
 
-/// No position has more legal moves: 27 of a queen and 8 of a king.
-pub const MOST_MOVES: usize = 35;
+/// No position has more legal moves: 27 of each of two queens and 8 of a king.
+pub const MOST_MOVES: usize = 62;
 
 /// The bytes of a list that `sledgewren_moves` is lent: 62 places of four bytes.
 pub const MOVES_BYTES: usize = 248;

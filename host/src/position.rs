@@ -31,7 +31,12 @@ impl Position {
 
     /// The position that a number stands for, with White's man. Refusals 8, 9.
     pub fn from_number(man: Man, number: u32) -> Result<Position, Refusal> {
-        entry::position(man, number)
+        let keyed = entry::position(man, number)?;
+        match Position::keyed(keyed) {
+            Some(position) => Ok(position),
+            // A position of a number has its ending's man, and its squares are on the board.
+            None => unreachable!("the position of a number: {keyed:?}"),
+        }
     }
 
     /// How many legal moves it has. Refusals 4, 5, 6.
@@ -47,7 +52,33 @@ impl Position {
     /// The position after a move, if it is legal; its two squares are asked and not its mark.
     /// Refusals 4, 5, 6.
     pub fn play(self, chosen: Move) -> Result<Played, Refusal> {
-        entry::play(self, chosen.from.code(), chosen.to.code())
+        let Some(after) = entry::play(self, chosen.from.code(), chosen.to.code())? else {
+            return Ok(Played::NotLegal);
+        };
+        let kings = [after.white_king, after.black_king].map(Square::from_code);
+        match (Position::keyed(after), Side::from_code(after.side), kings) {
+            (Some(position), ..) => Ok(Played::At(position)),
+            (None, Some(side), [Some(white_king), Some(black_king)]) => {
+                Ok(Played::BareKings { side, white_king, black_king })
+            }
+            // What a legal move leaves is on the board.
+            _ => unreachable!("the position after a move: {after:?}"),
+        }
+    }
+
+    /// The position of bytes that are one man's: side, squares, kind and colour as they can be.
+    pub fn keyed(keyed: Keyed) -> Option<Position> {
+        let Keyed { side, white_king, black_king, men: [Some(first), None] } = keyed else {
+            return None;
+        };
+        Some(Position {
+            man: Man::from_code(first.kind)?,
+            owner: Side::from_code(first.colour)?,
+            side: Side::from_code(side)?,
+            white_king: Square::from_code(white_king)?,
+            man_square: Square::from_code(first.square)?,
+            black_king: Square::from_code(black_king)?,
+        })
     }
 }
 
@@ -79,7 +110,8 @@ impl KeyedMan {
 }
 
 /// A position as keyed: bytes of any values, and up to two men. The library tells which of them it
-/// refuses: none at all, one in the second place alone, and two, which have no table, with 1.
+/// refuses: none at all and one in the second place alone with 1, and two in the parts that serve
+/// one man only.
 #[derive(Clone, Copy, PartialEq, Eq, Hash, Debug)]
 pub struct Keyed {
     /// Side to move; refused 2 above 1.

@@ -6,7 +6,7 @@ use std::fmt;
 /// line's shape comes first, then its check.
 #[derive(Clone, Copy, PartialEq, Eq, Hash, Debug)]
 pub enum Refusal {
-    /// 1: material code above 3.
+    /// 1: a man's code above 3, or no ending's word; no man, or two where one is served.
     BadMan = 1,
     /// 2: side not 0 or 1.
     BadSide = 2,
@@ -18,9 +18,9 @@ pub enum Refusal {
     KingsTouch = 5,
     /// 6: the side not to move is in check. Numbering does not ask.
     OtherInCheck = 6,
-    /// 7: table not 59,136 bytes, or pocket not 14,784.
+    /// 7: a table not as long as its ending's, or pocket not 14,784 bytes.
     TableLength = 7,
-    /// 8: number above 59,135.
+    /// 8: number above 59,135, or 3,784,703 with two men.
     NumberTooHigh = 8,
     /// 9: number unused.
     NumberUnused = 9,
@@ -39,13 +39,15 @@ pub enum Refusal {
     NotInSet = 15,
     /// 16: more than 6 plies asked for.
     TooManyPlies = 16,
+    /// 17: a small table that an ending with two men leads into is not accepted.
+    NotAccepted = 17,
     /// 19: more than 99 plies since the last capture.
     TooManyQuiet = 19,
 }
 
 impl Refusal {
     /// All of them, in order.
-    pub const ALL: [Refusal; 17] = [
+    pub const ALL: [Refusal; 18] = [
         Refusal::BadMan,
         Refusal::BadSide,
         Refusal::BadSquare,
@@ -62,6 +64,7 @@ impl Refusal {
         Refusal::WrongSet,
         Refusal::NotInSet,
         Refusal::TooManyPlies,
+        Refusal::NotAccepted,
         Refusal::TooManyQuiet,
     ];
 
@@ -78,14 +81,14 @@ impl Refusal {
     /// What it says of what was keyed or lent, in chess words.
     pub fn reason(self) -> &'static str {
         match self {
-            Refusal::BadMan => "not one man besides the kings, a queen, rook, bishop or knight",
+            Refusal::BadMan => "not one man besides the kings, or two where two are served: queen, rook, bishop, knight",
             Refusal::BadSide => "the side to move, or the man's, is neither White nor Black",
             Refusal::BadSquare => "a square that is not on the board",
             Refusal::SharedSquare => "two men on one square",
             Refusal::KingsTouch => "the kings stand side by side",
             Refusal::OtherInCheck => "the side that is not to move is in check",
-            Refusal::TableLength => "the table has not 59,136 bytes, or the pocket not 14,784",
-            Refusal::NumberTooHigh => "no position has so high a number; the last is 59,135",
+            Refusal::TableLength => "a table is not as long as its ending's, or the pocket not 14,784 bytes",
+            Refusal::NumberTooHigh => "no position has so high a number; the last is 59,135, with two men 3,784,703",
             Refusal::NumberUnused => "no position has this number",
             Refusal::TooDeep => "a mate takes more than 253 plies, which no table can say",
             Refusal::Inconsistent => {
@@ -97,6 +100,7 @@ impl Refusal {
             Refusal::WrongSet => "not a right set of tables, or not as long as its endings need",
             Refusal::NotInSet => "there is no table of this ending here",
             Refusal::TooManyPlies => "a second opinion goes 6 plies deep at most",
+            Refusal::NotAccepted => "a table of one man, which captures lead into, is not right",
             Refusal::TooManyQuiet => "at most 99 plies since the last capture can be keyed",
         }
     }
@@ -118,7 +122,7 @@ mod tests {
     #[test]
     fn numbers_come_back() {
         for code in 0..=255 {
-            let expected = matches!(code, 1..=16 | 19).then_some(code);
+            let expected = matches!(code, 1..=17 | 19).then_some(code);
             assert_eq!(Refusal::from_code(code).map(Refusal::code), expected);
         }
     }

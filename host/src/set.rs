@@ -3,7 +3,8 @@
 use std::borrow::Cow;
 use std::fmt;
 
-use crate::{entry, Answer, Man, Position, Refusal, TABLE_BYTES};
+use crate::entry::{self, Lent};
+use crate::{Answer, Man, Position, Refusal, TABLE_BYTES};
 
 /// Which endings a set holds: a yes or no for each man.
 #[derive(Clone, Copy, PartialEq, Eq, Hash, Debug, Default)]
@@ -100,7 +101,7 @@ impl<'a> Set<'a> {
     /// A position's value, depth and move, from the table of its ending. Refusals 4, 5, 6, 11 and
     /// 15.
     pub fn look_up(&self, position: Position) -> Result<Answer, Refusal> {
-        entry::look_up(self.table(position.man)?, position)
+        entry::look_up(position, Lent::NONE, self.table(position.man)?)
     }
 
     /// The bytes.

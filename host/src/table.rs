@@ -2,7 +2,8 @@
 
 use std::fmt;
 
-use crate::{entry, Answer, Checked, Keyed, Man, Marked, Position, Refusal};
+use crate::entry::{self, Lent};
+use crate::{Answer, Checked, Keyed, Man, Marked, Position, Refusal};
 
 /// Bytes of a table, one a number.
 pub const TABLE_BYTES: usize = 59_136;
@@ -33,12 +34,12 @@ impl Table {
     /// Writes the true table over these bytes and gives its greatest depth, or none if no
     /// position is decided. Refusal 10.
     pub fn fill(&mut self, man: Man) -> Result<Option<u8>, Refusal> {
-        entry::fill(man, &mut self.0[..])
+        entry::fill(man, Lent::NONE, &mut self.0[..])
     }
 
     /// Is this the true table of an ending?
     pub fn check(&self, man: Man) -> Checked {
-        match entry::check(man, &self.0[..]) {
+        match entry::check(man, Lent::NONE, &self.0[..]) {
             Ok(checked) => checked,
             // A man has a code below 4 and a table its length, and no more is asked.
             Err(refusal) => unreachable!("checking a table of the right length: {refusal}"),
@@ -55,13 +56,13 @@ impl Table {
 
     /// A position's value, depth and move. Refusals 1 to 6 and 11.
     pub fn look_up(&self, keyed: impl Into<Keyed>) -> Result<Answer, Refusal> {
-        entry::look_up(&self.0[..], keyed)
+        entry::look_up(keyed, Lent::NONE, &self.0[..])
     }
 
     /// The same with the plies since the last capture, and whether a win or a loss comes before a
     /// fifty-move claim. Refusals 1 to 6, 11, and 19 for more than 99 plies.
     pub fn look_up_at(&self, keyed: impl Into<Keyed>, plies: u32) -> Result<Marked, Refusal> {
-        entry::look_up_at(&self.0[..], keyed, plies)
+        entry::look_up_at(keyed, plies, Lent::NONE, &self.0[..])
     }
 
     /// The bytes.

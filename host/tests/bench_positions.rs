@@ -3,7 +3,8 @@
 mod common;
 
 use common::position;
-use sledgewren::{entry, Answer, Man, Position, Refusal, Table, TABLE_BYTES};
+use sledgewren::entry::{self, Lent};
+use sledgewren::{Answer, Man, Position, Refusal, Table, TABLE_BYTES};
 
 #[test]
 fn numbers() {
@@ -70,9 +71,9 @@ fn tables_of_other_lengths() {
     for len in [TABLE_BYTES - 1, TABLE_BYTES + 1] {
         let mut bytes = vec![77; len];
         let refused = Refusal::TableLength;
-        assert_eq!(entry::fill(Man::Queen, &mut bytes), Err(refused));
-        assert_eq!(entry::check(Man::Queen, &bytes), Err(refused));
-        assert_eq!(entry::look_up(&bytes, position("Q w a1 b1 h8")), Err(refused));
+        assert_eq!(entry::fill(Man::Queen, Lent::NONE, &mut bytes), Err(refused));
+        assert_eq!(entry::check(Man::Queen, Lent::NONE, &bytes), Err(refused));
+        assert_eq!(entry::look_up(position("Q w a1 b1 h8"), Lent::NONE, &bytes), Err(refused));
         assert!(Table::from_bytes(&bytes).is_err());
         assert!(bytes.iter().all(|&byte| byte == 77));
     }

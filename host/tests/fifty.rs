@@ -3,7 +3,8 @@
 mod common;
 
 use common::position;
-use sledgewren::{entry, Man, Refusal, Table, Value};
+use sledgewren::entry::{self, Lent};
+use sledgewren::{Man, Refusal, Table, Value};
 
 #[test]
 fn marked_up_to_a_hundred() {
@@ -44,7 +45,7 @@ fn nineteen_after_all_others() {
     let keyed = position("Q w b3 h2 a1");
     for plies in [100, 101, 255, 256, u32::MAX] {
         assert_eq!(table.look_up_at(keyed, plies), Err(Refusal::TooManyQuiet));
-        assert_eq!(entry::look_up_at(&[], keyed, plies), Err(Refusal::TableLength));
+        assert_eq!(entry::look_up_at(keyed, plies, Lent::NONE, &[]), Err(Refusal::TableLength));
         let shared = position("Q w b3 b3 a1");
         assert_eq!(table.look_up_at(shared, plies), Err(Refusal::SharedSquare));
     }

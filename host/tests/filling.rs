@@ -1,7 +1,8 @@
 //! Filling in steps: runs beside the single fill, and a step on any bytes and any progress.
 
-use sledgewren::{entry, Filling, Man, Progress, Refusal, Settled, Stage, Step, Table};
+use sledgewren::entry::{self, Lent};
 use sledgewren::{entry::fill_step, TABLE_BYTES};
+use sledgewren::{Filling, Man, Progress, Refusal, Settled, Stage, Step, Table};
 
 fn word(stage: u32, next: u32, last: u32) -> Progress {
     Progress::from_word(stage | next << 8 | last << 24)
@@ -52,12 +53,13 @@ fn none_settled_is_done_with_one_depth_less_whatever_was_last() {
         for last in [0, 1, 20, 255] {
             // Nothing holds 1, so nothing is settled.
             let mut bytes = vec![3; TABLE_BYTES];
-            let (said, progress) = fill_step(Man::Rook, &mut bytes, word(0, next, last));
+            let (said, progress) =
+                fill_step(Man::Rook, word(0, next, last), Lent::NONE, &mut bytes);
             let k = next.min(254);
             assert_eq!(said, Ok(Step::Done((k as u8).checked_sub(1))), "{next} {last}");
             assert_eq!(progress, word(1, k, k), "{next} {last}");
             assert_eq!(bytes, vec![3; TABLE_BYTES]);
-            assert_eq!(fill_step(Man::Rook, &mut bytes, progress), (said, progress));
+            assert_eq!(fill_step(Man::Rook, progress, Lent::NONE, &mut bytes), (said, progress));
         }
     }
 }
@@ -69,11 +71,11 @@ fn depth_254_gives_10_and_clears_the_table() {
         // takes nothing.
         let mut bytes = vec![255; TABLE_BYTES];
         bytes[TABLE_BYTES / 2..].fill(1);
-        let (said, progress) = fill_step(Man::Queen, &mut bytes, word(0, next, 9));
+        let (said, progress) = fill_step(Man::Queen, word(0, next, 9), Lent::NONE, &mut bytes);
         assert_eq!((said, progress), (Err(Refusal::TooDeep), word(2, 254, 254)), "{next}");
         assert_eq!(bytes, vec![0; TABLE_BYTES]);
         bytes.fill(1);
-        assert_eq!(fill_step(Man::Queen, &mut bytes, progress), (said, progress));
+        assert_eq!(fill_step(Man::Queen, progress, Lent::NONE, &mut bytes), (said, progress));
         assert_eq!(bytes, vec![1; TABLE_BYTES]);
     }
 }
@@ -89,21 +91,21 @@ fn what_was_said_is_repeated_whole() {
         (word(3, 1, 2), Err(Refusal::TooDeep)),
         (word(255, 65_535, 255), Err(Refusal::TooDeep)),
     ] {
-        assert_eq!(fill_step(Man::Knight, &mut bytes, progress), (said, progress));
+        assert_eq!(fill_step(Man::Knight, progress, Lent::NONE, &mut bytes), (said, progress));
     }
     assert_eq!(bytes, vec![1; TABLE_BYTES]);
 }
 
 #[test]
 fn refusals_1_and_7_leave_table_and_progress() {
-    let cases = [(4, TABLE_BYTES, 1), (255, 0, 1), (0, TABLE_BYTES - 1, 7), (3, 0, 7)];
+    let cases = [(4u32, TABLE_BYTES, 1), (255, 0, 1), (0, TABLE_BYTES - 1, 7), (3, 0, 7)];
     for (man, length, code) in cases {
         let refused = Refusal::from_code(code).unwrap();
         let mut bytes = vec![1; length];
         assert_eq!(entry::fill_start(man, &mut bytes), Err(refused));
         for progress in [0, 0x0100, 0x0300_fe00, 0x1500_1401, 0xffff_ffff].map(Progress::from_word)
         {
-            let found = fill_step(man, &mut bytes, progress);
+            let found = fill_step(man, progress, Lent::NONE, &mut bytes);
             assert_eq!(found, (Err(refused), progress), "{man} {length}");
         }
         assert_eq!(bytes, vec![1; length]);

@@ -44,7 +44,7 @@ fn not_legal() {
     }
     let keyed = Keyed::from(position("Q w b3 h2 a1"));
     for (from, to) in [(15, 64), (64, 8), (255, 255), (15, 255)] {
-        assert_eq!(entry::play(keyed, from, to), Ok(Played::NotLegal), "{from} {to}");
+        assert_eq!(entry::play(keyed, from, to), Ok(None), "{from} {to}");
     }
 }
 

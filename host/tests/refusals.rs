@@ -3,7 +3,8 @@
 mod common;
 
 use common::position;
-use sledgewren::{entry, Desk, Keyed, KeyedMan, Man, Refusal, Table, TABLE_BYTES};
+use sledgewren::entry::{self, Lent};
+use sledgewren::{Desk, Keyed, KeyedMan, Man, Refusal, Table, TABLE_BYTES};
 
 /// Five bytes as keyed and the refusal they meet at the move list and look-up, if any. Each row
 /// but the last also has faults with higher numbers.
@@ -51,7 +52,7 @@ fn one_to_six_as_keyed() {
 fn one_to_six_before_seven() {
     for (keyed, code) in KEYED {
         let seven = if code == 0 { 7 } else { code };
-        assert_eq!(entry::look_up(&[], keyed).err(), expected(seven), "{keyed:?}");
+        assert_eq!(entry::look_up(keyed, Lent::NONE, &[]).err(), expected(seven), "{keyed:?}");
     }
 }
 
@@ -69,8 +70,6 @@ fn men_and_colours() {
         (keyed(0, [None, None]), 1),
         (keyed(0, [None, white]), 1),
         (keyed(2, [None, black]), 1),
-        (keyed(0, [white, black]), 1),
-        (keyed(0, [white, Some([1, 0, 9])]), 1),
         (keyed(0, [Some([4, 2, 64]), None]), 1),
         (keyed(0, [Some([0, 2, 64]), None]), 2),
         (keyed(2, [Some([0, 1, 64]), None]), 2),
@@ -90,17 +89,23 @@ fn men_and_colours() {
         assert_eq!(entry::second_opinion(keyed, 1).err(), expected(code), "{keyed:?}");
         assert_eq!(table.look_up(keyed).err(), expected(code), "{keyed:?}");
     }
+    // Two men: the parts that keep to one refuse them, and a table of one man is too short.
+    for second in [black, Some([1, 0, 9])] {
+        let two = keyed(0, [white, second]);
+        assert_eq!(entry::second_opinion(two, 1).err(), expected(1), "{two:?}");
+        assert_eq!(table.look_up(two).err(), expected(7), "{two:?}");
+    }
 }
 
 #[test]
 fn one_before_all() {
     for man in [4u8, 5, 128, 255] {
         assert_eq!(entry::position(man, u32::MAX), Err(Refusal::BadMan));
-        assert_eq!(entry::fill(man, &mut [1, 2, 3]), Err(Refusal::BadMan));
-        assert_eq!(entry::check(man, &[1, 2, 3]), Err(Refusal::BadMan));
+        assert_eq!(entry::fill(man, Lent::NONE, &mut [1, 2, 3]), Err(Refusal::BadMan));
+        assert_eq!(entry::check(man, Lent::NONE, &[1, 2, 3]), Err(Refusal::BadMan));
         let mut table = Table::zeroed();
         table.bytes_mut().fill(165);
-        assert_eq!(entry::fill(man, table.bytes_mut()), Err(Refusal::BadMan));
+        assert_eq!(entry::fill(man, Lent::NONE, table.bytes_mut()), Err(Refusal::BadMan));
         assert!(table.bytes().iter().all(|&byte| byte == 165));
     }
 }
@@ -110,8 +115,8 @@ fn seven() {
     for man in Man::ALL {
         for len in [0, 1, TABLE_BYTES - 1, TABLE_BYTES + 1, 2 * TABLE_BYTES] {
             let mut bytes = vec![165; len];
-            assert_eq!(entry::fill(man, &mut bytes), Err(Refusal::TableLength));
-            assert_eq!(entry::check(man, &bytes), Err(Refusal::TableLength));
+            assert_eq!(entry::fill(man, Lent::NONE, &mut bytes), Err(Refusal::TableLength));
+            assert_eq!(entry::check(man, Lent::NONE, &bytes), Err(Refusal::TableLength));
             assert!(bytes.iter().all(|&byte| byte == 165));
         }
     }

@@ -3,7 +3,8 @@
 mod common;
 
 use common::position;
-use sledgewren::{entry, Checked, Choice, Man, Refusal, Set, Table, TABLE_BYTES};
+use sledgewren::entry::{self, Lent};
+use sledgewren::{Checked, Choice, Man, Refusal, Set, Table, TABLE_BYTES};
 
 const DIRT: u8 = 165;
 
@@ -39,7 +40,7 @@ fn all_four() {
         let table = set.table(man).unwrap();
         assert_eq!(table, Table::filled(man).unwrap().bytes(), "{man}");
         assert_eq!(table.as_ptr(), set.bytes()[offset..].as_ptr(), "{man}: the very part");
-        assert_eq!(entry::check(man, table), Ok(Checked::Accepted), "{man}");
+        assert_eq!(entry::check(man, Lent::NONE, table), Ok(Checked::Accepted), "{man}");
     }
 }
 
@@ -146,7 +147,10 @@ fn of_fewer_endings_only_a_code_may_become_another() {
                 // The rook's table under another name: only checking tells.
                 let named = Man::from_code(byte).unwrap();
                 let place = found[byte as usize].clone().unwrap();
-                assert!(matches!(entry::check(named, &bytes[place]), Ok(Checked::Wrong(_))));
+                assert!(matches!(
+                    entry::check(named, Lent::NONE, &bytes[place]),
+                    Ok(Checked::Wrong(_))
+                ));
             } else {
                 assert_eq!(found, [(); 4].map(|_| Err(Refusal::WrongSet)), "{at}: {byte}");
             }

@@ -1,5 +1,6 @@
 //! All four tables: filled, checked, and every position looked up.
 
+use sledgewren::entry::Lent;
 use sledgewren::{
     entry, Accepted, Answer, Checked, Man, Move, Position, Refusal, Side, Table, Value,
 };
@@ -128,7 +129,7 @@ fn knight() {
 fn no_table_is_accepted_for_another_man() {
     for man in Man::ALL {
         let table = Table::filled(man).unwrap();
-        assert_eq!(entry::check(man, table.bytes()), Ok(Checked::Accepted));
+        assert_eq!(entry::check(man, Lent::NONE, table.bytes()), Ok(Checked::Accepted));
         for other in Man::ALL.into_iter().filter(|&other| other != man) {
             assert!(matches!(table.check(other), Checked::Wrong(_)), "{man} as {other}");
         }

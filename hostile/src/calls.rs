@@ -1,17 +1,15 @@
 //! Each entry point beside the oracle's, as words that can be compared.
 
-use second::number::{back, number as second_number};
+use second::number::back;
 use second::position::{Keyed as SecondKeyed, KeyedMan as SecondMan, Refused};
-use second::rule::Value as SecondValue;
-use second::rules::{legal_position, moves as second_moves};
-use second::table::{check as second_check, look_up as second_look_up};
-use second::table::{Answer as SecondAnswer, Checked as SecondChecked};
+use second::table::{check as second_check, Checked as SecondChecked};
 use second::{desk as second_desk, fill_back};
-use sledgewren::{entry, ffi, Answer, Checked, Desk, Keyed, KeyedMan, Refusal};
-use sledgewren::{MOVES_BYTES, TABLE_BYTES};
+use sledgewren::{Desk, Keyed, KeyedMan, Refusal, TABLE_BYTES};
 
+use crate::lent::{self, Given, NONE};
 use crate::lines::{Input, SHORT};
 use crate::sequence::Sequence;
+use crate::two::{compare_list, compare_look_up, compare_number, placed_word};
 
 /// Answers compared, and those that differ.
 #[derive(Default)]
@@ -24,7 +22,7 @@ pub struct Tally {
 const TOLD: u64 = 20;
 
 impl Tally {
-    pub(crate) fn add<T: PartialEq + std::fmt::Debug>(
+    pub fn add<T: PartialEq + std::fmt::Debug>(
         &mut self,
         what: &str,
         asked: &dyn std::fmt::Debug,
@@ -37,6 +35,15 @@ impl Tally {
             if self.differ <= TOLD {
                 println!("{what} of {asked:?}: library {ours:?}, oracle {theirs:?}");
             }
+        }
+    }
+
+    /// Bytes of a whole table, compared elsewhere, of which so many are unlike.
+    pub fn bytes(&mut self, what: &str, compared: u64, unlike: u64) {
+        self.compared += compared;
+        self.differ += unlike;
+        if unlike > 0 {
+            println!("{what}: {unlike} bytes of {compared} are unlike the oracle's");
         }
     }
 }
@@ -57,76 +64,12 @@ pub(crate) fn ours<T>(answer: Result<T, Refusal>) -> Result<T, u8> {
     answer.map_err(Refusal::code)
 }
 
-/// Value, depth, and the move's squares and mark.
-pub(crate) type Found = (u8, u8, Option<(u8, u8, bool)>);
-
-pub(crate) fn our_answer(answer: Answer) -> Found {
-    let best = answer.best().map(|chosen| (chosen.from.code(), chosen.to.code(), chosen.takes));
-    match answer {
-        Answer::Win { depth, .. } => (1, depth, best),
-        Answer::Loss { depth, .. } => (2, depth, best),
-        Answer::Draw { .. } => (3, 0, best),
-    }
-}
-
-pub(crate) fn their_answer(answer: SecondAnswer) -> Found {
-    let best = answer.best.map(|chosen| (chosen.from, chosen.to, chosen.takes));
-    match answer.value {
-        SecondValue::Win(depth) => (1, depth, best),
-        SecondValue::Loss(depth) => (2, depth, best),
-        SecondValue::Draw => (3, 0, best),
-    }
-}
-
-fn their_look_up(table: &[u8], keyed: Keyed) -> Result<Found, u8> {
-    refused(second_look_up(table, &second(keyed))).map(their_answer)
-}
-
-/// A list as the C function writes it: 62 places of four bytes, and the answer.
-type List = ([u8; MOVES_BYTES], u32);
-
-fn their_moves(keyed: Keyed) -> List {
-    let mut list = [0; MOVES_BYTES];
-    match legal_position(&second(keyed)) {
-        Err(Refused(code)) => (list, code as u32),
-        Ok(position) => {
-            let moves = second_moves(&position);
-            for (place, chosen) in list.chunks_exact_mut(4).zip(moves.as_slice()) {
-                place.copy_from_slice(&[chosen.from, chosen.to, chosen.takes as u8, 0]);
-            }
-            (list, (moves.as_slice().len() as u32) << 8)
-        }
-    }
-}
-
-/// Every byte counts, so the list is lent with 165 in each.
-fn our_moves(keyed: Keyed) -> List {
-    let Keyed { side, white_king: white, black_king: black, .. } = keyed;
-    let [first, second] = keyed.words();
-    let mut list = [165; MOVES_BYTES];
-    let (start, len) = (list.as_mut_ptr(), list.len());
-    // SAFETY: `start` leads to `len` bytes that nothing else refers to.
-    let answer = unsafe { ffi::sledgewren_moves(side, white, black, first, second, start, len) };
-    (list, answer)
-}
-
-fn our_count(keyed: Keyed) -> u32 {
-    let Keyed { side, white_king: white, black_king: black, .. } = keyed;
-    let [first, second] = keyed.words();
-    // SAFETY: no pointers.
-    unsafe { ffi::sledgewren_count(side, white, black, first, second) }
-}
-
-/// Number, count, moves and look-up of bytes as keyed.
+/// Number, count, moves and look-up of bytes as keyed; two men have no table of this length.
 fn compare_keyed(keyed: impl Into<Keyed>, table: &[u8], tally: &mut Tally) {
-    let keyed = keyed.into();
-    let number = refused(second_number(&second(keyed))).map(|number| number as u32);
-    tally.add("number", &keyed, ours(entry::number(keyed)), number);
-    let moves = their_moves(keyed);
-    tally.add("count", &keyed, our_count(keyed), moves.1);
-    tally.add("moves", &keyed, our_moves(keyed), moves);
-    let answer = ours(entry::look_up(table, keyed)).map(our_answer);
-    tally.add("look-up", &keyed, answer, their_look_up(table, keyed));
+    let given = Given::from(keyed.into());
+    compare_number(given, tally);
+    compare_list(given, tally);
+    compare_look_up(given, 0, NONE, table, tally);
 }
 
 pub(crate) fn filled(man: u8) -> Vec<u8> {
@@ -178,10 +121,9 @@ pub fn random_boards(sequence: &mut Sequence, tally: &mut Tally) {
 /// Numbers back, of right and wrong codes and numbers.
 pub fn numbers(sequence: &mut Sequence, tally: &mut Tally) {
     let mut compare = |man: u8, number: u32| {
-        let position = ours(entry::position(man, number));
-        let theirs = refused(back(man, number as u64)).map(|position| position.keyed());
-        let keyed = position.map(|position| second(position.into()));
-        tally.add("position", &(man, number), keyed, theirs);
+        let theirs = refused(back(man, number as u64));
+        let due = theirs.map_or_else(u64::from, |position| placed_word((&position).into()));
+        tally.add("position", &(man, number), lent::position(man as u32, number), due);
     };
     for man in [0, 1, 2, 3, 4, 255] {
         (0..66_000).for_each(|number| compare(man, number));
@@ -211,11 +153,11 @@ fn random_table(sequence: &mut Sequence, man: u8, manner: usize) -> Vec<u8> {
 }
 
 fn compare_check(man: u8, table: &[u8], tally: &mut Tally) {
-    let theirs = refused(second_check(man, table)).map(|checked| match checked {
-        SecondChecked::Accepted => Checked::Accepted,
-        SecondChecked::Wrong(number) => Checked::Wrong(number as u32),
+    let due = refused(second_check(man, table)).map_or_else(u64::from, |checked| match checked {
+        SecondChecked::Accepted => 0,
+        SecondChecked::Wrong(number) => 1 << 8 | (number as u64) << 32,
     });
-    tally.add("check", &(man, table.len()), ours(entry::check(man, table)), theirs);
+    tally.add("check", &(man, table.len()), lent::check(man as u32, NONE, table), due);
 }
 
 /// Checking and looking up in tables of random bytes and in badly damaged ones.
@@ -228,8 +170,7 @@ pub fn random_tables(sequence: &mut Sequence, tally: &mut Tally) {
                 let mut square = || sequence.below(64) as u8;
                 let keyed =
                     Keyed::from([man, square() % 2, square(), square(), square(), square() % 2]);
-                let answer = ours(entry::look_up(&table, keyed)).map(our_answer);
-                tally.add("look-up", &(manner, keyed), answer, their_look_up(&table, keyed));
+                compare_look_up(keyed.into(), 0, NONE, &table, tally);
             }
         }
     }
@@ -241,16 +182,18 @@ pub fn lengths(tally: &mut Tally) {
         for len in [0, 1, 2, 14_784, TABLE_BYTES - 1, TABLE_BYTES, TABLE_BYTES + 1, 1 << 20] {
             for dirt in [0, 1, 165] {
                 let (mut one, mut other) = (vec![dirt; len], vec![dirt; len]);
-                let filled = ours(entry::fill(man, &mut one));
-                tally.add("fill", &(man, len), filled, refused(fill_back::fill(man, &mut other)));
+                let due = match fill_back::fill(man, &mut other) {
+                    Ok(greatest) => greatest.map_or(0, |depth| 1 << 8 | (depth as u32) << 16),
+                    Err(Refused(code)) => code as u32,
+                };
+                tally.add("fill", &(man, len), lent::fill(man as u32, NONE, &mut one), due);
                 tally.add("filled bytes", &(man, len), one == other, true);
                 compare_check(man, &one, tally);
             }
             for keyed in [[man, 0, 17, 15, 0], [man, 2, 64, 64, 64], [man, 0, 0, 7, 63]] {
                 let keyed = Keyed::from(keyed);
                 let table = vec![1; len];
-                let answer = ours(entry::look_up(&table, keyed)).map(our_answer);
-                tally.add("look-up", &(keyed, len), answer, their_look_up(&table, keyed));
+                compare_look_up(keyed.into(), 0, NONE, &table, tally);
             }
         }
     }

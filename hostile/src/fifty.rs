@@ -1,28 +1,18 @@
 //! Look-up with a count beside the oracle's: the answer, its mark and refusal 19.
 
 use second::fifty::look_up_counted;
-use sledgewren::{entry, Keyed, Marked};
+use sledgewren::Keyed;
 
-use crate::calls::{filled, our_answer, ours, refused, second, their_answer, Found, Tally};
+use crate::calls::{filled, second, Tally};
+use crate::lent::{self, NONE};
 use crate::sequence::Sequence;
+use crate::words::{counted_word, word};
 
 /// Counts beyond those that a caller may key.
 const BEYOND: [u32; 8] = [100, 101, 102, 127, 128, 255, 256, u32::MAX];
 
 /// Positions of each value and depth, and of each refusal, that are looked up at every count.
 const EACH: usize = 12;
-
-type Told = Result<(Found, bool), u8>;
-
-fn our_told(table: &[u8], keyed: Keyed, count: u32) -> Told {
-    let told = ours(entry::look_up_at(table, keyed, count));
-    told.map(|Marked { answer, within_fifty }| (our_answer(answer), within_fifty))
-}
-
-fn their_told(table: &[u8], keyed: Keyed, count: u32) -> Told {
-    let told = refused(look_up_counted(table, &second(keyed), count))?;
-    Ok((their_answer(told.answer), told.within_fifty))
-}
 
 /// Marks and refusals among the answers, and how many values, depths and refusals were met.
 #[derive(Default, Debug)]
@@ -35,19 +25,21 @@ pub struct Kinds {
 
 impl Kinds {
     fn compare(&mut self, table: &[u8], keyed: Keyed, count: u32, tally: &mut Tally) {
-        let told = our_told(table, keyed, count);
-        tally.add("look-up", &(keyed, count), told, their_told(table, keyed, count));
-        self.marked += matches!(told, Ok((_, true))) as u64;
-        self.refused_19 += (told == Err(19)) as u64;
-        self.refused_11 += (told == Err(11)) as u64;
+        let told = lent::look_up(keyed.into(), count, NONE, table);
+        let theirs = look_up_counted(table, &second(keyed), count);
+        tally.add("look-up", &(keyed, count), told, word(theirs, counted_word));
+        self.marked += told >> 25 & 1;
+        self.refused_19 += (told == 19) as u64;
+        self.refused_11 += (told == 11) as u64;
     }
 }
 
 /// The value and depth of a board, or 0 and its refusal.
 fn case(table: &[u8], keyed: Keyed) -> (u8, u8) {
-    match our_told(table, keyed, 0) {
-        Ok(((value, depth, _), _)) => (value, depth),
-        Err(code) => (0, code),
+    let [refusal, value, depth, ..] = lent::look_up(keyed.into(), 0, NONE, table).to_le_bytes();
+    match refusal {
+        0 => (value, depth),
+        code => (0, code),
     }
 }
 

@@ -1,9 +1,11 @@
 //! Filling in steps beside the oracle's: each call's answer, progress word and every byte.
 
+use second::position::Refused;
 use second::steps::{start, step, Progress, Step};
-use sledgewren::{entry, ffi, Progress as Word, Refusal, TABLE_BYTES};
+use sledgewren::TABLE_BYTES;
 
 use crate::calls::Tally;
+use crate::lent::{self, NONE};
 use crate::sequence::Sequence;
 
 /// What the word of a progress says, by `include/sledgewren.h`.
@@ -39,9 +41,7 @@ fn due(man: u8, table: &mut [u8], word: u32) -> u64 {
 }
 
 fn found(man: u8, table: &mut [u8], word: u32) -> u64 {
-    let (start, len) = (table.as_mut_ptr(), table.len());
-    // SAFETY: `start` leads to `len` bytes that nothing else refers to.
-    unsafe { ffi::sledgewren_fill_step(man, word, start, len) }
+    lent::fill_step(man as u32, word, NONE, table)
 }
 
 /// One step of each on the same bytes; the library's answer.
@@ -57,9 +57,9 @@ fn compare(man: u8, ours: &mut [u8], theirs: &mut [u8], word: u32, tally: &mut T
 pub fn runs(tally: &mut Tally) {
     for man in 0..4 {
         let (mut ours, mut theirs) = (vec![165; TABLE_BYTES], vec![90; TABLE_BYTES]);
-        let started = entry::fill_start(man, &mut ours).map(Word::word).map_err(Refusal::code);
-        let other = start(man, &mut theirs).map(|next| handed(0, next)).map_err(|r| r.0);
-        tally.add("start", &man, started, other);
+        let other = start(man, &mut theirs).map(|next| (handed(0, next) as u64) << 32);
+        let due = other.unwrap_or_else(|Refused(code)| code as u64);
+        tally.add("start", &man, lent::fill_start(man as u32, &mut ours), due);
         tally.add("bytes after a start", &man, ours == theirs, true);
         let (mut word, mut over) = (0, 0);
         while over < 3 {
@@ -120,7 +120,7 @@ pub struct Kinds {
 }
 
 impl Kinds {
-    fn add(&mut self, answer: u64) {
+    pub(crate) fn add(&mut self, answer: u64) {
         let kind = match (answer as u8, (answer >> 32) as u8) {
             (0, 0) => &mut self.settled,
             (0, _) => &mut self.done,

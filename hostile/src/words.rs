@@ -1,17 +1,20 @@
 //! The C functions that take a position, given any words as men: whole answers, bit for bit.
 
-use second::fifty::{look_up_counted, Counted};
-use second::number::number;
+use second::fifty::Counted;
+use second::laws::{legal_placement, moves, play};
+use second::placement::Limit;
 use second::pocket::{self, PocketAnswer};
-use second::position::{Keyed, KeyedMan, Position, Refused, Side};
+use second::position::{Keyed, KeyedMan, Refused};
 use second::rule::Value;
-use second::rules::{legal_position, moves, play, Move};
+use second::rules::Move;
 use second::search::{search, Opinion};
 use second::table::Answer;
-use sledgewren::{ffi, MOVES_BYTES, POCKET_BYTES};
+use sledgewren::{ffi, POCKET_BYTES};
 
 use crate::calls::{filled, Tally};
+use crate::lent::{Given, NONE};
 use crate::sequence::Sequence;
+use crate::two::{compare_list, compare_look_up, compare_number, keyed, list_due};
 
 /// How many positions are given.
 const POSITIONS: usize = 1_000_000;
@@ -22,63 +25,46 @@ const PLIES: [u8; 6] = [0, 1, 2, 7, 8, 255];
 /// Counts to look up at; the last two are refused.
 const COUNTS: [u32; 8] = [0, 68, 80, 90, 98, 99, 100, u32::MAX];
 
-/// A position as C gives it: the side, the kings' squares, and a word for each man.
-#[derive(Clone, Copy, Debug)]
-struct Given {
-    side: u8,
-    white: u8,
-    black: u8,
-    first: u32,
-    second: u32,
-}
-
 /// What a man's word says: he is absent where bits 24-31 are 0.
-fn man(word: u32) -> Option<KeyedMan> {
+pub(crate) fn man(word: u32) -> Option<KeyedMan> {
     let [kind, colour, square, there] = word.to_le_bytes();
     (there != 0).then_some(KeyedMan { kind, colour, square })
 }
 
-impl Given {
-    /// Bytes that are most often right, with one man, in the first word.
-    fn random(sequence: &mut Sequence) -> Given {
-        let mut byte = |right: usize| match sequence.below(24) {
-            0 => sequence.byte(),
-            _ => sequence.below(right) as u8,
+/// Bytes that are most often right, with one man, in the first word.
+fn random_given(sequence: &mut Sequence) -> Given {
+    let mut byte = |right: usize| match sequence.below(24) {
+        0 => sequence.byte(),
+        _ => sequence.below(right) as u8,
+    };
+    let [side, white, black] = [byte(2), byte(64), byte(64)];
+    let mut word = |often: bool| {
+        let low = [byte(4), byte(2), byte(64)];
+        let there = match byte(16) {
+            0 => byte(2),
+            1 => byte(255),
+            _ => often as u8,
         };
-        let [side, white, black] = [byte(2), byte(64), byte(64)];
-        let mut word = |often: bool| {
-            let low = [byte(4), byte(2), byte(64)];
-            let there = match byte(16) {
-                0 => byte(2),
-                1 => byte(255),
-                _ => often as u8,
-            };
-            u32::from_le_bytes([low[0], low[1], low[2], there])
-        };
-        Given { side, white, black, first: word(true), second: word(false) }
-    }
-
-    fn keyed(self) -> Keyed {
-        let Given { side, white, black, first, second } = self;
-        Keyed { side, white_king: white, black_king: black, men: [man(first), man(second)] }
-    }
+        u32::from_le_bytes([low[0], low[1], low[2], there])
+    };
+    Given { side, white, black, first: word(true), second: word(false) }
 }
 
 /// A refusal's number in the lowest byte and nothing else, or the answer's word.
-fn word<T>(answer: Result<T, Refused>, said: impl FnOnce(T) -> u64) -> u64 {
+pub(crate) fn word<T>(answer: Result<T, Refused>, said: impl FnOnce(T) -> u64) -> u64 {
     answer.map_or_else(|Refused(code)| code as u64, said)
 }
 
-fn number_word(answer: Result<usize, Refused>) -> u64 {
+pub(crate) fn number_word(answer: Result<usize, Refused>) -> u64 {
     answer.map_or_else(|Refused(code)| 0x8000_0000 + code as u64, |number| number as u64)
 }
 
 /// A move's four bytes, the lowest first.
-fn move_word(Move { from, to, takes }: Move) -> u32 {
+pub(crate) fn move_word(Move { from, to, takes }: Move) -> u32 {
     u32::from_le_bytes([from, to, takes as u8, 0])
 }
 
-fn answer_word(Answer { value, best }: Answer) -> u64 {
+pub(crate) fn answer_word(Answer { value, best }: Answer) -> u64 {
     let (value, depth) = match value {
         Value::Win(depth) => (1, depth),
         Value::Loss(depth) => (2, depth),
@@ -89,7 +75,7 @@ fn answer_word(Answer { value, best }: Answer) -> u64 {
 }
 
 /// Bit 25 is the mark.
-fn counted_word(Counted { answer, within_fifty }: Counted) -> u64 {
+pub(crate) fn counted_word(Counted { answer, within_fifty }: Counted) -> u64 {
     answer_word(answer) | (within_fifty as u64) << 25
 }
 
@@ -109,45 +95,6 @@ fn opinion_word(opinion: Opinion) -> u64 {
     }
 }
 
-/// The list's bytes and the answer.
-fn list_of(keyed: &Keyed) -> ([u8; MOVES_BYTES], u64) {
-    let mut list = [0; MOVES_BYTES];
-    let answer = word(legal_position(keyed), |position| {
-        let found = moves(&position);
-        for (place, &chosen) in list.chunks_exact_mut(4).zip(found.as_slice()) {
-            place.copy_from_slice(&move_word(chosen).to_le_bytes());
-        }
-        (found.as_slice().len() as u64) << 8
-    });
-    (list, answer)
-}
-
-fn our_list(given: Given) -> ([u8; MOVES_BYTES], u64) {
-    let Given { side, white, black, first, second } = given;
-    let mut list = [165; MOVES_BYTES];
-    let (start, len) = (list.as_mut_ptr(), list.len());
-    // SAFETY: `start` leads to `len` bytes that nothing else refers to.
-    let answer = unsafe { ffi::sledgewren_moves(side, white, black, first, second, start, len) };
-    (list, answer as u64)
-}
-
-/// The number, the count and the moves.
-fn compare_moves(given: Given, tally: &mut Tally) {
-    let Given { side, white, black, first, second } = given;
-    let keyed = given.keyed();
-    // SAFETY: no pointers.
-    let (numbered, counted) = unsafe {
-        (
-            ffi::sledgewren_number(side, white, black, first, second),
-            ffi::sledgewren_count(side, white, black, first, second),
-        )
-    };
-    let due = list_of(&keyed);
-    tally.add("number's word", &given, numbered as u64, number_word(number(&keyed)));
-    tally.add("count's word", &given, counted as u64, due.1);
-    tally.add("moves' bytes and word", &given, our_list(given), due);
-}
-
 /// A man's sixteen bits; 0 for none.
 fn short_man(man: Option<KeyedMan>) -> u64 {
     man.map_or(0, |KeyedMan { kind, colour, square }| {
@@ -155,30 +102,12 @@ fn short_man(man: Option<KeyedMan>) -> u64 {
     })
 }
 
-/// The position after a move; with bare kings no man is left. It is taken back to the board as
-/// keyed where the oracle has exchanged the colours.
-fn after(keyed: &Keyed, position: &Position, chosen: Move) -> Keyed {
-    let next = play(position, chosen).map_or(
-        Keyed {
-            side: Side::White.code(),
-            white_king: position.white_king,
-            black_king: chosen.to,
-            men: [None; 2],
-        },
-        |next| next.keyed(),
-    );
-    match keyed.men[0] {
-        Some(KeyedMan { colour: 1, .. }) => next.exchanged(),
-        _ => next,
-    }
-}
-
 fn played_word(keyed: &Keyed, from: u8, to: u8) -> u64 {
-    word(legal_position(keyed), |position| {
-        let list = moves(&position);
+    word(legal_placement(keyed, Limit::TwoMen), |placement| {
+        let list = moves(&placement);
         let named = |chosen: &&Move| (chosen.from, chosen.to) == (from, to);
         list.as_slice().iter().find(named).map_or(1 << 15, |&chosen| {
-            let Keyed { side, white_king, black_king, men } = after(keyed, &position, chosen);
+            let Keyed { side, white_king, black_king, men } = play(&placement, chosen).keyed();
             let low = u64::from(side) << 8 | u64::from(white_king) << 16;
             low | u64::from(black_king) << 24 | short_man(men[0]) << 32 | short_man(men[1]) << 48
         })
@@ -190,13 +119,13 @@ fn compare_play(given: Given, from: u8, to: u8, tally: &mut Tally) {
     let Given { side, white, black, first, second } = given;
     // SAFETY: no pointers.
     let found = unsafe { ffi::sledgewren_play(side, white, black, first, second, from, to) };
-    let due = played_word(&given.keyed(), from, to);
+    let due = played_word(&keyed(given), from, to);
     tally.add("play's word", &(given, from, to), found, due);
 }
 
 /// Every move of the oracle's list played, and one of any two bytes.
-fn compare_plays(given: Given, sequence: &mut Sequence, tally: &mut Tally) {
-    let list = list_of(&given.keyed()).0;
+pub(crate) fn compare_plays(given: Given, sequence: &mut Sequence, tally: &mut Tally) {
+    let list = list_due(&keyed(given)).0;
     for chosen in list.chunks_exact(4).take_while(|bytes| bytes[..2] != [0, 0]) {
         compare_play(given, chosen[0], chosen[1], tally);
     }
@@ -210,17 +139,6 @@ fn compare_plays(given: Given, sequence: &mut Sequence, tally: &mut Tally) {
     compare_play(given, from, to, tally);
 }
 
-/// The look-up in a table, at a count.
-fn compare_look_up(given: Given, table: &[u8], count: u32, tally: &mut Tally) {
-    let Given { side, white, black, first, second } = given;
-    let (start, len) = (table.as_ptr(), table.len());
-    // SAFETY: the slice's pointer leads to as many bytes as its length says.
-    let found =
-        unsafe { ffi::sledgewren_look_up(side, white, black, first, second, count, start, len) };
-    let due = word(look_up_counted(table, &given.keyed(), count), counted_word);
-    tally.add("look-up's word", &(given, count), found, due);
-}
-
 /// The look-up in a pocket.
 fn compare_pocket(given: Given, packed: &[u8], tally: &mut Tally) {
     let Given { side, white, black, first, second } = given;
@@ -228,7 +146,7 @@ fn compare_pocket(given: Given, packed: &[u8], tally: &mut Tally) {
     // SAFETY: the slice's pointer leads to as many bytes as its length says.
     let found =
         unsafe { ffi::sledgewren_pocket_look_up(side, white, black, first, second, start, len) };
-    let due = word(pocket::look_up(packed, &given.keyed()), pocket_word);
+    let due = word(pocket::look_up(packed, &keyed(given)), pocket_word);
     tally.add("pocket look-up's word", &given, found as u64, due);
 }
 
@@ -237,7 +155,7 @@ fn compare_opinion(given: Given, plies: u8, tally: &mut Tally) {
     let Given { side, white, black, first, second } = given;
     // SAFETY: no pointers.
     let found = unsafe { ffi::sledgewren_second_opinion(side, white, black, first, second, plies) };
-    let due = word(search(&given.keyed(), plies), opinion_word);
+    let due = word(search(&keyed(given), plies), opinion_word);
     tally.add("second opinion's word", &(given, plies), found as u64, due);
 }
 
@@ -255,12 +173,13 @@ pub fn random_words(sequence: &mut Sequence, tally: &mut Tally) {
         })
         .collect();
     for _ in 0..POSITIONS {
-        let given = Given::random(sequence);
+        let given = random_given(sequence);
         let (kind, plies) = (given.first as usize % 4, PLIES[sequence.below(PLIES.len())]);
-        compare_moves(given, tally);
+        compare_number(given, tally);
+        compare_list(given, tally);
         compare_plays(given, sequence, tally);
         let count = COUNTS[sequence.below(COUNTS.len())];
-        compare_look_up(given, &tables[kind], count, tally);
+        compare_look_up(given, count, NONE, &tables[kind], tally);
         compare_pocket(given, &packed[kind], tally);
         compare_opinion(given, plies, tally);
     }

@@ -12,23 +12,25 @@ use crate::desk;
 use crate::failure::{usage, Done, Failure};
 use crate::fill::Filled;
 use crate::lines::{for_each_keyed, for_each_numbers};
-use crate::number::{back, number, NUMBERS};
-use crate::position::{Keyed, Man, Position, Refused, MEN};
-use crate::rules::{legal_position, move_name, moves};
+use crate::number::{back, NUMBERS};
+use crate::position::{Man, Position, Refused, MEN};
 use crate::samples::{self, Line};
 use crate::table::{check, look_up, Checked};
-use crate::{commands_pocket, commands_search, commands_set, commands_steps};
-use crate::{fill_back, fill_every, selftest};
+use crate::{
+    commands_four, commands_four_lines, commands_pocket, commands_search, commands_set,
+    commands_steps,
+};
+use crate::{fill_back, fill_every, four_back, four_every, selftest, selftest_four};
 
 pub const USAGE: &str = "\
-usage: oracle SUBCOMMAND [ARGUMENTS]     (MAN is Q, R, B or N)
+usage: oracle SUBCOMMAND [ARGUMENTS]     (MAN is Q, R, B or N; ENDING KQRK, KQKR and so on)
 
   table MAN               write the 59,136 bytes of the true table
   counts [MAN ...]        counts of each table's bytes, and its checksum
-  moves                   list the legal moves of each line on standard input
+  moves [two]             list the legal moves of each line on standard input
   positions [both]        write input lines for moves
   numbers                 go over all numbers and back, with checksums
-  number                  number each line on standard input
+  number [two]            number each line on standard input
   back                    read `man number` lines, write side and squares
   typed                   write each number on standard input with its check digits
   check MAN FILE          check a table: accepted, wrong N or refused N
@@ -50,12 +52,26 @@ usage: oracle SUBCOMMAND [ARGUMENTS]     (MAN is Q, R, B or N)
   fill-every MAN [REPEAT] time the fill of every position at every depth
   fill-back MAN [REPEAT]  time the fill that works back from the mates
   selftest                hold the program to outside truth
+  four-table ENDING       write the 3,784,704 bytes of two men's true table
+  four-sums [ENDING ...]  greatest depth, counts and checksum of each table
+  four-steps ENDING       fill in steps: each step's answer and checksum
+  four-fill-every ENDING  time the fill of every position at every depth
+  four-fill-back ENDING   time the fill that works back
+  four-back               read `man man oneeach number` lines, write side and squares
+  four-check ENDING FILE SMALL SMALL
+                          check a table beside the first man's and the second's
+  four-lookup FILE SMALL SMALL
+                          look up each line with one man or two
+  four-positions          write the test program's input lines
+  four-cases              number, count of moves, first and last move of each line
+  selftest-four           hold two men's part to outside truth
   --help                  write this text
 
 Lines for moves, number, lookup, pocket and search hold five decimal numbers
 from 0 to 255: man side whiteking mansquare blackking (queen 0, rook 1, bishop 2, knight 3;
 White 0, Black 1; square = 8 x rank + file, a1 = 0, h8 = 63). A sixth is the man's colour,
-White's if it is left out; three more key a second man: man colour mansquare. Samples are of
+White's if it is left out; three more key a second man: man colour mansquare, refused 1 but
+where `two` is said or the subcommand is one of two men. Samples are of
 White's man, or with `both` of both colours, the colour written.
 Exit status: 0 done, 1 failed self test or stream, 2 bad usage or malformed line.
 ";
@@ -93,21 +109,39 @@ fn dispatch(name: &str, rest: &[OsString], output: &mut Out) -> Done {
         "set-find" => commands_set::find_in_file(rest, output),
         "set-sums" => commands_set::sums(rest, output),
         "steps" => commands_steps::steps(rest, output),
+        _ => dispatch_four(name, rest, output),
+    }
+}
+
+/// The subcommands of two men.
+fn dispatch_four(name: &str, rest: &[OsString], output: &mut Out) -> Done {
+    match name {
+        "moves" => commands_four_lines::list_moves(rest, output),
+        "number" => commands_four_lines::number_lines(rest, output),
+        "four-back" => commands_four_lines::back_lines(rest, output),
+        "four-check" => commands_four_lines::check_file(rest, output),
+        "four-lookup" => commands_four_lines::look_up_lines(rest, output),
+        "four-table" => commands_four::table(rest, output),
+        "four-sums" => commands_four::sums(rest, output),
+        "four-steps" => commands_four::steps(rest, output),
+        "four-fill-every" => commands_four::timed(name, four_every::fill, rest, output),
+        "four-fill-back" => commands_four::timed(name, four_back::fill, rest, output),
         _ => without_arguments(name, rest, output),
     }
 }
 
 fn without_arguments(name: &str, rest: &[OsString], output: &mut Out) -> Done {
     let command: fn(&mut Out) -> Done = match name {
-        "moves" => list_moves,
         "numbers" => numbers,
-        "number" => number_lines,
+        "four-positions" => commands_four_lines::sample_lines,
+        "four-cases" => commands_four_lines::case_lines,
         "back" => back_lines,
         "typed" => typed_lines,
         "desk" => |output| desk::run(io::stdin().lock(), output),
         "run" => |output| Ok(output.write_all(cases::RUN_INPUT.as_bytes())?),
         "bench-positions" => bench_positions,
         "selftest" => |output| selftest::run(output),
+        "selftest-four" => |output| selftest_four::run(output),
         "--help" | "-h" | "help" => |output| Ok(output.write_all(USAGE.as_bytes())?),
         _ => return usage(format!("no subcommand `{name}`; see oracle --help")),
     };
@@ -163,26 +197,6 @@ fn counts(rest: &[OsString], output: &mut Out) -> Done {
     Ok(())
 }
 
-fn moves_text(keyed: &Keyed) -> String {
-    let position = match legal_position(keyed) {
-        Ok(position) => position,
-        Err(refused) => return refused_text(refused),
-    };
-    let list = moves(&position);
-    let mut text = list.as_slice().len().to_string();
-    for &chosen in list.as_slice() {
-        text.push(' ');
-        text.push_str(&move_name(chosen));
-    }
-    text
-}
-
-fn list_moves(output: &mut Out) -> Done {
-    for_each_keyed(io::stdin().lock(), output, |keyed, output| {
-        writeln!(output, "{}", moves_text(keyed))
-    })
-}
-
 /// A sample's men: White's alone, or those of both sides, with the colour at each line's end.
 #[derive(Clone, Copy)]
 pub enum Colours {
@@ -227,13 +241,6 @@ fn numbers(output: &mut Out) -> Done {
         write_numbering(output, man)?;
     }
     Ok(())
-}
-
-fn number_lines(output: &mut Out) -> Done {
-    for_each_keyed(io::stdin().lock(), output, |keyed, output| match number(keyed) {
-        Ok(number) => writeln!(output, "number {number}"),
-        Err(refused) => writeln!(output, "{}", refused_text(refused)),
-    })
 }
 
 fn back_text(man: u8, number: u64) -> String {

@@ -29,6 +29,12 @@ impl Checksum {
     }
 }
 
+impl Default for Checksum {
+    fn default() -> Checksum {
+        Checksum::new()
+    }
+}
+
 /// How often each byte stands in one side's half of a table.
 pub fn byte_counts(table: &[u8], side: Side) -> [usize; 256] {
     let half = NUMBERS / 2;

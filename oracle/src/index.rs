@@ -80,6 +80,20 @@ static KINGS: [[Kings; 64]; 64] = prepared();
 
 static FOLDS: [[Square; 64]; 16] = folds();
 
+/// What the kings alone decide: their pair, the map to apply to the men, and whether both kings are
+/// on the diagonal, so that the map with the exchange of file and rank fits too.
+#[inline]
+pub fn kings_decide(white: Square, black: Square) -> (usize, usize, bool) {
+    let kings = KINGS[white as usize & 63][black as usize & 63];
+    (kings.pair as usize, kings.fold as usize & 7, kings.fold >= 8)
+}
+
+/// A square under a map, from the prepared list.
+#[inline]
+pub fn turned(map: usize, square: Square) -> Square {
+    FOLDS[map & 7][square as usize & 63]
+}
+
 /// The number of a position, as `number::number_of` gives it.
 #[inline]
 pub fn number_of(position: &Position) -> usize {

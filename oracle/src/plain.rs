@@ -2,6 +2,7 @@
 //! for the self test alone: walk each line, make each move, see whether the king could be taken.
 
 use crate::board::{stepped, Square, Step, KING_STEPS, KNIGHT_STEPS};
+use crate::placement::Limit;
 use crate::position::{Keyed, KeyedMan, Man, Side};
 use crate::search::Opinion;
 
@@ -157,11 +158,16 @@ pub fn opinion(keyed: &Keyed, plies: u8) -> Opinion {
     found.unwrap_or(Opinion::NotWithin)
 }
 
-/// The lowest refusal from 1 to 6 that applies, each asked on its own.
+/// The lowest refusal from 1 to 6 that applies to one man's position.
 pub fn lowest_refusal(keyed: &Keyed) -> Option<u8> {
+    lowest_refusal_of(keyed, Limit::OneMan)
+}
+
+/// The lowest refusal from 1 to 6 that applies, each asked on its own.
+pub fn lowest_refusal_of(keyed: &Keyed, limit: Limit) -> Option<u8> {
     let Keyed { side, white_king, black_king, men } = *keyed;
     let present: Vec<KeyedMan> = men.into_iter().flatten().collect();
-    let one = men[0].is_some() && men[1].is_none();
+    let one = men[0].is_some() && (men[1].is_none() || limit == Limit::TwoMen);
     let kinds = present.iter().all(|man| man.kind <= 3);
     let colours = present.iter().all(|man| man.colour <= 1);
     let mut squares: Vec<u8> = present.iter().map(|man| man.square).collect();

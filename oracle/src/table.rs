@@ -67,7 +67,7 @@ pub struct Answer {
 }
 
 /// The value a successor must have for its move to be given.
-fn wanted(held: Value) -> Option<Value> {
+pub fn wanted(held: Value) -> Option<Value> {
     match held {
         Value::Win(depth) => depth.checked_sub(1).map(Value::Loss),
         Value::Loss(depth) => depth.checked_sub(1).map(Value::Win),

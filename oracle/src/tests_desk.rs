@@ -206,9 +206,9 @@ fn square_of(name: &[u8]) -> Option<u8> {
 
 /// A move as it stands on a slip: two squares, or two squares with `x` between them.
 fn read_move(text: &str) -> Option<Move> {
-    let (from, to, takes) = match text.as_bytes() {
-        &[ref from @ .., b'x', file, rank] => (from, [file, rank], true),
-        &[ref from @ .., file, rank] => (from, [file, rank], false),
+    let (from, to, takes) = match *text.as_bytes() {
+        [ref from @ .., b'x', file, rank] => (from, [file, rank], true),
+        [ref from @ .., file, rank] => (from, [file, rank], false),
         _ => return None,
     };
     Some(Move { from: square_of(from)?, to: square_of(&to)?, takes })

@@ -3,3 +3,5 @@ mod checker;
 mod numbers;
 
 pub use checker::check;
+pub use checker::check_with;
+pub use checker::lent_accepted;

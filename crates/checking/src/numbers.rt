@@ -1,7 +1,6 @@
 // What stands at a number, and whether a byte is the one required there.
-use pairs::PairList;
-use position::Position;
-use position::man_in;
+use position::Men;
+use position::Place;
 use successors::Standing;
 use successors::Verdict;
 use successors::legal_at;
@@ -11,28 +10,18 @@ ghost use lib.Dec.{eqb};
 ghost use Rattle.theory.specs.Required.{requiredAt};
 ghost use Rattle.table_theory.specs.Tables.{requiredByte};
 ghost use Rattle.rules.specs.Chess.{chess};
-ghost use Rattle.position.specs.Keyed.{boardOf};
-ghost use Rattle.pairs.specs.Tables.{pairs};
-ghost use Rattle.checking.specs.Right.{Alone};
-ghost use Rattle.endings.specs.Ending.{legalNumber, byteOf, ending};
+ghost use Rattle.position.specs.Posed.{boardIn, materialFor, Complete};
+ghost use Rattle.four_men.specs.Lending.{lent};
+ghost use Rattle.four_men.specs.Reading.{numbered};
+ghost use Rattle.successors.specs.Successors.{bytesIn};
+ghost use Rattle.checking.specs.Right.{Numbers};
 
 // Whether the byte is the one that the position's successors require.
-fn is_required(list: &PairList, table: &[u8], p: Position, byte: u8) -> bool
-    requires { ⌜ (now list ≡ pairs) × Alone p ⌝ }
-    ensures { λ r. ⌜ r ≡ eqb byte (requiredAt chess (byteOf (now (table .entry))) (boardOf p)) ⌝ }
+fn is_required(m: Men, q: Place, byte: u8, table: &[u8], first: &[u8], second: &[u8]) -> bool
+    requires { ⌜ Complete m q ⌝ }
+    ensures { λ r. ⌜ r ≡ eqb byte (requiredAt chess (bytesIn m (now (first .entry)) (now (second .entry)) (now (table .entry))) (boardIn m q)) ⌝ }
 {
-    let first = p.first;
-    let m = man_in(first);
-    let verdict = verdict_on(
-        list,
-        table,
-        m.kind,
-        p.side,
-        p.white_king,
-        m.square,
-        p.black_king,
-        byte,
-    );
+    let verdict = verdict_on(m, q, byte, table, first, second);
     match verdict {
         Verdict::Wrong => false,
         Verdict::Right(_) => true,
@@ -40,13 +29,13 @@ fn is_required(list: &PairList, table: &[u8], p: Position, byte: u8) -> bool
 }
 
 // Whether the byte is the one required at the number.
-pub fn is_right(list: &PairList, table: &[u8], kind: u8, n: u32, byte: u8) -> bool
-    requires { ⌜ now list ≡ pairs ⌝ }
-    ensures { λ r. ⌜ r ≡ eqb byte (requiredByte chess (ending kind) (now (table .entry)) n) ⌝ }
+pub fn is_right(m: Men, n: u32, byte: u8, table: &[u8], first: &[u8], second: &[u8]) -> bool
+    requires { ⌜ Numbers m n ⌝ }
+    ensures { λ r. ⌜ r ≡ eqb byte (requiredByte chess (numbered (materialFor m) (lent (now (first .entry)) (now (second .entry)))) (now (table .entry)) n) ⌝ }
 {
-    let standing = legal_at(kind, n);
+    let standing = legal_at(m, n);
     match standing {
-        Standing::Legal(p) => is_required(list, table, p, byte),
+        Standing::Legal(q) => is_required(m, q, byte, table, first, second),
         Standing::Nothing => byte == 0,
     }
 }

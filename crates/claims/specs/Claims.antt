@@ -1,93 +1,117 @@
--- The theorems that answer the three demands, each closed: every premise stands in its own statement. What each says is written above it; the
--- proofs are elsewhere and are cited.
-use mathlib.Core.Path.{_≡_}
-use mathlib.Core.Bool.{Bool}
+-- The theorems that answer the demands, for one man besides the kings and for two, each closed: every premise stands in
+-- its own statement. What each says is written above it; the proofs are elsewhere and are cited. `m` is an ending, `t`
+-- its table, and `l` what is lent with it: the table of each of two men alone. One man borrows none, whatever `l` is.
+use mathlib.Core.Path.{_≡_, sym, ap, _∙_}
+use mathlib.Core.Bool.{Bool, false}
 use mathlib.Core.Logic.{_↔_}
 use mathlib.Core.List.{List}
 use Prim.Native.Nat.{ℕ, _<_}
 use lib.Dec.{T}
-use lib.ListN.{length}
 use Rattle.theory.specs.Play.{LegalGame, Follows}
+use Rattle.table_theory.specs.Tables.{Result}
+use Rattle.table_theory.specs.Steps.{settled, ends, Stepped}
 use Rattle.rules.specs.declared.Move.{Move}
 use Rattle.rules.specs.Rules.{Board, legal}
 use Rattle.rules.specs.Chess.{chess}
+use Rattle.numbering.specs.declared.Material.{Material}
+use Rattle.numbering.specs.Material.{known, materialIn, OfMaterial}
+use Rattle.numbering.specs.Change.{Change}
 use Rattle.position.specs.declared.Position.{Position}
-use Rattle.position.specs.Keyed.{boardOf, manKind}
-use Rattle.position.specs.Refusals.{placingRefusal, standingRefusal}
+use Rattle.position.specs.Keyed.{boardOf}
+use Rattle.position.specs.Refusals.{placingWith, standingWith}
 use Rattle.index.specs.declared.Placed.{Placed}
-use Rattle.index.specs.Answers.{numberAnswer, placedAt}
+use Rattle.index.specs.Answers.{numberWith, placedWith}
 use Rattle.index.specs.NumberLaws.{SameClass}
-use Rattle.index.specs.laws.NumberLaws as numbers
-use Rattle.index.specs.BackLaws.{Bears}
-use Rattle.index.specs.laws.BackLaws as backs
 use Rattle.answers.specs.declared.Answer.{Answer}
 use Rattle.answers.specs.declared.Checked.{Checked}
-use Rattle.endings.specs.Ending.{Lone, tableSize}
-use Rattle.endings.specs.Truth.{TrueTable, TrueAnswer}
-use Rattle.endings.specs.Answers.{checkOf, fillOf, lookUpOf}
-use Rattle.endings.specs.laws.Checking as checking
-use Rattle.endings.specs.FilledTrue.{FillTrue}
-use Rattle.endings.specs.laws.FilledTrue as filling
-use Rattle.endings.specs.laws.LookingUp as lookingUp
+use Rattle.endings.specs.Answers.{resultOf}
+use Rattle.endings.specs.Truth.{TrueAnswer}
 use Rattle.endings.specs.laws.OneAnswer as answers
-use Rattle.endings.specs.GamePromise.{deskMove, GamePromise}
-use Rattle.endings.specs.laws.Games as playing
-use Rattle.fifty.specs.FiftyPromise.{PlaysCounted, FiftyPromise}
+use Rattle.four_men.specs.Lending.{Lent}
+use Rattle.four_men.specs.Answers.{lengthsFit, lentAccepted, checkWith, fillWith, lookUpWith}
+use Rattle.four_men.specs.Numbers.{BearsOf}
+use Rattle.four_men.specs.Truth.{TrueTableOf, FillTrueOf, LentBytes}
+use Rattle.four_men.specs.GamePromise.{deskMoveWith, GamePromiseWith}
+use Rattle.four_men.specs.MoveTurned.{MoveTurnedWith}
+use Rattle.four_men.specs.Steps.{Call, startWith, stepsWith}
+use Rattle.four_men.specs.laws.Numbers as numbers
+use Rattle.four_men.specs.laws.Checking as checking
+use Rattle.four_men.specs.laws.Filling as filling
+use Rattle.four_men.specs.laws.LookingUp as lookingUp
+use Rattle.four_men.specs.laws.Games as playing
+use Rattle.four_men.specs.laws.MoveTurned as turning
+use Rattle.four_men.specs.laws.Steps as runs
+use Rattle.fifty.specs.FiftyPromise.{PlaysCountedWith, FiftyPromiseWith}
 use Rattle.fifty.specs.laws.FiftyGames as fifty
-use Rattle.adjudication.specs.TrueSlip.{TrueSlip, Held}
-use Rattle.adjudication.specs.laws.OneSlip as slips
-use Rattle.stream.specs.Stream.{wholeOf, linesOf, fresh, handedOut, AllTrue}
-use Rattle.stream.specs.laws.Written as streaming
 
--- ---- demand 2: numbers
-
--- 1. Two positions of one ending that numbering does not refuse have the same number exactly when one of the board's eight maps, with the
--- colours exchanged or not, makes one into the other.
-pub same-number : (p q : Position) → placingRefusal p ≡ 0 → placingRefusal q ≡ 0 → manKind p ≡ manKind q → (numberAnswer p ≡ numberAnswer q) ↔ SameClass p q
-same-number = numbers.same-number
+-- 1. Two positions of one ending that numbering does not refuse have the same number exactly when one of the board's
+-- eight maps, two men in the other order, the colours exchanged (but for like kinds one each), or several of these make
+-- one into the other.
+pub same-number : (p q : Position) → placingWith p ≡ 0 → placingWith q ≡ 0
+    → materialIn (boardOf p .men) ≡ materialIn (boardOf q .men) → (numberWith p ≡ numberWith q) ↔ SameClass p q
+same-number = numbers.same-number-with
 
 -- 2. Each used number leads back to a position that bears it.
-pub number-back : (kind n : ℕ) (p : Position) → placedAt kind n ≡ Placed.At p → Bears kind n p
-number-back = backs.number-back
+pub number-back : (m : Material) (n : ℕ) (p : Position) → placedWith m n ≡ Placed.At p → BearsOf m n p
+number-back = numbers.number-back-with
 
--- ---- demand 2: tables
+-- 3. Checking accepts a table exactly when there is such an ending, all lengths fit, each lent table is accepted and
+-- this one is true: that table and no other, whoever made it. It gives 17 exactly where a lent table is not accepted, 1
+-- and 7 not refusing.
+pub accepted-true : (m : Material) (l : Lent) (t : List ℕ)
+    → ((checkWith m l t ≡ Checked.Accepted)
+    ↔ (T (known m) × T (lengthsFit m l t) × T (lentAccepted m l) × TrueTableOf m t))
+    × ((checkWith m l t ≡ Checked.Refused 17) ↔ (T (known m) × T (lengthsFit m l t) × (lentAccepted m l ≡ false)))
+accepted-true m l t = (checking.accepts-true-with m l t, checking.checked-17 m l t)
 
--- 3. Checking accepts a table exactly when it is as long as a table and the true one: that table and no other, whoever made it.
-pub accepted-true : (kind : ℕ) (t : List ℕ) → (checkOf kind t ≡ Checked.Accepted) ↔ ((kind < 4) × (length t ≡ tableSize) × TrueTable kind t)
-accepted-true = checking.accepts-true-only
+-- 4. Where 1, 7 and 17 do not refuse, filling leaves the true table and gives the greatest depth, or says that no
+-- position is decided; or it gives 10, a depth exceeds 253 and the table is all zero.
+pub filled-true : (m : Material) (l : Lent) (t : List ℕ) → T (known m) → T (lengthsFit m l t) → T (lentAccepted m l)
+    → LentBytes m l → FillTrueOf m (fillWith m l t)
+filled-true = filling.filled-true-with
 
--- 4. Filling leaves the true table and gives the greatest depth, or says that no position is decided; or it gives refusal 10, a depth exceeds 253 and the
--- table is all zero.
-pub filled-true : (kind : ℕ) (t : List ℕ) → kind < 4 → length t ≡ tableSize → FillTrue kind (fillOf kind t)
-filled-true = filling.filled-true
-
--- ---- demand 3
-
--- 5. With an accepted table look-up answers each legal position of the ending with its true value and depth and the first truly best move.
-pub looked-up-true : (kind : ℕ) (t : List ℕ) → checkOf kind t ≡ Checked.Accepted → (p : Position) → manKind p ≡ kind → standingRefusal p ≡ 0 → TrueAnswer (boardOf p) (lookUpOf t p)
-looked-up-true = lookingUp.look-up-true
+-- 5. With accepted tables look-up answers each legal position of the ending with its true value and depth and the truly
+-- best move that is first on the normal board.
+pub looked-up-true : (m : Material) (l : Lent) (t : List ℕ) → checkWith m l t ≡ Checked.Accepted → (p : Position)
+    → materialIn (boardOf p .men) ≡ m → standingWith p ≡ 0 → TrueAnswer (boardOf p) (lookUpWith l t p)
+looked-up-true = lookingUp.look-up-true-with
 
 -- 6. A board has one true answer: value, depth and move are pinned by the rules of chess alone.
 pub one-answer : (b : Board) (a c : Answer) → TrueAnswer b a → TrueAnswer b c → a ≡ c
 one-answer = answers.one-answer
 
--- 7. The theorem about games: every list of legal moves from any legal board of an ending, the man White's or Black's, in which a side plays the moves that look-up gives with an
--- accepted table.
-pub games : (kind : ℕ) (t : List ℕ) → checkOf kind t ≡ Checked.Accepted → (b : Board) → T (legal b) → Lone kind b → (side : Bool) (ms : List Move) → LegalGame chess b ms → Follows chess (deskMove t) side b ms → GamePromise t side b ms
-games = playing.games
+-- 7. The theorem about games: every list of legal moves from any legal board of the ending, the men White's or Black's,
+-- through captures until bare kings, in which a side plays the moves that look-up gives with tables that are accepted
+-- and stay as they are.
+pub games : (m : Material) (l : Lent) (t : List ℕ) → checkWith m l t ≡ Checked.Accepted → (b : Board) → T (legal b)
+    → OfMaterial m b → (side : Bool) (ms : List Move) → LegalGame chess b ms
+    → Follows chess (deskMoveWith m l t) side b ms → GamePromiseWith m l t side b ms
+games = playing.games-with
 
--- 8. The same at whatever count from 0 to 99 each look-up is given, with the fifty-move rule in it: from a marked position the winner who plays the desk's
--- moves mates within the depth, and before that the loser may not claim (FIDE 9.3), whatever the replies and captures.
-pub fifty-games : (kind : ℕ) (t : List ℕ) → checkOf kind t ≡ Checked.Accepted → (b : Board) → T (legal b) → Lone kind b
-    → (side : Bool) (ms : List Move) → LegalGame chess b ms → PlaysCounted t side b ms → FiftyPromise t side b ms
-fifty-games = fifty.fifty-games
+-- 8. The same at whatever count from 0 to 99 each look-up is given, with the fifty-move rule in it: from a marked
+-- position the winner who plays the desk's moves mates within the depth, and before that the loser may not claim (FIDE
+-- 9.3), whatever the replies and captures.
+pub fifty-games : (m : Material) (l : Lent) (t : List ℕ) → checkWith m l t ≡ Checked.Accepted → (b : Board)
+    → T (legal b) → OfMaterial m b → (side : Bool) (ms : List Move) → LegalGame chess b ms
+    → PlaysCountedWith m l t side b ms → FiftyPromiseWith m l t side b ms
+fifty-games = fifty.fifty-games-with
 
--- ---- the desk
+-- 9. A position turned by one of the eight maps, its men in either slot, the colours exchanged where that is allowed,
+-- each or not, gets the same answer, its move turned; where two maps fit and the turn exchanges file and rank, its
+-- move's mirror image turned. So it is on any tables.
+pub move-turned : (l : Lent) (t : List ℕ) (s : Change) (p : Position) → MoveTurnedWith l t s p
+move-turned = turning.move-turned-with
 
--- 9. In whatever parts the input comes, the desk hands out the true slips of its lines in order, if it begins with a table that is right or with none.
-pub desk-true : (held : ℕ) (t : List ℕ) (parts : List (List ℕ)) → Held held t → AllTrue (linesOf (wholeOf parts)) (handedOut (fresh held t) parts)
-desk-true = streaming.run-true
-
--- 10. A line has one true slip.
-pub one-slip : (line s u : List ℕ) → TrueSlip line s → TrueSlip line u → s ≡ u
-one-slip = slips.one-slip
+-- 10. Where 1, 7 and 17 do not refuse the single fill, a run of steps from a start that says done, or gives 10, leaves
+-- what that fill leaves: answer and every byte. After 255 steps every run has ended.
+pub steps-fill : (m : Material) (l : Lent) (t : List ℕ) → T (known m) → T (lengthsFit m l t) → T (lentAccepted m l)
+    → LentBytes m l → (n : ℕ) (s : Stepped) → stepsWith m l n (startWith m t) ≡ Call.made s
+    → ((r : Result) → s .said ≡ ends r → (resultOf r ≡ fillWith m l t .answer) × (s .bytes ≡ fillWith m l t .bytes))
+    × ((k : ℕ) → 254 < n → s .said ≡ settled k → ⊥)
+steps-fill m l t w long ok small n s run =
+    let same : runs.ran m l t w long n ≡ s = cc (sym (runs.run-with-is m l t w long n) ∙ run) in
+    let said = ap (λ (x : Stepped). x .said) same in (
+      λ r e. let v = runs.steps-fill-with m l t w long ok small n r (said ∙ e) in
+          (v .0, sym (ap (λ (x : Stepped). x .bytes) same) ∙ v .1),
+      λ k h e. runs.steps-end-with m l t w long ok small n k h (said ∙ e),
+    )

@@ -1,19 +1,16 @@
 -- The desk's moves in a game, and what is promised of every game in which a side plays them (01, "Games"; demand 3). Definitions only.
 use mathlib.Core.Path.{_≡_}
 use mathlib.Core.Bool.{Bool, false, not, cond}
-use mathlib.Core.List.{List, [], _∷_}
+use mathlib.Core.List.{List, []}
 use mathlib.Core.Option.{Option, none, some}
 use Prim.Native.Nat.{ℕ, _≤_}
 use lib.ListN.{length}
 use Rattle.theory.specs.Value.{Drawn}
 use Rattle.theory.specs.Play.{atPly, Over, Mates, Unmated, Promised}
-use Rattle.rules.specs.declared.Piece.{Piece}
 use Rattle.rules.specs.declared.Move.{Move}
 use Rattle.rules.specs.Rules.{Board, empty}
 use Rattle.rules.specs.Chess.{chess}
-use Rattle.position.specs.declared.Slot.{Slot}
-use Rattle.position.specs.declared.Slot.the-variants.{Absent, Present}
-use Rattle.position.specs.declared.Position.{Position}
+use Rattle.position.specs.Keyed.{keyed}
 use Rattle.answers.specs.declared.BestMove.{BestMove}
 use Rattle.answers.specs.declared.BestMove.the-variants.{Play, NoMove}
 use Rattle.answers.specs.declared.Answer.{Answer}
@@ -21,18 +18,6 @@ use Rattle.answers.specs.declared.Answer.the-variants.{Win, Loss, Draw, Refused
 use Rattle.endings.specs.Ending.{byteOf}
 use Rattle.endings.specs.Truth.{TrueAnswer}
 use Rattle.endings.specs.Answers.{lookUpOf}
-
--- a board keyed, its first two men in the slots
-abbrev pub slotOf : List Piece → Slot
-slotOf [] = Absent
-slotOf (m ∷ ms) = Present m
-
-abbrev pub others : List Piece → List Piece
-others [] = []
-others (m ∷ ms) = ms
-
-abbrev pub keyed : Board → Position
-keyed b = record { side = b .side; «white_king» = b .white; «black_king» = b .black; first = slotOf (b .men); second = slotOf (others (b .men)) }
 
 -- the move inside an answer
 abbrev pub given : BestMove → Option Move

@@ -1,4 +1,5 @@
--- The desk's moves at any count, and what is promised of every game in which a side plays them (02, P13; demand 3). Definitions only.
+-- The desk's moves at any count, and what is promised of every game in which a side plays them (02, P13; demand 3).
+-- Definitions only.
 use mathlib.Core.Path.{_≡_}
 use mathlib.Core.Bool.{Bool, false, not, cond}
 use mathlib.Core.Logic.{_↔_}
@@ -16,31 +17,51 @@ use Rattle.rules.specs.Chess.{chess}
 use Rattle.answers.specs.declared.Answer.{Answer}
 use Rattle.answers.specs.declared.Answer.the-variants.{Win, Loss, Draw, Refused}
 use Rattle.endings.specs.Truth.{TrueAnswer}
-use Rattle.endings.specs.GamePromise.{keyed, moveOfAnswer, GamePromise}
+use Rattle.position.specs.Keyed.{keyed}
+use Rattle.endings.specs.GamePromise.{moveOfAnswer, GamePromise}
 use Rattle.fifty.specs.declared.Marked.{Marked}
-use Rattle.fifty.specs.Marks.{lookUpAt}
+use Rattle.numbering.specs.declared.Material.{Material}
+use Rattle.four_men.specs.Lending.{Lent}
+use Rattle.four_men.specs.GamePromise.{tableThen, GamePromiseWith}
+use Rattle.fifty.specs.Marks.{lookUpAt, lookUpAtWith}
 
 -- without pawns, the moves that set the count to 0 are those that take, as a legal move itself says (02, P6)
 abbrev pub zeroing : Board → Move → Bool
 zeroing b m = m .takes
 
--- what look-up answers for a board at a count
+-- what look-up answers for a board at a count: with one man; and with one man or two, in the table of the ending then
+-- on the board
 abbrev pub answerAt : List ℕ → Board → ℕ → Marked
 answerAt t b c = lookUpAt t c (keyed b)
 
--- "the one that look-up gives for the position then on the board", at a count; "Bare kings are a draw and are not looked up"
+abbrev pub answerAtWith : Material → Lent → List ℕ → Board → ℕ → Marked
+answerAtWith m l t b c = lookUpAtWith l (tableThen m l t (b .men)) c (keyed b)
+
+-- "the one that look-up gives for the position then on the board", at a count; "Bare kings are a draw and are not
+-- looked up"
+abbrev pub moveAt : (Board → ℕ → Marked) → ℕ → Board → Option Move
+moveAt answer c b = cond (empty (b .men)) none (moveOfAnswer (answer b c .answer))
+
 unfoldable pub countedMove : List ℕ → ℕ → Board → Option Move
-countedMove t c b = cond (empty (b .men)) none (moveOfAnswer (answerAt t b c .answer))
+countedMove t c b = moveAt (answerAt t) c b
+
+unfoldable pub countedMoveWith : Material → Lent → List ℕ → ℕ → Board → Option Move
+countedMoveWith m l t c b = moveAt (answerAtWith m l t) c b
 
 -- The side plays the desk's moves, "whatever count from 0 to 99 each of its look-ups is given".
-abbrev pub PlaysCounted : List ℕ → Bool → Board → List Move → Type 0
-PlaysCounted t side b [] = Unit {0}
-PlaysCounted t side b (m ∷ ms) =
-    (chess .turn b ≡ side → (c : ℕ) × (c ≤ 99) × (countedMove t c b ≡ some m))
-    × PlaysCounted t side (chess .play b m) ms
+abbrev pub PlaysBy : (ℕ → Board → Option Move) → Bool → Board → List Move → Type 0
+PlaysBy pick side b [] = Unit {0}
+PlaysBy pick side b (m ∷ ms) =
+    (chess .turn b ≡ side → (c : ℕ) × (c ≤ 99) × (pick c b ≡ some m)) × PlaysBy pick side (chess .play b m) ms
 
--- What a mark promises, by what the position is called, to the winner who plays the desk's moves from the count c: he mates within the depth, and
--- before that the loser may not claim. A draw and a refusal have no mark.
+abbrev pub PlaysCounted : List ℕ → Bool → Board → List Move → Type 0
+PlaysCounted t side b ms = PlaysBy (countedMove t) side b ms
+
+abbrev pub PlaysCountedWith : Material → Lent → List ℕ → Bool → Board → List Move → Type 0
+PlaysCountedWith m l t side b ms = PlaysBy (countedMoveWith m l t) side b ms
+
+-- What a mark promises, by what the position is called, to the winner who plays the desk's moves from the count c: he
+-- mates within the depth, and before that the loser may not claim. A draw and a refusal have no mark.
 abbrev pub ClearBy : Answer → Bool → Board → List Move → ℕ → Type 0
 ClearBy (Win n a) side b ms c = chess .turn b ≡ side → Clear chess zeroing side b ms n c
 ClearBy (Loss n a) side b ms c = chess .turn b ≡ not side → Clear chess zeroing side b ms n c
@@ -51,17 +72,26 @@ ClearBy (Refused k) side b ms c = ⊥
 abbrev pub Within : Board → ℕ → Type 0
 Within b c = (n : ℕ) × DepthIs chess n b × (c + n ≤ 100)
 
--- What is promised of the game ms from the board b, in which `side` plays the desk's moves by the table t, at any counts.
-pub record FiftyPromise (t : List ℕ) (side : Bool) (b : Board) (ms : List Move) : Type 0 where
-  -- demand 3 as it stands
-  pub game : GamePromise t side b ms
+-- What is promised of look-up's answers at any counts, in the game ms from the board b, in which `side` plays the
+-- desk's moves.
+pub record CountsPromise (answer : Board → ℕ → Marked) (side : Bool) (b : Board) (ms : List Move) : Type 0 where
   -- what the first position is called, at every count from 0 to 99, is its true value and depth
-  pub called : (c : ℕ) → c ≤ 99 → TrueAnswer b (answerAt t b c .answer)
+  pub called : (c : ℕ) → c ≤ 99 → TrueAnswer b (answer b c .answer)
   -- so it is for each position of the game, bare kings apart
   pub answers : (i : ℕ) → i ≤ length ms → empty (atPly chess b ms i .men) ≡ false → (c : ℕ) → c ≤ 99
-      → TrueAnswer (atPly chess b ms i) (answerAt t (atPly chess b ms i) c .answer)
+      → TrueAnswer (atPly chess b ms i) (answer (atPly chess b ms i) c .answer)
   -- and a mark exactly where it is decided and the sum is at most 100
   pub marked : (i : ℕ) → i ≤ length ms → empty (atPly chess b ms i .men) ≡ false → (c : ℕ) → c ≤ 99
-      → T (answerAt t (atPly chess b ms i) c .«within_fifty») ↔ Within (atPly chess b ms i) c
+      → T (answer (atPly chess b ms i) c .«within_fifty») ↔ Within (atPly chess b ms i) c
   -- marked at the count c, the first position is won clear of the fifty-move rule
-  pub clear : (c : ℕ) → c ≤ 99 → T (answerAt t b c .«within_fifty») → ClearBy (answerAt t b c .answer) side b ms c
+  pub clear : (c : ℕ) → c ≤ 99 → T (answer b c .«within_fifty») → ClearBy (answer b c .answer) side b ms c
+
+-- by the table t, with one man: demand 3 as it stands, at any counts
+pub record FiftyPromise (t : List ℕ) (side : Bool) (b : Board) (ms : List Move) : Type 0 where
+  pub game : GamePromise t side b ms
+  pub counts : CountsPromise (answerAt t) side b ms
+
+-- by the ending's table t and the lent ones, with one man or two, through captures until bare kings
+pub record FiftyPromiseWith (m : Material) (l : Lent) (t : List ℕ) (side : Bool) (b : Board) (ms : List Move) : Type 0 where
+  pub game : GamePromiseWith m l t side b ms
+  pub counts : CountsPromise (answerAtWith m l t) side b ms

@@ -7,6 +7,8 @@ use Rattle.position.specs.declared.Position.{Position}
 use Rattle.answers.specs.declared.Answer.{Answer}
 use Rattle.answers.specs.declared.Answer.the-variants.{Win, Loss, Draw, Refused}
 use Rattle.endings.specs.Answers.{lookUpOf}
+use Rattle.four_men.specs.Lending.{Lent}
+use Rattle.four_men.specs.Answers.{lookUpWith}
 use Rattle.fifty.specs.declared.Marked.{Marked}
 
 -- "Mark a win or a loss as 'within fifty' when that count plus the depth is at most 100"; "never on a draw"
@@ -31,3 +33,7 @@ markedBy c a = record { answer = a; «within_fifty» = marks c a }
 
 unfoldable pub lookUpAt : List ℕ → ℕ → Position → Marked
 lookUpAt t c p = markedBy c (atCount c (lookUpOf t p))
+
+-- of one man or of two, through the lent tables
+unfoldable pub lookUpAtWith : Lent → List ℕ → ℕ → Position → Marked
+lookUpAtWith l t c p = markedBy c (atCount c (lookUpWith l t p))

@@ -1,11 +1,14 @@
-// Looking a position up with the plies since the last capture: whether a win or a loss comes before a fifty-move claim (02, P13).
+// Looking a position up with the plies since the last capture: whether a win or a loss comes before a fifty-move claim
+// (02, P13).
 use answers::Answer;
 use look_up::look_up;
+use look_up::look_up_with;
 use position::Position;
 ghost use mathlib.Core.Path.{_≡_};
 ghost use Prim.Native.Nat.{_+_};
 ghost use lib.Dec.{leb};
-ghost use Rattle.fifty.specs.Marks.{marks, isRefused, atCount, lookUpAt};
+ghost use Rattle.four_men.specs.Lending.{lent};
+ghost use Rattle.fifty.specs.Marks.{marks, isRefused, atCount, markedBy, lookUpAt, lookUpAtWith};
 
 // Refusal 19: more plies than 99 since the last capture.
 pub const TOO_MANY_QUIET: u8 = 19;
@@ -58,14 +61,27 @@ fn at_count(plies: u32, a: Answer) -> Answer
     a
 }
 
-// The answer and its mark; or a refusal, 1 to 7, 11 or 19.
-pub fn look_up_at(table: &[u8], p: Position, plies: u32) -> Marked
-    ensures { λ r. ⌜ r ≡ lookUpAt (now (table .entry)) plies p ⌝ }
+// What look-up found, at a count, with its mark.
+fn marked_at(plies: u32, found: Answer) -> Marked
+    ensures { λ r. ⌜ r ≡ markedBy plies (atCount plies found) ⌝ }
 {
-    let found = look_up(table, p);
     let answer = at_count(plies, found);
     Marked {
         answer,
         within_fifty: is_marked(plies, answer),
     }
+}
+
+// The answer and its mark, by the table of the position's own ending and the lent ones; or a refusal, 1 to 7, 11 or 19.
+pub fn look_up_at_with(p: Position, plies: u32, table: &[u8], first: &[u8], second: &[u8]) -> Marked
+    ensures { λ r. ⌜ r ≡ lookUpAtWith (lent (now (first .entry)) (now (second .entry))) (now (table .entry)) plies p ⌝ }
+{
+    marked_at(plies, look_up_with(p, table, first, second))
+}
+
+// The same for the parts that keep to three men: two men are refused 1.
+pub fn look_up_at(table: &[u8], p: Position, plies: u32) -> Marked
+    ensures { λ r. ⌜ r ≡ lookUpAt (now (table .entry)) plies p ⌝ }
+{
+    marked_at(plies, look_up(table, p))
 }

@@ -33,8 +33,11 @@ abbrev pub takenOf : over.Stepped → Taken
 takenOf s = record { step = record { said = saidOf (s .said); progress = s .progress }; bytes = s .bytes }
 
 -- refusals 1 and 7 leave the table and the progress as they were
+abbrev pub refusing : ℕ → Progress → Step
+refusing k p = record { said = Stepped.Says (Filled.Refused k); progress = p }
+
 abbrev pub refused : ℕ → List ℕ → Progress → Taken
-refused k t p = record { step = record { said = Stepped.Says (Filled.Refused k); progress = p }; bytes = t }
+refused k t p = record { step = refusing k p; bytes = t }
 
 unfoldable pub admitted : ℕ → List ℕ → Progress → Taken → Taken
 admitted kind t p s = cond (leb 4 kind) (refused 1 t p) (cond (not (eqb (length t) tableSize)) (refused 7 t p) s)

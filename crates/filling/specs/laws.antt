@@ -1,5 +1,11 @@
 pub mod Laws
+pub mod Greatest
+pub mod Halves
 pub mod Quiet
 pub mod StepLaws
 pub mod StepsTrue
 pub mod Handed
+pub mod Code
+pub mod StepCode
+pub mod Calls
+pub mod FillLaws

@@ -1,34 +1,71 @@
 // The fill at once: the start, and steps until one says how it ends.
 use super::bytes::start;
+use super::deepest::deepest_lent;
 use super::steps::Stepped;
 use super::steps::step_at;
 use answers::Filled;
-use index::TABLE_SIZE;
-use pairs::pair_list;
+use checking::lent_accepted;
+use four_men::NOT_ACCEPTED;
+use four_men::lengths_fit;
+use index::is_known;
+use index::men_of;
+use numbering::Material;
 use position::BAD_MAN;
+use position::Men;
 use position::TABLE_LENGTH;
+ghost use Rattle.table_theory.specs.Lending.{filledUntil};
+ghost use Rattle.rules.specs.Chess.{chess};
+ghost use Rattle.position.specs.Posed.{materialFor};
 ghost use Rattle.endings.specs.FilledTrue.{FillPromise};
+ghost use Rattle.four_men.specs.Lending.{lent, borrowed};
+ghost use Rattle.four_men.specs.Reading.{holdsDepth};
+ghost use Rattle.filling.specs.Admitted.{over, Admitted};
+ghost use Rattle.filling.specs.FillPromise.{Fills, FillPromiseWith};
 
-// Writes the true table and gives the greatest depth, or says that no position is decided. Refusals 1 and 7 leave the table as it was, 10 all
+fn fill_men(m: Men, first: &[u8], second: &[u8], table: &mut [u8]) -> Filled
+    requires { ⌜ Admitted m (now first) (now second) (now table) ⌝ }
+    ensures { λ r. ⌜ Fills (filledUntil chess (over m (now (first .entry)) (now (second .entry))) (holdsDepth (borrowed (materialFor m) (lent (now (first .entry)) (now (second .entry))))) (now (table .entry))) r (now (table .exit)) ⌝ }
+{
+    let deepest = deepest_lent(m, first, second);
+    start(m, &mut *table);
+    let mut k: u8 = 0;
+    let mut last: u8 = 0;
+    loop {
+        let step = step_at(m, k, last, deepest, first, second, &mut *table);
+        let said = step.said;
+        let progress = step.progress;
+        match said {
+            Stepped::Says(end) => return end,
+            Stepped::Settled(_) => {
+                k += 1;
+                last = progress.last;
+            },
+        }
+    }
+}
+
+// Writes the true table and gives the greatest depth, or says that no position is decided. Captures are read in the
+// lent tables, of the first man's kind and of the second's. Refusals 1, 7 and 17 leave the table as it was, 10 all
 // zero.
+pub fn fill_with(m: Material, first: &[u8], second: &[u8], table: &mut [u8]) -> Filled
+    ensures { λ r. ⌜ FillPromiseWith m (lent (now (first .entry)) (now (second .entry))) (now (table .entry)) r (now (table .exit)) ⌝ }
+{
+    if !is_known(m) {
+        return Filled::Refused(BAD_MAN);
+    }
+    if !lengths_fit(m, &*table, first, second) {
+        return Filled::Refused(TABLE_LENGTH);
+    }
+    if !lent_accepted(m, first, second) {
+        return Filled::Refused(NOT_ACCEPTED);
+    }
+    fill_men(men_of(m), first, second, &mut *table)
+}
+
+// With one man, who borrows nothing. Refusals 1 and 7 leave the table as it was, 10 all zero.
 pub fn fill(kind: u8, table: &mut [u8]) -> Filled
     ensures { λ r. ⌜ FillPromise kind (now (table .entry)) r (now (table .exit)) ⌝ }
 {
-    if 4 <= kind {
-        return Filled::Refused(BAD_MAN);
-    }
-    if table.len() != TABLE_SIZE {
-        return Filled::Refused(TABLE_LENGTH);
-    }
-    let list = pair_list();
-    start(kind, &mut *table);
-    let mut k: u8 = 0;
-    loop {
-        let step = step_at(&list, kind, k, &mut *table);
-        let said = step.said;
-        match said {
-            Stepped::Says(end) => return end,
-            Stepped::Settled(_) => k += 1,
-        }
-    }
+    let none: [u8; 0] = [];
+    fill_with(Material::One(kind), &none, &none, &mut *table)
 }

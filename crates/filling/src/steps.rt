@@ -1,34 +1,28 @@
-// The fill in steps, one depth each, for a caller that shows how far it is.
+// One step of the fill: the pass for a depth, and what it hands back.
 use super::bytes::clear;
-use super::bytes::start;
 use super::pass::pass;
 use super::pass::some_settles;
 use answers::Filled;
-use index::TABLE_SIZE;
-use pairs::PairList;
-use pairs::pair_list;
-use position::BAD_MAN;
-use position::TABLE_LENGTH;
+use position::Men;
 use position::TOO_DEEP;
 use table_theory::Progress;
 ghost use mathlib.Core.Path.{_≡_};
-ghost use Prim.Native.Nat.{_≤_, min};
-ghost use lib.ListN.{length};
+ghost use Prim.Native.Nat.{_<_, _≤_};
 ghost use Rattle.table_theory.specs.Tables.{ended as endedOf};
-ghost use Rattle.pairs.specs.Tables.{pairs};
 ghost use Rattle.endings.specs.Answers.{resultOf};
-ghost use Rattle.endings.specs.Ending.{tableSize};
-ghost use Rattle.filling.specs.Steps.{Hands, stepAlone, startOf, stepOf};
+ghost use Rattle.filling.specs.Admitted.{over, Admitted};
+ghost use Rattle.filling.specs.Steps.{Hands};
+ghost use Rattle.filling.specs.Stepping.{lastOf, stepOver};
 
 // The first depth that no byte holds.
-const DEPTHS: u8 = 254;
+pub const DEPTHS: u8 = 254;
 
 // Stages of a progress: any other than the first two is that 10 was given.
-const GOING: u8 = 0;
+pub const GOING: u8 = 0;
 
-const DONE: u8 = 1;
+pub const DONE: u8 = 1;
 
-const GAVE_TEN: u8 = 2;
+pub const GAVE_TEN: u8 = 2;
 
 // What a call says: how many numbers it settled, filling going on; or how filling ends, or a refusal.
 pub enum Stepped {
@@ -42,127 +36,115 @@ pub struct Step {
     pub progress: Progress,
 }
 
-// How filling ends where the last depth settled is k - 1.
-fn ended(k: u8) -> Filled
-    ensures { λ r. ⌜ r ≡ resultOf (endedOf k) ⌝ }
+// How filling ends where the last depth settled is `last` - 1.
+pub fn ended(last: u8) -> Filled
+    ensures { λ r. ⌜ r ≡ resultOf (endedOf last) ⌝ }
 {
-    if k == 0 {
+    if last == 0 {
         return Filled::NoneDecided;
     }
-    Filled::Greatest(k - 1)
+    Filled::Greatest(last - 1)
 }
 
-// The depth of the next step: one above 254 counts as 254.
-fn next_depth(next: u16) -> u8
-    ensures { λ r. ⌜ r ≡ min next 254 ⌝ }
+// What counts as the last depth settled before the step for depth k: the one before it, unless something lent is as
+// deep.
+fn last_before(k: u8, last: u8, deepest: u8) -> u8
+    requires { ⌜ k ≤ 254 ⌝ }
+    ensures { λ r. ⌜ r ≡ lastOf k last deepest ⌝ }
 {
-    if next < 254 { next as u8 } else { DEPTHS }
+    if k == 0 {
+        return 0;
+    }
+    if deepest < 1 + k {
+        return k;
+    }
+    last
 }
 
-// With nothing lent each step but the last has settled its depth.
-fn progress_at(stage: u8, k: u8) -> Progress
-    ensures { λ r. ⌜ r ≡ record { stage = stage; next = k; last = k } ⌝ }
+pub fn progress_at(stage: u8, k: u8, last: u8) -> Progress
+    ensures { λ r. ⌜ r ≡ record { stage = stage; next = k; last = last } ⌝ }
 {
     Progress {
         stage,
         next: k as u16,
-        last: k,
+        last,
     }
 }
 
-// The step for depth k, on any bytes.
-pub fn step_at(list: &PairList, kind: u8, k: u8, table: &mut [u8]) -> Step
-    requires { ⌜ (k ≤ 254) × (length (now table) ≡ tableSize) × (now list ≡ pairs) ⌝ }
-    ensures { λ r. ⌜ Hands (stepAlone kind k (now (table .entry))) r (now (table .exit)) ⌝ }
+// The step for a depth that a byte holds.
+fn step_below(
+    m: Men,
+    k: u8,
+    last: u8,
+    deepest: u8,
+    first: &[u8],
+    second: &[u8],
+    table: &mut [u8],
+) -> Step
+    requires { ⌜ (k < 254) × Admitted m (now first) (now second) (now table) ⌝ }
+    ensures { λ r. ⌜ Hands (stepOver (over m (now (first .entry)) (now (second .entry))) deepest k last (now (table .entry))) r (now (table .exit)) ⌝ }
 {
-    if k < DEPTHS {
-        let settled = pass(list, kind, k, &mut *table);
-        if settled == 0 {
-            let last = ended(k);
-            let over = progress_at(DONE, k);
-            return Step {
-                said: Stepped::Says(last),
-                progress: over,
-            };
-        }
-        let on = progress_at(GOING, k + 1);
+    let before = last_before(k, last, deepest);
+    let settled = pass(m, k, first, second, &mut *table);
+    if settled != 0 {
+        let on = progress_at(GOING, k + 1, k + 1);
         return Step {
             said: Stepped::Settled(settled),
             progress: on,
         };
     }
-    if some_settles(list, &*table, kind, DEPTHS) {
+    if deepest < 2 + k {
+        let end = ended(before);
+        let over = progress_at(DONE, k, before);
+        return Step {
+            said: Stepped::Says(end),
+            progress: over,
+        };
+    }
+    let on = progress_at(GOING, k + 1, before);
+    Step {
+        said: Stepped::Settled(0),
+        progress: on,
+    }
+}
+
+// The step for depth 254, which no byte holds: nothing lent is as deep.
+fn last_step(m: Men, last: u8, deepest: u8, first: &[u8], second: &[u8], table: &mut [u8]) -> Step
+    requires { ⌜ (deepest < 256) × Admitted m (now first) (now second) (now table) ⌝ }
+    ensures { λ r. ⌜ Hands (stepOver (over m (now (first .entry)) (now (second .entry))) deepest 254 last (now (table .entry))) r (now (table .exit)) ⌝ }
+{
+    let before = last_before(DEPTHS, last, deepest);
+    if some_settles(m, DEPTHS, first, second, &*table) {
         clear(&mut *table);
-        let over = progress_at(GAVE_TEN, DEPTHS);
+        let over = progress_at(GAVE_TEN, DEPTHS, before);
         return Step {
             said: Stepped::Says(Filled::Refused(TOO_DEEP)),
             progress: over,
         };
     }
-    let last = ended(DEPTHS);
-    let over = progress_at(DONE, DEPTHS);
+    let end = ended(before);
+    let over = progress_at(DONE, DEPTHS, before);
     Step {
-        said: Stepped::Says(last),
+        said: Stepped::Says(end),
         progress: over,
     }
 }
 
-// Sets every legal number to 1 and the rest to 0. Refusals 1 and 7 leave the table as it was.
-pub fn start_filling(kind: u8, table: &mut [u8]) -> Step
-    ensures { λ r. ⌜ Hands (startOf kind (now (table .entry))) r (now (table .exit)) ⌝ }
+// The step for depth k, on any bytes; `deepest` is the greatest byte lent.
+pub fn step_at(
+    m: Men,
+    k: u8,
+    last: u8,
+    deepest: u8,
+    first: &[u8],
+    second: &[u8],
+    table: &mut [u8],
+) -> Step
+    requires { ⌜ (k ≤ 254) × (deepest < 256) × Admitted m (now first) (now second) (now table) ⌝ }
+    ensures { λ r. ⌜ Hands (stepOver (over m (now (first .entry)) (now (second .entry))) deepest k last (now (table .entry))) r (now (table .exit)) ⌝ }
 {
-    let first = progress_at(GOING, 0);
-    if 4 <= kind {
-        return Step {
-            said: Stepped::Says(Filled::Refused(BAD_MAN)),
-            progress: first,
-        };
+    if k < DEPTHS {
+        return step_below(m, k, last, deepest, first, second, &mut *table);
     }
-    if table.len() != TABLE_SIZE {
-        return Step {
-            said: Stepped::Says(Filled::Refused(TABLE_LENGTH)),
-            progress: first,
-        };
-    }
-    start(kind, &mut *table);
-    Step {
-        said: Stepped::Settled(0),
-        progress: first,
-    }
-}
-
-// One step, on any bytes and any progress. Refusals 1 and 7 leave the table and the progress as they were; once a step has said done, or has
-// given 10 and cleared the table, later ones repeat it and write nothing.
-pub fn take_step(kind: u8, table: &mut [u8], progress: Progress) -> Step
-    ensures { λ r. ⌜ Hands (stepOf kind (now (table .entry)) progress) r (now (table .exit)) ⌝ }
-{
-    if 4 <= kind {
-        return Step {
-            said: Stepped::Says(Filled::Refused(BAD_MAN)),
-            progress,
-        };
-    }
-    if table.len() != TABLE_SIZE {
-        return Step {
-            said: Stepped::Says(Filled::Refused(TABLE_LENGTH)),
-            progress,
-        };
-    }
-    let stage = progress.stage;
-    if stage == GOING {
-        let list = pair_list();
-        let k = next_depth(progress.next);
-        return step_at(&list, kind, k, &mut *table);
-    }
-    if stage == DONE {
-        let last = ended(progress.last);
-        return Step {
-            said: Stepped::Says(last),
-            progress,
-        };
-    }
-    Step {
-        said: Stepped::Says(Filled::Refused(TOO_DEEP)),
-        progress,
-    }
+    last_step(m, last, deepest, first, second, &mut *table)
 }

@@ -1,5 +1,5 @@
--- The desk's moves in a game from one man or two, through captures until bare kings, and what is promised of every game in which a side plays them (01,
--- "Games"; 02, P10; demand 3). Definitions only.
+-- The desk's moves in a game from one man or two, through captures until bare kings, and what is promised of every game
+-- in which a side plays them (01, "Games"; 02, P10; demand 3). Definitions only.
 use mathlib.Core.Path.{_≡_}
 use mathlib.Core.Bool.{Bool, false, cond}
 use mathlib.Core.List.{List, [], _∷_}
@@ -15,17 +15,19 @@ use Rattle.rules.specs.Rules.{Board, empty}
 use Rattle.rules.specs.Chess.{chess}
 use Rattle.answers.specs.declared.Answer.{Answer}
 use Rattle.endings.specs.Truth.{TrueAnswer}
-use Rattle.endings.specs.GamePromise.{keyed, moveOfAnswer, Told}
-use Rattle.four_men.specs.Material.{Material, Lent}
+use Rattle.position.specs.Keyed.{keyed}
+use Rattle.endings.specs.GamePromise.{moveOfAnswer, Told}
+use Rattle.numbering.specs.declared.Material.{Material}
+use Rattle.four_men.specs.Lending.{Lent}
 use Rattle.four_men.specs.Reading.{lentFor, numbered}
 use Rattle.four_men.specs.Answers.{lookUpWith}
 
 -- the table of the ending then on the board: "a man left alone .. is looked up in its own ending's table"
 abbrev pub tableThen : Material → Lent → List ℕ → List Piece → List ℕ
-tableThen (Material.one kind) l t men = t
-tableThen (Material.two first second rivals) l t [] = t
-tableThen (Material.two first second rivals) l t (a ∷ []) = lentFor first l (a .kind)
-tableThen (Material.two first second rivals) l t (a ∷ c ∷ men) = t
+tableThen (Material.One kind) l t men = t
+tableThen (Material.Two first second rivals) l t [] = t
+tableThen (Material.Two first second rivals) l t (a ∷ []) = lentFor first l (a .kind)
+tableThen (Material.Two first second rivals) l t (a ∷ c ∷ men) = t
 
 -- look-up's answer for the board then on it
 unfoldable pub lookedUp : Material → Lent → List ℕ → Board → Answer
@@ -35,13 +37,15 @@ lookedUp m l t b = lookUpWith l (tableThen m l t (b .men)) (keyed b)
 unfoldable pub deskMoveWith : Material → Lent → List ℕ → Board → Option Move
 deskMoveWith m l t b = cond (empty (b .men)) none (moveOfAnswer (lookedUp m l t b))
 
--- What is promised of the game ms from the board b, in which `side` plays the desk's moves by the ending's table t and the lent ones.
+-- What is promised of the game ms from the board b, in which `side` plays the desk's moves by the ending's table t and
+-- the lent ones.
 pub record GamePromiseWith (m : Material) (l : Lent) (t : List ℕ) (side : Bool) (b : Board) (ms : List Move) : Type 0 where
   -- what the first position is called is look-up's answer for it, and that is its true value and depth
   pub called : TrueAnswer b (lookedUp m l t b)
   -- and that it is called so is enough
   pub told : Told (lookedUp m l t b) side b ms
-  -- no position of the game, bare kings apart, is refused at look-up: each gets its true answer, a legal move in it wherever the game is not over
+  -- no position of the game, bare kings apart, is refused at look-up: each gets its true answer, a legal move in it
+  -- wherever the game is not over
   pub answers : (i : ℕ) → i ≤ length ms → empty (atPly chess b ms i .men) ≡ false → TrueAnswer (atPly chess b ms i) (lookedUp m l t (atPly chess b ms i))
   -- bare kings end the game, drawn
   pub bare : (i : ℕ) → i ≤ length ms → atPly chess b ms i .men ≡ [] → Over chess (atPly chess b ms i) × Drawn chess (atPly chess b ms i)

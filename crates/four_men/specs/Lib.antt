@@ -1,10 +1,11 @@
-pub mod Material
+pub mod Lending
 pub mod Reading
 pub mod Same
-pub mod Refusals
 pub mod Answers
 pub mod Steps
 pub mod Numbers
 pub mod Truth
+pub mod CheckedTrue
 pub mod GamePromise
+pub mod MoveTurned
 pub mod laws

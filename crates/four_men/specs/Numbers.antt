@@ -4,8 +4,9 @@ use Prim.Native.Nat.{ℕ}
 use Rattle.position.specs.declared.Position.{Position}
 use Rattle.position.specs.Keyed.{boardOf}
 use Rattle.numbering.specs.Number.{numberOf}
-use Rattle.four_men.specs.Material.{Material, materialIn}
-use Rattle.four_men.specs.Refusals.{placingWith}
+use Rattle.numbering.specs.declared.Material.{Material}
+use Rattle.numbering.specs.Material.{materialIn}
+use Rattle.position.specs.Refusals.{placingWith}
 
 -- the position is of the ending, numbering does not refuse it, and this is its number
 pub record BearsOf (m : Material) (n : ℕ) (p : Position) : Type 0 where

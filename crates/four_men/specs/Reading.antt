@@ -1,4 +1,5 @@
--- How boards of an ending and of what its captures leave are read: through its own table and the lent ones. Definitions only.
+-- How boards of an ending and of what its captures leave are read: through its own table and the lent ones. Definitions
+-- only.
 use mathlib.Core.Path.{_≡_}
 use mathlib.Core.Bool.{Bool, true, false, cond, not, _&&_}
 use mathlib.Core.Logic.{_⊎_}
@@ -13,12 +14,14 @@ use Rattle.rules.specs.Chess.{chess}
 use Rattle.numbering.specs.Keys.{boardAt}
 use Rattle.numbering.specs.Number.{numberOf, used}
 use Rattle.endings.specs.Ending.{Lone, byteOf}
-use Rattle.four_men.specs.Material.{Material, menOf, OfMaterial, sizeOf, Lent}
+use Rattle.numbering.specs.declared.Material.{Material}
+use Rattle.numbering.specs.Material.{menOf, OfMaterial, sizeOf}
+use Rattle.four_men.specs.Lending.{Lent}
 
 -- what captures leave: bare kings, or one of two men alone
 abbrev pub Fewer : Material → Board → Type 0
-Fewer (Material.one kind) b = b .men ≡ []
-Fewer (Material.two first second rivals) b = (b .men ≡ []) ⊎ (Lone first b ⊎ Lone second b)
+Fewer (Material.One kind) b = b .men ≡ []
+Fewer (Material.Two first second rivals) b = (b .men ≡ []) ⊎ (Lone first b ⊎ Lone second b)
 
 -- the legal boards of the ending, and what its captures leave, "until bare kings"
 pub record Within (m : Material) (b : Board) : Type 0 where
@@ -27,10 +30,10 @@ pub record Within (m : Material) (b : Board) : Type 0 where
 
 -- no man of the ending has been taken
 abbrev pub full : Material → List Piece → Bool
-full (Material.one kind) men = not (empty men)
-full (Material.two first second rivals) [] = false
-full (Material.two first second rivals) (a ∷ []) = false
-full (Material.two first second rivals) (a ∷ c ∷ l) = true
+full (Material.One kind) men = not (empty men)
+full (Material.Two first second rivals) [] = false
+full (Material.Two first second rivals) (a ∷ []) = false
+full (Material.Two first second rivals) (a ∷ c ∷ l) = true
 
 -- "a man left alone counts as the first and is looked up in its own ending's table": the lent table of his kind
 abbrev pub lentFor : ℕ → Lent → ℕ → List ℕ
@@ -42,8 +45,8 @@ lentTo first l (a ∷ men) = lentFor first l (a .kind)
 
 -- the byte of what a capture leaves; bare kings are a draw and are not looked up
 abbrev pub lentByte : Material → Lent → Board → ℕ
-lentByte (Material.one kind) l b = 1
-lentByte (Material.two first second rivals) l b = byteOf (lentTo first l (b .men)) b
+lentByte (Material.One kind) l b = 1
+lentByte (Material.Two first second rivals) l b = byteOf (lentTo first l (b .men)) b
 
 -- the number is used and its position legal: its byte is not 0
 unfoldable pub legalNumberOf : Material → ℕ → Bool

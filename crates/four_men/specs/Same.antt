@@ -1,4 +1,5 @@
--- Boards that go alike: a map, the men in the other order, the colours exchanged where that is allowed (01; 02, P9 and P10). Definitions only.
+-- Boards that go alike: a map, the men in the other order, the colours exchanged where that is allowed (01; 02, P9 and
+-- P10). Definitions only.
 use mathlib.Core.Path.{_≡_}
 use mathlib.Core.Bool.{Bool, true}
 use mathlib.Core.List.{List, [], _∷_}

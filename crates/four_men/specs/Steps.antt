@@ -1,4 +1,5 @@
--- What a start and a step answer for one man and for two (02, P8 and P10), on any bytes and any progress. Definitions only.
+-- What a start and a step answer for one man and for two (02, P8 and P10), on any bytes and any progress. Definitions
+-- only.
 use mathlib.Core.Bool.{cond, not}
 use mathlib.Core.List.{List, []}
 use Prim.Native.Nat.{ℕ, zero, suc}
@@ -7,7 +8,9 @@ use lib.ListN.{length}
 use Rattle.table_theory.specs.declared.Progress.{Progress}
 use Rattle.table_theory.specs.Steps.{Stepped, started, stepFrom}
 use Rattle.rules.specs.Chess.{chess}
-use Rattle.four_men.specs.Material.{Material, known, sizeOf, Lent, borrowed}
+use Rattle.numbering.specs.declared.Material.{Material}
+use Rattle.numbering.specs.Material.{known, sizeOf}
+use Rattle.four_men.specs.Lending.{Lent, borrowed}
 use Rattle.four_men.specs.Reading.{numbered, holdsDepth}
 use Rattle.four_men.specs.Answers.{lengthsFit}
 

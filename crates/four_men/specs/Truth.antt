@@ -12,7 +12,9 @@ use Rattle.rules.specs.Chess.{chess}
 use Rattle.numbering.specs.Number.{numberOf}
 use Rattle.answers.specs.declared.Filled.{Filled}
 use Rattle.endings.specs.Answers.{Fill}
-use Rattle.four_men.specs.Material.{Material, OfMaterial, sizeOf, Lent, borrowed}
+use Rattle.numbering.specs.declared.Material.{Material}
+use Rattle.numbering.specs.Material.{OfMaterial, sizeOf}
+use Rattle.four_men.specs.Lending.{Lent, borrowed}
 use Rattle.four_men.specs.Reading.{legalNumberOf}
 
 -- Every legal position's byte is its true value and depth, and every byte of an unused number or illegal position is 0.
@@ -24,7 +26,8 @@ pub record TrueTableOf (m : Material) (t : List ℕ) : Type 0 where
 abbrev pub DecidedOf : Material → ℕ → Type 0
 DecidedOf m n = (b : Board) × T (legal b) × OfMaterial m b × DepthIs chess n b
 
--- What filling promises where 1, 7 and 17 do not refuse: "the greatest depth is the greatest that its steps have settled, or none decided".
+-- What filling promises where 1, 7 and 17 do not refuse: "the greatest depth is the greatest that its steps have
+-- settled, or none decided".
 pub data FillTrueOf (m : Material) (f : Fill) : Type 0 where
   greatest : (n : ℕ) → f .answer ≡ Filled.Greatest n → TrueTableOf m (f .bytes) → DecidedOf m n → ((k : ℕ) → DecidedOf m k → k ≤ n) → n ≤ 253 → FillTrueOf m f
   none-decided : f .answer ≡ Filled.NoneDecided → TrueTableOf m (f .bytes) → ((n : ℕ) → DecidedOf m n → ⊥) → FillTrueOf m f

@@ -5,11 +5,14 @@ pub mod Same
 pub mod Captures
 pub mod Numbered
 pub mod Lent
+pub mod Turned
 pub mod Checking
 pub mod Filling
 pub mod Steps
 pub mod Standing
 pub mod Numbers
+pub mod TurnedStanding
+pub mod MoveTurned
 pub mod LookingUp
 pub mod Games
 pub mod AloneGames

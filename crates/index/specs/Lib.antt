@@ -1,5 +1,7 @@
 pub mod Answers
 pub mod NumberLaws
 pub mod BackLaws
-pub mod Frames
+pub mod Least
+pub mod Seats
+pub mod Arranging
 pub mod laws

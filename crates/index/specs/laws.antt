@@ -2,4 +2,13 @@ pub mod AnswerLaws
 pub mod NumberLaws
 pub mod BackLaws
 pub mod Count
-pub mod FrameLaws
+pub mod LeastLaws
+pub mod NormalKey
+pub mod SeatLaws
+pub mod PlaceLaws
+pub mod CompleteLaws
+pub mod ArrangingLaws
+pub mod NormalPlaceLaws
+pub mod WithLaws
+pub mod AloneLaws
+pub mod CornerLaws

@@ -1,22 +1,26 @@
-// Looking a position up in its ending's table.
+// Looking a position up in its ending's table, of one man or of two.
 use answers::Answer;
 use answers::BestMove;
-use index::TABLE_SIZE;
-use pairs::pair_list;
+use four_men::lengths_fit;
+use four_men::material_for;
+use index::normal_place;
+use position::BAD_MAN;
 use position::INCONSISTENT;
 use position::Map;
 use position::Position;
+use position::Slot;
 use position::TABLE_LENGTH;
-use position::man_in;
-use position::standing_refusal;
+use position::standing_with;
 use rules::move_of;
 use successors::Verdict;
-use successors::byte_of;
+use successors::byte_at;
 use successors::verdict_on;
 ghost use mathlib.Core.Path.{_≡_};
 ghost use Rattle.symmetry.specs.Symmetry.{inverse};
 ghost use Rattle.position.specs.Maps.{symmetryOf};
 ghost use Rattle.endings.specs.Answers.{mappedAdvice, answerOf, lookUpOf};
+ghost use Rattle.four_men.specs.Lending.{lent};
+ghost use Rattle.four_men.specs.Answers.{lookUpWith};
 
 // What a byte that stands says of the side to move.
 fn answer(byte: u8, advice: BestMove) -> Answer
@@ -41,29 +45,36 @@ fn carried_back(via: Map, advice: BestMove) -> BestMove
     }
 }
 
-// The value, the depth and a move; or a refusal, 1 to 7 or 11. It asks the normal position, its man White's, so that one study has one move.
-pub fn look_up(table: &[u8], p: Position) -> Answer
-    ensures { λ r. ⌜ r ≡ lookUpOf (now (table .entry)) p ⌝ }
+// The value, the depth and a move, by the table of the position's own ending and the lent ones; or a refusal, 1 to 7 or
+// 11. It asks the normal position, so that one study has one move.
+pub fn look_up_with(p: Position, table: &[u8], first: &[u8], second: &[u8]) -> Answer
+    ensures { λ r. ⌜ r ≡ lookUpWith (lent (now (first .entry)) (now (second .entry))) (now (table .entry)) p ⌝ }
 {
-    let refusal = standing_refusal(p);
+    let refusal = standing_with(p);
     if refusal != 0 {
         return Answer::Refused(refusal);
     }
-    if table.len() != TABLE_SIZE {
+    let normal = normal_place(p);
+    let m = normal.men;
+    let q = normal.place;
+    if !lengths_fit(material_for(m), table, first, second) {
         return Answer::Refused(TABLE_LENGTH);
     }
-    let list = pair_list();
-    let normal = p.white_owned().normalised();
-    let n = normal.position;
-    let first = n.first;
-    let m = man_in(first);
-    let side = n.side;
-    let white = n.white_king;
-    let black = n.black_king;
-    let byte = byte_of(&list, table, side, white, m.square, black);
-    let verdict = verdict_on(&list, table, m.kind, side, white, m.square, black, byte);
+    let byte = byte_at(m, q, table);
+    let verdict = verdict_on(m, q, byte, table, first, second);
     match verdict {
         Verdict::Wrong => Answer::Refused(INCONSISTENT),
         Verdict::Right(advice) => answer(byte, carried_back(normal.via, advice)),
+    }
+}
+
+// The same for the parts that keep to three men, whose tables borrow none: two men are refused 1.
+pub fn look_up(table: &[u8], p: Position) -> Answer
+    ensures { λ r. ⌜ r ≡ lookUpOf (now (table .entry)) p ⌝ }
+{
+    let second = p.second;
+    match second {
+        Slot::Present(_) => Answer::Refused(BAD_MAN),
+        Slot::Absent => look_up_with(p, table, table, table),
     }
 }

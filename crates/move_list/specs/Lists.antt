@@ -1,4 +1,4 @@
--- The move list: 35 places by value beside the count, "and its unused places hold zero" (01). Definitions only.
+-- The move list: 62 places by value beside the count, "and its unused places hold zero" (01). Definitions only.
 use mathlib.Core.List.{List, _++_}
 use Prim.Native.Nat.{ℕ, _-_}
 use lib.ListN.{length, replicate}
@@ -6,9 +6,9 @@ use Rattle.rules.specs.declared.Move.{Move}
 use Rattle.rules.specs.Rules.{zeroMove}
 use Rattle.move_list.specs.declared.MoveList.{MoveList}
 
--- how many moves a list has room for
+-- "The move list's room rises from 35 to 62" (02, P10)
 abbrev pub room : ℕ
-room = 35
+room = 62
 
 -- the list of some moves, at most `room`: the moves, then zeros
 unfoldable pub listOf : List Move → MoveList

@@ -9,7 +9,7 @@ use board::without;
 use movegen::legal_targets;
 use position::Position;
 use position::own;
-use position::standing_refusal;
+use position::standing_with;
 ghost use mathlib.Core.Path.{_≡_};
 ghost use lib.ListN.{length};
 ghost use Rattle.rules.specs.Rules.{allMoves};
@@ -34,7 +34,7 @@ pub fn count_of(p: Position) -> u8
 pub fn legal_moves(p: Position) -> Listed
     ensures { λ r. ⌜ r ≡ listed p ⌝ }
 {
-    let refusal = standing_refusal(p);
+    let refusal = standing_with(p);
     if refusal != 0 {
         return Listed {
             refusal,
@@ -51,7 +51,7 @@ pub fn legal_moves(p: Position) -> Listed
 pub fn move_count(p: Position) -> Counted
     ensures { λ r. ⌜ Counts p r ⌝ }
 {
-    let refusal = standing_refusal(p);
+    let refusal = standing_with(p);
     if refusal != 0 {
         return Counted::Refused(refusal);
     }

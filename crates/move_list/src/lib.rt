@@ -8,8 +8,8 @@ pub use answers::count_of;
 pub use answers::legal_moves;
 pub use answers::move_count;
 
-// How many moves a list has room for.
-pub const ROOM: usize = 35;
+// How many moves a list has room for: those of two men besides the kings.
+pub const ROOM: usize = 62;
 
 // The moves, in order; the places from `count` on hold zero.
 pub struct MoveList {

@@ -48,7 +48,6 @@ fn add_moves(list: MoveList, foes: u64, from: u8, targets: u64) -> MoveList
 
 // All moves of a position, bare kings or not.
 pub fn moves_of(p: Position) -> MoveList
-    requires { ⌜ length (allMoves (boardOf p)) ≤ room ⌝ }
     ensures { λ r. ⌜ r ≡ listOf (allMoves (boardOf p)) ⌝ }
 {
     let foes = taking_set(p);

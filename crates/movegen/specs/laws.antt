@@ -2,3 +2,9 @@ pub mod Making
 pub mod Carried
 pub mod Lifted
 pub mod Targets
+pub mod Places
+pub mod Alone
+pub mod Struck
+pub mod Reach
+pub mod Opening
+pub mod Movers

@@ -64,8 +64,9 @@ fn tested(p: Position, from: u8, free: u64) -> u64
     safe
 }
 
-// The legal targets of the piece on a square. A king's are tested by one set of attacked squares, another piece's by one look at its
-// king; only a piece that may be pinned, and one that shares its square with a piece of the other side, has its moves made.
+// The legal targets of the piece on a square. A king's are tested by one set of attacked squares, another piece's by
+// one look at its king; only a piece that may be pinned, and one that shares its square with a piece of the other side,
+// has its moves made.
 pub fn legal_targets(p: Position, from: u8) -> u64
     ensures { λ r. ⌜ r ≡ setOf (canMove (boardOf p) from) ⌝ }
 {

@@ -1,5 +1,5 @@
--- A change of a board that keeps its class: one of the eight maps, the two men in the other order, the colours exchanged (01; 02, P9 and P10).
--- Definitions only.
+-- A change of a board that keeps its class: one of the eight maps, the two men in the other order, the colours
+-- exchanged (01; 02, P9 and P10). Definitions only.
 use mathlib.Core.Bool.{Bool, true, false, _&&_, xor}
 use mathlib.Core.List.{List, _++_, map}
 use Rattle.symmetry.specs.Symmetry.{Symmetry, inverse, composed, symmetries}

@@ -1,4 +1,5 @@
--- Kings as the rule for numbers wants them, and the number of their pair (01, "The number of a position"). Definitions only.
+-- Kings as the rule for numbers wants them, and the number of their pair (01, "The number of a position"). Definitions
+-- only.
 use mathlib.Core.Bool.{Bool, false, not, cond, _&&_}
 use Prim.Native.Nat.{ℕ, _+_, _*_, _/_, _%_}
 use lib.Dec.{ltb, eqb}

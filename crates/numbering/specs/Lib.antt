@@ -5,5 +5,6 @@ pub mod Keys
 pub mod Men
 pub mod Change
 pub mod Number
+pub mod Material
 pub mod Fits
 pub mod laws

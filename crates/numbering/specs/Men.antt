@@ -1,5 +1,6 @@
--- The men of a board as the rule for numbers takes them, one or two (01, "The number of a position"; 02, P9 and P10): which order of two men is
--- standard, when the colours may be exchanged, and what all boards of a class have in common. Definitions only.
+-- The men of a board as the rule for numbers takes them, one or two (01, "The number of a position"; 02, P9 and P10):
+-- which order of two men is standard, when the colours may be exchanged, and what all boards of a class have in common.
+-- Definitions only.
 use mathlib.Core.Bool.{Bool, true, false, cond, not, _&&_}
 use mathlib.Core.List.{List, [], _∷_, map}
 use Prim.Native.Nat.{min, max}
@@ -18,7 +19,8 @@ exchangeable (a ∷ []) = true
 exchangeable (a ∷ c ∷ []) = not (eqb (a .kind) (c .kind) && not (eqb (a .colour) (c .colour)))
 exchangeable (a ∷ c ∷ d ∷ l) = false
 
--- "The kind earlier in Q, R, B, N counts as first, and for one each it is White's" (P10); one man, and the first of two, is White's
+-- "The kind earlier in Q, R, B, N counts as first, and for one each it is White's" (P10); one man, and the first of
+-- two, is White's
 unfoldable pub standard : List Piece → Bool
 standard [] = true
 standard (a ∷ []) = eqb (a .colour) 0
@@ -63,6 +65,7 @@ falling (a ∷ c ∷ d ∷ l) = false
 unfoldable pub ordered : List Piece → List Piece
 ordered l = crossed (falling l && like l) l
 
--- with both kings on the diagonal the men go the other way where file and rank exchanged give lower digits; one man: where he is above it
+-- with both kings on the diagonal the men go the other way where file and rank exchanged give lower digits; one man:
+-- where he is above it
 unfoldable pub prefers : List Piece → Bool
 prefers l = ltb (keyFrom 0 (ordered (map (changedPiece exchange false) l))) (keyFrom 0 (ordered l))

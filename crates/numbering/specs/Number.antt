@@ -1,4 +1,5 @@
--- The normal board of a class and the number of a board, with one man or two (01, "The number of a position"; 02, P9 and P10). Definitions only.
+-- The normal board of a class and the number of a board, with one man or two (01, "The number of a position"; 02, P9
+-- and P10). Definitions only.
 use mathlib.Core.Bool.{Bool, false, _&&_}
 use mathlib.Core.List.{map}
 use Prim.Native.Nat.{ℕ, _*_}
@@ -43,8 +44,8 @@ numberOf b = keyOf (normalised b)
 abbrev pub ruled : Board → Bool
 ruled b = kingRule (b .white) (b .black) && standard (b .men)
 
--- "Normalise to the smallest number that any king-rule map, or an exchange of like men, or both, can give" (P10); where there is none, the count of
--- all numbers of the material
+-- "Normalise to the smallest number that any king-rule map, or an exchange of like men, or both, can give" (P10); where
+-- there is none, the count of all numbers of the material
 unfoldable pub leastKey : Board → ℕ
 leastKey b = least changedBy ruled keyOf (924 * spread (materialOf (b .men))) changes b
 

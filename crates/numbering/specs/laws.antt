@@ -10,4 +10,5 @@ pub mod OrderLaws
 pub mod ClassLaws
 pub mod AtLaws
 pub mod LoneLaws
+pub mod MirrorLaws
 pub mod FitLaws

@@ -1,0 +1,6 @@
+// The material of an ending: one man, by his kind; or two, by the first's kind and the second's, and whether they are
+// one each.
+pub enum Material {
+    One(u8),
+    Two(u8, u8, bool),
+}

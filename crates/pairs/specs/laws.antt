@@ -1,2 +1,3 @@
 pub mod TableLaws
 pub mod PairRule
+pub mod PackedKings

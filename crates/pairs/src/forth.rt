@@ -2,9 +2,10 @@
 use super::PairList;
 use super::packed::four_pairs;
 ghost use mathlib.Core.Path.{_≡_};
-ghost use Prim.Native.Nat.{_<_};
+ghost use Prim.Native.Nat.{_/_, _%_, _<_};
+ghost use lib.Dec.{T};
 ghost use lib.ListN.{getD};
-ghost use Rattle.numbering.specs.Kings.{pairOf};
+ghost use Rattle.numbering.specs.Kings.{inTriangle, pairOf};
 ghost use Rattle.pairs.specs.Tables.{slotOf, pairs, pairIn};
 
 // The pair for each of the ten white squares and 64 black squares; 65535: there is none.
@@ -707,4 +708,18 @@ pub fn pair_of(white: u8, black: u8) -> u16
         return 65535;
     }
     pair_at(slot as u16 * 64 + black as u16)
+}
+
+// The pair of kings packed as white king's square x 64 + black king's, the white king in the triangle a1-d1-d4, where each rank has one square fewer
+// than the one below.
+pub fn pair_by(kings: u16) -> u16
+    ensures { λ r. ⌜ (kings < 4096 → T (inTriangle (kings / 64)) → r ≡ pairOf (kings / 64) (kings % 64)) ⌝ }
+{
+    let k = kings % 4096;
+    let rank = k / 64 / 8;
+    let i = k - rank * (rank + 9) * 32;
+    if 640 <= i {
+        return 65535;
+    }
+    pair_at(i)
 }

@@ -4,6 +4,7 @@ mod forth;
 mod packed;
 
 pub use back::kings_of;
+pub use forth::pair_by;
 pub use forth::pair_in;
 pub use forth::pair_list;
 pub use forth::pair_of;

@@ -9,7 +9,7 @@ use Rattle.position.specs.declared.Slot.{Slot}
 use Rattle.position.specs.declared.Slot.the-variants.{Absent, Present}
 use Rattle.position.specs.declared.Position.{Position}
 use Rattle.position.specs.Keyed.{boardOf}
-use Rattle.position.specs.Refusals.{standingRefusal}
+use Rattle.position.specs.Refusals.{standingWith}
 use Rattle.movegen.specs.After.{after}
 use Rattle.playing.specs.declared.Played.{Played}
 use Rattle.playing.specs.declared.Played.the-variants.{At, NotLegal, Refused}
@@ -36,12 +36,12 @@ closedUp p = record {
 -- move" (01, "Games"), where the position is not refused and the move is legal in it
 unfoldable pub playOf : Position → ℕ → ℕ → Played
 playOf p from to =
-    cond (eqb (standingRefusal p) 0) (cond (canMove (boardOf p) from to) (At (closedUp (after p from to))) NotLegal)
-    (Refused (standingRefusal p))
+    cond (eqb (standingWith p) 0) (cond (canMove (boardOf p) from to) (At (closedUp (after p from to))) NotLegal)
+    (Refused (standingWith p))
 
 -- what is promised where the position q is given
 pub record Plays (p : Position) (from to : ℕ) (q : Position) : Type 0 where
-  pub stood : standingRefusal p ≡ 0
+  pub stood : standingWith p ≡ 0
   -- the move is in the list
   pub listed : moveOn (boardOf p) from to ∈ moves (boardOf p)
   -- its board is the one that the rules leave, which is legal, bare kings too

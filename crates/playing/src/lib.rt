@@ -4,7 +4,7 @@ use movegen::legal_targets;
 use movegen::make;
 use position::Position;
 use position::Slot;
-use position::standing_refusal;
+use position::standing_with;
 ghost use mathlib.Core.Path.{_≡_};
 ghost use Rattle.playing.specs.Playing.{closedUp, playOf};
 
@@ -36,7 +36,7 @@ fn closed_up(p: Position) -> Position
 pub fn play(p: Position, from: u8, to: u8) -> Played
     ensures { λ r. ⌜ r ≡ playOf p from to ⌝ }
 {
-    let refusal = standing_refusal(p);
+    let refusal = standing_with(p);
     if refusal != 0 {
         return Played::Refused(refusal);
     }

@@ -64,7 +64,8 @@ fn pair_of(white: u8, black: u8) -> u16
     (first + below) as u16
 }
 
-// As `index::number_of`.
+// The number of a position that meets no refusal. On any bytes it is the key of the normal position with the first
+// man White's, with 65535 for kings that form no pair.
 pub fn number_by_rows(p: Position) -> u32
     ensures { λ r. ⌜ r ≡ keyOf (boardOf (normalPosition (whiteOwned p))) ⌝ }
 {

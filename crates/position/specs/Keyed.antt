@@ -47,3 +47,15 @@ colourOf p = manIn (p .first) .colour
 
 abbrev pub manSquare : Position → ℕ
 manSquare p = manIn (p .first) .square
+
+-- a board keyed, its first two men in the slots
+abbrev pub slotOf : List Piece → Slot
+slotOf [] = Absent
+slotOf (m ∷ ms) = Present m
+
+abbrev pub others : List Piece → List Piece
+others [] = []
+others (m ∷ ms) = ms
+
+abbrev pub keyed : Board → Position
+keyed b = record { side = b .side; «white_king» = b .white; «black_king» = b .black; first = slotOf (b .men); second = slotOf (others (b .men)) }

@@ -1,4 +1,5 @@
--- A position under one of the board's eight maps: "A map is a change of a position into a position" (01). Definitions only.
+-- A position under one of the board's eight maps: "A map is a change of a position into a position" (01). Definitions
+-- only.
 use mathlib.Core.Bool.{Bool, true, false}
 use Rattle.symmetry.specs.Symmetry.{Symmetry, mapped}
 use Rattle.rules.specs.Rules.{pieceOf}

@@ -1,4 +1,5 @@
--- A position with its man White's: "With one black man the desk exchanges the colours and the side to move" (02, P9). Definitions only.
+-- A position with its man White's: "With one black man the desk exchanges the colours and the side to move" (02, P9).
+-- Definitions only.
 use mathlib.Core.Bool.{Bool, cond}
 use lib.Dec.{eqb}
 use Rattle.rules.specs.Rules.{pieceOf}

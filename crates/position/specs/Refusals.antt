@@ -1,4 +1,5 @@
--- The refusals of a position as keyed (01, "When the desk says no"), each by itself, and their chains. Definitions only.
+-- The refusals of a position as keyed (01, "When the desk says no"), each by itself, and their chains. Definitions
+-- only.
 use mathlib.Core.Bool.{Bool, true, false, cond, not, _||_}
 use Prim.Native.Nat.{ℕ, _-_}
 use lib.Dec.{leb, ltb, eqb}
@@ -9,7 +10,8 @@ use Rattle.position.specs.declared.Slot.the-variants.{Absent, Present}
 use Rattle.position.specs.declared.Position.{Position}
 use Rattle.position.specs.Keyed.{boardOf}
 
--- 1: "material code above 3"; "no man at all, or an absent one before a present one"; "Two men .. until they have a table" (02, P9)
+-- 1: "material code above 3"; "no man at all, or an absent one before a present one"; "Two men .. until they have a
+-- table" (02, P9)
 abbrev pub badMen : Slot → Slot → Bool
 badMen Absent second = true
 badMen (Present m) (Present n) = true
@@ -38,13 +40,21 @@ kingsTouch p = touching (boardOf p)
 abbrev pub otherInCheck : Position → Bool
 otherInCheck p = inCheck (boardOf p) (1 - p .side)
 
+-- 2 to 5, whatever the men: the lowest that applies, 0 where none does
+abbrev pub laterRefusal : Position → ℕ
+laterRefusal p = cond (badSide p) 2 (cond (badSquare p) 3 (cond (sharedSquare p) 4 (cond (kingsTouch p) 5 0)))
+
 -- 1 to 5, which numbering asks: the lowest that applies, 0 where none does
 unfoldable pub placingRefusal : Position → ℕ
-placingRefusal p = cond (badMan p) 1 (cond (badSide p) 2 (cond (badSquare p) 3 (cond (sharedSquare p) 4 (cond (kingsTouch p) 5 0))))
+placingRefusal p = cond (badMan p) 1 (laterRefusal p)
+
+-- a refusal from 1 to 5, or else 6
+abbrev pub orInCheck : Position → ℕ → ℕ
+orInCheck p refusal = cond (eqb refusal 0) (cond (otherInCheck p) 6 0) refusal
 
 -- 1 to 6, which the move list and look-up ask
 unfoldable pub standingRefusal : Position → ℕ
-standingRefusal p = cond (eqb (placingRefusal p) 0) (cond (otherInCheck p) 6 0) (placingRefusal p)
+standingRefusal p = orInCheck p (placingRefusal p)
 
 -- ---- slot by slot, as code asks them
 
@@ -67,3 +77,19 @@ slotOn s (Present m) = eqb s (m .square)
 abbrev pub slotsShare : Slot → Slot → Bool
 slotsShare Absent k = false
 slotsShare (Present m) k = slotOn (m .square) k
+
+-- ---- of one man or of two (02, P10): as of one man, but that two men have a table
+
+-- 1: no man at all, an absent one before a present one, or a kind above 3
+abbrev pub badMenOf : Slot → Slot → Bool
+badMenOf Absent second = true
+badMenOf (Present m) Absent = leb 4 (m .kind)
+badMenOf (Present m) (Present n) = leb 4 (m .kind) || leb 4 (n .kind)
+
+-- 1 to 5: the lowest that applies, 0 where none does
+unfoldable pub placingWith : Position → ℕ
+placingWith p = cond (badMenOf (p .first) (p .second)) 1 (laterRefusal p)
+
+-- 1 to 6
+unfoldable pub standingWith : Position → ℕ
+standingWith p = orInCheck p (placingWith p)

@@ -6,3 +6,5 @@ pub mod MapLaws
 pub mod PlacedLaws
 pub mod OwnerLaws
 pub mod ChangedRefusals
+pub mod PosedLaws
+pub mod BothSizes

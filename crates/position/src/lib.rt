@@ -8,6 +8,7 @@ mod attack;
 mod maps;
 mod occupancy;
 mod owners;
+mod places;
 mod refusals;
 
 pub use attack::attack_set;
@@ -18,8 +19,11 @@ pub use maps::transposed;
 pub use occupancy::occupied;
 pub use occupancy::own;
 pub use occupancy::pieces_of;
+pub use places::posed;
 pub use refusals::placing_refusal;
+pub use refusals::placing_with;
 pub use refusals::standing_refusal;
+pub use refusals::standing_with;
 
 // The numbers of the refusals.
 pub const BAD_MAN: u8 = 1;
@@ -67,6 +71,23 @@ pub struct Position {
     pub black_king: u8,
     pub first: Slot,
     pub second: Slot,
+}
+
+// The men of an ending, fixed for a table: the first's kind, who is White's; the second's kind, 4 where there is none,
+// and colour.
+pub struct Men {
+    pub first: u8,
+    pub second: u8,
+    pub colour: u8,
+}
+
+// Where an ending's pieces stand: five bytes, 64 for a man who has been taken or is not there.
+pub struct Place {
+    pub side: u8,
+    pub white: u8,
+    pub black: u8,
+    pub first: u8,
+    pub second: u8,
 }
 
 // One of the board's eight maps: the files reversed, the ranks reversed, then file and rank exchanged, each or not.

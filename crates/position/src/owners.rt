@@ -46,7 +46,8 @@ impl Position {
         }
     }
 
-    // The position of the same class with the first man White's. Every square stays, so a move is the same on both boards.
+    // The position of the same class with the first man White's. Every square stays, so a move is the same on both
+    // boards.
     pub fn white_owned(self) -> Position
         ensures { λ r. ⌜ r ≡ whiteOwned self ⌝ }
     {

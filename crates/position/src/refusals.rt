@@ -12,7 +12,7 @@ use super::other;
 use board::has;
 use board::targets;
 ghost use mathlib.Core.Path.{_≡_};
-ghost use Rattle.position.specs.Refusals.{badMen, badSide, badSquare, sharedSquare, slotForeign, slotOff, slotOn, slotsShare, placingRefusal, standingRefusal};
+ghost use Rattle.position.specs.Refusals.{badMen, badSide, badSquare, sharedSquare, slotForeign, slotOff, slotOn, slotsShare, laterRefusal, placingRefusal, orInCheck, standingRefusal, badMenOf, placingWith, standingWith};
 
 // Whether the men are none that have a table.
 fn bad_men(first: Slot, second: Slot) -> bool
@@ -23,6 +23,19 @@ fn bad_men(first: Slot, second: Slot) -> bool
         Slot::Present(m) => match second {
             Slot::Absent => 4 <= m.kind,
             Slot::Present(_) => true,
+        },
+    }
+}
+
+// The same, where two men may have one.
+fn bad_men_of(first: Slot, second: Slot) -> bool
+    ensures { λ r. ⌜ r ≡ badMenOf first second ⌝ }
+{
+    match first {
+        Slot::Absent => true,
+        Slot::Present(m) => match second {
+            Slot::Absent => 4 <= m.kind,
+            Slot::Present(n) => (4 <= m.kind) | (4 <= n.kind),
         },
     }
 }
@@ -98,15 +111,10 @@ fn shared_square(p: Position) -> bool
             | ((is_on(black, first) | is_on(black, second)) | men_share(first, second)))
 }
 
-// Refusals 1 to 5, the lowest that applies; 0 where none does.
-pub fn placing_refusal(p: Position) -> u8
-    ensures { λ r. ⌜ r ≡ placingRefusal p ⌝ }
+// Refusals 2 to 5, the lowest that applies; 0 where none does.
+fn later_refusal(p: Position) -> u8
+    ensures { λ r. ⌜ r ≡ laterRefusal p ⌝ }
 {
-    let first = p.first;
-    let second = p.second;
-    if bad_men(first, second) {
-        return BAD_MAN;
-    }
     if bad_side(p) {
         return BAD_SIDE;
     }
@@ -122,11 +130,34 @@ pub fn placing_refusal(p: Position) -> u8
     0
 }
 
-// Refusals 1 to 6, the lowest that applies; 0 where none does.
-pub fn standing_refusal(p: Position) -> u8
-    ensures { λ r. ⌜ r ≡ standingRefusal p ⌝ }
+// Refusals 1 to 5, the lowest that applies; 0 where none does. Two men are refused.
+pub fn placing_refusal(p: Position) -> u8
+    ensures { λ r. ⌜ r ≡ placingRefusal p ⌝ }
 {
-    let refusal = placing_refusal(p);
+    let first = p.first;
+    let second = p.second;
+    if bad_men(first, second) {
+        return BAD_MAN;
+    }
+    later_refusal(p)
+}
+
+// The same for one man and for two.
+pub fn placing_with(p: Position) -> u8
+    ensures { λ r. ⌜ r ≡ placingWith p ⌝ }
+{
+    let first = p.first;
+    let second = p.second;
+    if bad_men_of(first, second) {
+        return BAD_MAN;
+    }
+    later_refusal(p)
+}
+
+// A refusal from 1 to 5, or else 6 where it applies.
+fn or_in_check(p: Position, refusal: u8) -> u8
+    ensures { λ r. ⌜ r ≡ orInCheck p refusal ⌝ }
+{
     if refusal != 0 {
         return refusal;
     }
@@ -134,4 +165,18 @@ pub fn standing_refusal(p: Position) -> u8
         return OTHER_IN_CHECK;
     }
     0
+}
+
+// Refusals 1 to 6, the lowest that applies; 0 where none does. Two men are refused.
+pub fn standing_refusal(p: Position) -> u8
+    ensures { λ r. ⌜ r ≡ standingRefusal p ⌝ }
+{
+    or_in_check(p, placing_refusal(p))
+}
+
+// The same for one man and for two.
+pub fn standing_with(p: Position) -> u8
+    ensures { λ r. ⌜ r ≡ standingWith p ⌝ }
+{
+    or_in_check(p, placing_with(p))
 }

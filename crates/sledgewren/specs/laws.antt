@@ -6,3 +6,4 @@ pub mod SetLaws
 pub mod TypedReadingLaws
 pub mod OtherLengths
 pub mod StepWordLaws
+pub mod TableLaws

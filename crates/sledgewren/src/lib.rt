@@ -1,5 +1,5 @@
-// The library's functions for C (include/sledgewren.h): each answer as one word. In all of them values come first, then
-// the lent bytes that are only read, then those that are written to.
+// The library's functions for C (include/sledgewren.h): each answer as one word. In all of them values come first,
+// then the lent bytes that are only read, then those that are written to.
 mod desk;
 mod lists;
 mod numbers;
@@ -16,8 +16,10 @@ mod version;
 pub use desk::sledgewren_answer_line;
 pub use lists::sledgewren_moves;
 pub use numbers::sledgewren_count;
+pub use numbers::sledgewren_ending;
 pub use numbers::sledgewren_number;
 pub use numbers::sledgewren_position;
+pub use numbers::sledgewren_table_bytes;
 pub use opinions::sledgewren_second_opinion;
 pub use plays::sledgewren_play;
 pub use pockets::sledgewren_pack;

@@ -2,13 +2,16 @@
 use answers::Filled;
 use filling::Step;
 use filling::Stepped;
-use filling::start_filling;
-use filling::take_step;
+use filling::start_with;
+use filling::step_with;
 use table_theory::Progress;
+use words::material_read;
 ghost use mathlib.Core.Path.{_≡_};
 ghost use Prim.Native.Nat.{_^_, _<_, _≤_};
-ghost use Rattle.filling.specs.Steps.{startOf, stepOf, settledOf};
-ghost use Rattle.sledgewren.specs.StepWord.{progressOf, progressWord, endWord, saidWord, stepWord};
+ghost use Rattle.four_men.specs.Lending.{lent};
+ghost use Rattle.filling.specs.Steps.{settledOf};
+ghost use Rattle.words.specs.Endings.{materialRead};
+ghost use Rattle.sledgewren.specs.StepWord.{progressOf, progressWord, endWord, saidWord, stepWord, startFor, stepFor};
 
 fn progress_of(word: u32) -> Progress
     ensures { λ r. ⌜ r ≡ progressOf word ⌝ }
@@ -37,7 +40,7 @@ fn end_word(f: Filled) -> u64
 }
 
 fn said_word(s: Stepped) -> u64
-    requires { ⌜ settledOf s ≤ 59136 ⌝ }
+    requires { ⌜ settledOf s ≤ 3784704 ⌝ }
     ensures { λ r. ⌜ (r ≡ saidWord s) × (r < 2 ^ 32) ⌝ }
 {
     match s {
@@ -47,7 +50,7 @@ fn said_word(s: Stepped) -> u64
 }
 
 fn step_word(s: Step) -> u64
-    requires { ⌜ settledOf (s .said) ≤ 59136 ⌝ }
+    requires { ⌜ settledOf (s .said) ≤ 3784704 ⌝ }
     ensures { λ r. ⌜ r ≡ stepWord s ⌝ }
 {
     let said = s.said;
@@ -57,19 +60,28 @@ fn step_word(s: Step) -> u64
 
 // Refusals 1 and 7 leave the table as it was.
 #[no_mangle]
-pub extern "C" fn sledgewren_fill_start(kind: u8, table: &mut [u8]) -> u64
-    ensures { λ r. ⌜ (r ≡ stepWord (startOf kind (now (table .entry)) .step)) × (now (table .exit) ≡ startOf kind (now (table .entry)) .bytes) ⌝ }
+pub extern "C" fn sledgewren_fill_start(ending: u32, table: &mut [u8]) -> u64
+    ensures { λ r. ⌜ (r ≡ stepWord (startFor (materialRead ending) (now (table .entry)) .step)) × (now (table .exit) ≡ startFor (materialRead ending) (now (table .entry)) .bytes) ⌝ }
 {
-    let s = start_filling(kind, &mut *table);
+    let m = material_read(ending);
+    let s = start_with(m, &mut *table);
     step_word(s)
 }
 
-// Refusals 1 and 7 leave the table and the progress as they were, 10 leaves the table all zero.
+// The small tables' bytes are read as they stand, accepted or not. Refusals 1 and 7 leave the table and the progress
+// as they were, 10 leaves the table all zero.
 #[no_mangle]
-pub extern "C" fn sledgewren_fill_step(kind: u8, progress: u32, table: &mut [u8]) -> u64
-    ensures { λ r. ⌜ (r ≡ stepWord (stepOf kind (now (table .entry)) (progressOf progress) .step)) × (now (table .exit) ≡ stepOf kind (now (table .entry)) (progressOf progress) .bytes) ⌝ }
+pub extern "C" fn sledgewren_fill_step(
+    ending: u32,
+    progress: u32,
+    small_first: &[u8],
+    small_second: &[u8],
+    table: &mut [u8],
+) -> u64
+    ensures { λ r. ⌜ (r ≡ stepWord (stepFor (materialRead ending) (progressOf progress) (lent (now («small_first» .entry)) (now («small_second» .entry))) (now (table .entry)) .step)) × (now (table .exit) ≡ stepFor (materialRead ending) (progressOf progress) (lent (now («small_first» .entry)) (now («small_second» .entry))) (now (table .entry)) .bytes) ⌝ }
 {
+    let m = material_read(ending);
     let p = progress_of(progress);
-    let s = take_step(kind, &mut *table, p);
+    let s = step_with(m, p, small_first, small_second, &mut *table);
     step_word(s)
 }

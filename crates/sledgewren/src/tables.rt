@@ -1,31 +1,47 @@
-// Filling a table, checking one, and looking a position up.
-use checking::check;
-use fifty::look_up_at;
-use filling::fill;
+// Filling a table, checking one, and looking a position up, with one man or two. The small tables are those of the
+// first man's kind and of the second's; with one man they are not read.
+use checking::check_with;
+use fifty::look_up_at_with;
+use filling::fill_with;
 use words::checked_word;
 use words::filled_word;
 use words::marked_word;
+use words::material_read;
 use words::position_read;
 ghost use mathlib.Core.Path.{_≡_};
-ghost use Rattle.endings.specs.Answers.{fillOf, checkOf};
-ghost use Rattle.fifty.specs.Marks.{lookUpAt};
+ghost use Rattle.four_men.specs.Lending.{lent};
+ghost use Rattle.four_men.specs.Answers.{fillWith, checkWith};
+ghost use Rattle.fifty.specs.Marks.{lookUpAtWith};
 ghost use Rattle.words.specs.Men.{positionRead};
+ghost use Rattle.words.specs.Endings.{materialRead};
 ghost use Rattle.sledgewren.specs.Words.{filledWord, checkedWord, markedWord};
 
-// Refusals 1 and 7 leave the table as it was, 10 all zero.
+// Refusals 1, 7 and 17 leave the table as it was, 10 all zero.
 #[no_mangle]
-pub extern "C" fn sledgewren_fill(kind: u8, table: &mut [u8]) -> u32
-    ensures { λ r. ⌜ (r ≡ filledWord (fillOf kind (now (table .entry)) .answer)) × (now (table .exit) ≡ fillOf kind (now (table .entry)) .bytes) ⌝ }
+pub extern "C" fn sledgewren_fill(
+    ending: u32,
+    small_first: &[u8],
+    small_second: &[u8],
+    table: &mut [u8],
+) -> u32
+    ensures { λ r. ⌜ (r ≡ filledWord (fillWith (materialRead ending) (lent (now («small_first» .entry)) (now («small_second» .entry))) (now (table .entry)) .answer)) × (now (table .exit) ≡ fillWith (materialRead ending) (lent (now («small_first» .entry)) (now («small_second» .entry))) (now (table .entry)) .bytes) ⌝ }
 {
-    filled_word(fill(kind, &mut *table))
+    let m = material_read(ending);
+    filled_word(fill_with(m, small_first, small_second, &mut *table))
 }
 
-// Refusals 1 and 7.
+// Refusals 1, 7 and 17.
 #[no_mangle]
-pub extern "C" fn sledgewren_check(kind: u8, table: &[u8]) -> u64
-    ensures { λ r. ⌜ r ≡ checkedWord (checkOf kind (now (table .entry))) ⌝ }
+pub extern "C" fn sledgewren_check(
+    ending: u32,
+    small_first: &[u8],
+    small_second: &[u8],
+    table: &[u8],
+) -> u64
+    ensures { λ r. ⌜ r ≡ checkedWord (checkWith (materialRead ending) (lent (now («small_first» .entry)) (now («small_second» .entry))) (now (table .entry))) ⌝ }
 {
-    checked_word(check(kind, table))
+    let m = material_read(ending);
+    checked_word(check_with(m, table, small_first, small_second))
 }
 
 // Refusals 1 to 7, 11 and 19.
@@ -37,10 +53,12 @@ pub extern "C" fn sledgewren_look_up(
     first: u32,
     second: u32,
     plies: u32,
+    small_first: &[u8],
+    small_second: &[u8],
     table: &[u8],
 ) -> u64
-    ensures { λ r. ⌜ r ≡ markedWord (lookUpAt (now (table .entry)) plies (positionRead side white black first second)) ⌝ }
+    ensures { λ r. ⌜ r ≡ markedWord (lookUpAtWith (lent (now («small_first» .entry)) (now («small_second» .entry))) (now (table .entry)) plies (positionRead side white black first second)) ⌝ }
 {
     let p = position_read(side, white, black, first, second);
-    marked_word(look_up_at(table, p, plies))
+    marked_word(look_up_at_with(p, plies, table, small_first, small_second))
 }

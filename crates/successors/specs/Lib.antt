@@ -1,2 +1,3 @@
+pub mod Framing
 pub mod Successors
 pub mod laws

@@ -1,4 +1,9 @@
-pub mod NumberLaws
+pub mod PlaceLaws
+pub mod FramingLaws
 pub mod ByteLaws
+pub mod SiftLaws
 pub mod JudgeLaws
+pub mod ChoiceLaws
 pub mod VerdictLaws
+pub mod PlaceVerdicts
+pub mod NumberLaws

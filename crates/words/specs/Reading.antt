@@ -1,21 +1,26 @@
--- What a host reads from the word of each answer, by the bit ranges of include/sledgewren.h, and which answers a word has room for. Definitions only.
+-- What a host reads from the word of each answer, by the bit ranges of include/sledgewren.h, and which answers a word
+-- has room for. Definitions only.
 use mathlib.Core.Path.{_≡_}
 use mathlib.Core.Bool.{Bool, cond}
 use mathlib.Core.List.{List}
 use Prim.Native.Nat.{ℕ, _/_, _%_, _^_, _≤_, _<_}
 use lib.Dec.{eqb}
 use lib.ListN.{getD}
-use Rattle.rules.specs.Rules.{moveOf}
+use Rattle.rules.specs.Rules.{pieceOf, moveOf}
 use Rattle.answers.specs.declared.BestMove.{BestMove}
 use Rattle.answers.specs.declared.Answer.{Answer}
 use Rattle.answers.specs.declared.Checked.{Checked}
 use Rattle.answers.specs.declared.Filled.{Filled}
 use Rattle.fifty.specs.declared.Marked.{Marked}
+use Rattle.numbering.specs.declared.Material.{Material}
+use Rattle.position.specs.declared.Slot.the-variants.{Present}
 use Rattle.position.specs.declared.Position.{Position}
 use Rattle.position.specs.Keyed.{lone, manSquare}
 use Rattle.index.specs.declared.NumberAnswer.{NumberAnswer}
 use Rattle.index.specs.declared.Placed.{Placed}
 use Rattle.move_list.specs.declared.Counted.{Counted}
+use Rattle.four_men.specs.Lending.{Lent}
+use Rattle.words.specs.Words.{secondSquare}
 
 -- the bits of a word from the first on, as many as the width
 abbrev pub bits : ℕ → ℕ → ℕ → ℕ
@@ -31,9 +36,24 @@ unlessRefused answer refused word = cond (eqb (bits 0 8 word) 0) answer (refused
 abbrev pub numberRead : ℕ → NumberAnswer
 numberRead word = cond (eqb (bits 31 1 word) 1) (NumberAnswer.Refused (bits 0 8 word)) (NumberAnswer.Number (bits 0 31 word))
 
--- "bits 0-7 refusal, 8-15 side, 16-23 white king, 24-31 man's square, 32-39 black king"; the man is the caller's
-abbrev pub placedRead : ℕ → ℕ → Placed
-placedRead kind word = unlessRefused (Placed.At (lone kind (bits 8 8 word) (bits 16 8 word) (bits 24 8 word) (bits 32 8 word))) Placed.Refused word
+-- the men of an ending on these squares: the side to move, the white king's square, the first man's, the black
+-- king's, the second man's
+abbrev pub seated : Material → ℕ → ℕ → ℕ → ℕ → ℕ → Position
+seated (Material.One kind) side white first black second = lone kind side white first black
+seated (Material.Two j k rivals) side white first black second = record {
+  side = side;
+  «white_king» = white;
+  «black_king» = black;
+  first = Present (pieceOf j 0 first);
+  second = Present (pieceOf k (cond rivals 1 0) second);
+}
+
+-- "bits 0-7 refusal, 8-15 side, 16-23 white king, 24-31 the first man's square, 32-39 black king, 40-47 the second
+-- man's"; the ending is the caller's
+abbrev pub placedRead : Material → ℕ → Placed
+placedRead m word =
+    unlessRefused (Placed.At (seated m (bits 8 8 word) (bits 16 8 word) (bits 24 8 word) (bits 32 8 word) (bits 40 8 word)))
+    Placed.Refused word
 
 -- "bits 0-7 refusal, 8-15 count"
 abbrev pub countRead : ℕ → Counted
@@ -78,21 +98,25 @@ abbrev pub NumberFits : NumberAnswer → Type 0
 NumberFits (NumberAnswer.Number n) = n < 2 ^ 31
 NumberFits (NumberAnswer.Refused k) = RefusalFits k
 
--- every byte of a lent table
+-- every byte of a lent table; of both small ones
 abbrev pub TableBytes : List ℕ → Type 0
 TableBytes t = (n : ℕ) → Byte (getD t n 0)
 
--- a position with the caller's man alone
-pub record PositionFits (kind : ℕ) (p : Position) : Type 0 where
-  pub own : p ≡ lone kind (p .side) (p .«white_king») (manSquare p) (p .«black_king»)
+abbrev pub SmallBytes : Lent → Type 0
+SmallBytes l = TableBytes (l .first) × TableBytes (l .second)
+
+-- a position with the men of the caller's ending
+pub record PositionFits (m : Material) (p : Position) : Type 0 where
+  pub own : p ≡ seated m (p .side) (p .«white_king») (manSquare p) (p .«black_king») (secondSquare p)
   pub side : Byte (p .side)
   pub white : Byte (p .«white_king»)
   pub square : Byte (manSquare p)
   pub black : Byte (p .«black_king»)
+  pub second : Byte (secondSquare p)
 
-abbrev pub PlacedFits : ℕ → Placed → Type 0
-PlacedFits kind (Placed.At p) = PositionFits kind p
-PlacedFits kind (Placed.Refused k) = RefusalFits k
+abbrev pub PlacedFits : Material → Placed → Type 0
+PlacedFits m (Placed.At p) = PositionFits m p
+PlacedFits m (Placed.Refused k) = RefusalFits k
 
 abbrev pub CountFits : Counted → Type 0
 CountFits (Counted.Count n) = Byte n

@@ -7,7 +7,8 @@ use Rattle.answers.specs.declared.Answer.{Answer}
 use Rattle.answers.specs.declared.Checked.{Checked}
 use Rattle.answers.specs.declared.Filled.{Filled}
 use Rattle.fifty.specs.declared.Marked.{Marked}
-use Rattle.position.specs.Keyed.{manSquare}
+use Rattle.position.specs.declared.Position.{Position}
+use Rattle.position.specs.Keyed.{manIn, manSquare}
 use Rattle.index.specs.declared.NumberAnswer.{NumberAnswer}
 use Rattle.index.specs.declared.Placed.{Placed}
 use Rattle.move_list.specs.declared.Counted.{Counted}
@@ -17,9 +18,14 @@ abbrev pub numberWord : NumberAnswer → ℕ
 numberWord (NumberAnswer.Number n) = n
 numberWord (NumberAnswer.Refused k) = 2 ^ 31 + k
 
--- bits 0-7 refusal, 8-15 side, 16-23 white king, 24-31 man's square, 32-39 black king
+-- the second man's square, 64 where there is none
+abbrev pub secondSquare : Position → ℕ
+secondSquare p = manIn (p .second) .square
+
+-- bits 0-7 refusal, 8-15 side, 16-23 white king, 24-31 the first man's square, 32-39 black king, 40-47 the second
+-- man's square
 abbrev pub placedWord : Placed → ℕ
-placedWord (Placed.At p) = p .side * 2 ^ 8 + p .«white_king» * 2 ^ 16 + manSquare p * 2 ^ 24 + p .«black_king» * 2 ^ 32
+placedWord (Placed.At p) = p .side * 2 ^ 8 + p .«white_king» * 2 ^ 16 + manSquare p * 2 ^ 24 + p .«black_king» * 2 ^ 32 + secondSquare p * 2 ^ 40
 placedWord (Placed.Refused k) = k
 
 -- bits 0-7 refusal, 8-15 count

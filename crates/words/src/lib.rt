@@ -1,4 +1,5 @@
-// The word of each answer, and the words that a position is given in (include/sledgewren.h).
+// The word of each answer, and the words that a position and an ending are given in (include/sledgewren.h).
+mod ending_words;
 mod men;
 mod played;
 mod version;
@@ -7,6 +8,9 @@ use answers::Answer;
 use answers::BestMove;
 use answers::Checked;
 use answers::Filled;
+pub use ending_words::ending_of;
+pub use ending_words::material_read;
+pub use ending_words::table_bytes;
 use fifty::Marked;
 use index::NumberAnswer;
 use index::Placed;
@@ -42,12 +46,15 @@ pub fn placed_word(p: Placed) -> u64
 fn position_word(p: Position) -> u64
     ensures { λ r. ⌜ r ≡ placedWord (Placed.At p) ⌝ }
 {
-    let first = p.first;
-    let man = man_in(first);
+    let one = p.first;
+    let two = p.second;
+    let first = man_in(one);
+    let second = man_in(two);
     p.side as u64 * 0x100
         + p.white_king as u64 * 0x1_0000
-        + man.square as u64 * 0x100_0000
+        + first.square as u64 * 0x100_0000
         + p.black_king as u64 * 0x1_0000_0000
+        + second.square as u64 * 0x100_0000_0000
 }
 
 pub fn count_word(n: Counted) -> u32

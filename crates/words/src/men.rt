@@ -7,7 +7,7 @@ ghost use Prim.Native.Nat.{_^_, _<_};
 ghost use Rattle.words.specs.Men.{manRead, positionRead, shortMan};
 
 // The man of a word; none where its highest byte is 0.
-fn man_read(word: u32) -> Slot
+pub fn man_read(word: u32) -> Slot
     ensures { λ r. ⌜ r ≡ manRead word ⌝ }
 {
     if word / 0x100_0000 % 0x100 == 0 {

@@ -7,7 +7,8 @@ use std::process::ExitCode;
 
 use hostile::sequence::Sequence;
 use second::table::{check, Checked as SecondChecked};
-use sledgewren::{entry, Checked, Man, Refusal, Table};
+use sledgewren::entry::{self, Lent};
+use sledgewren::{Checked, Man, Refusal, Table};
 
 const SEED: u64 = 2049;
 const DAMAGES: usize = 5120;
@@ -23,7 +24,7 @@ struct Sum {
 }
 
 fn library(man: Man, bytes: &[u8]) -> Result<Checked, u8> {
-    entry::check(man, bytes).map_err(Refusal::code)
+    entry::check(man, Lent::NONE, bytes).map_err(Refusal::code)
 }
 
 fn oracle(man: Man, bytes: &[u8]) -> Result<Checked, u8> {

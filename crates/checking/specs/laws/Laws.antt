@@ -1,101 +1,156 @@
--- Laws by which the checker's code is proved: what stands at a number, and the lowest wrong number.
-use mathlib.Core.Path.{_≡_, sym, ap, subst, _∙_}
-use mathlib.Core.Bool.{Bool, true, false, cond, not}
+-- Laws by which the checker's code is proved: what stands at a number, the lowest wrong number, and the refusals before
+-- it.
+use mathlib.Core.Path.{_≡_, sym, ap, subst, subst⁻¹, _∙_}
+use mathlib.Core.Bool.{Bool, true, false, not}
 use mathlib.Core.Logic.{_⊎_, inl, inr}
 use mathlib.Core.List.{List}
 use Prim.Native.Nat.{ℕ, _+_, _<_, _≤_}
 use native.Mathlib.Nat.{eq-or-lt-of-le, le-of-suc-le-suc}
 use native.Mathlib.Numerals.{add-one}
 use native.Mathlib.Omega.{arith}
-use lib.Dec.{T, eqb, ltb}
+use lib.Dec.{T, eqb}
 use lib.ListN.{length, getD}
-use borrow.Author.Tests.{lt-leb, le-leb, eq-eqb, ne-eqb, lt-ltb}
+use borrow.Author.Tests.{lt-ltb, le-ltb}
 use Rattle.finite.specs.Truth.{refuted, of-true}
 use Rattle.finite.specs.Lowest.{lowest, lowest-none, lowest-is}
 use Rattle.theory.specs.Required.{requiredAt}
-use Rattle.table_theory.specs.Tables.{requiredByte, wrongAt}
-use Rattle.rules.specs.declared.Piece.{Piece}
+use Rattle.table_theory.specs.Tables.{reads, requiredByte, wrongAt}
 use Rattle.rules.specs.Rules.{Board}
 use Rattle.rules.specs.Chess.{chess}
+use Rattle.numbering.specs.declared.Material.{Material}
+use Rattle.numbering.specs.Material.{known, menOf, sizeOf}
+use Rattle.numbering.specs.Keys.{boardAt}
 use Rattle.answers.specs.declared.Checked.{Checked}
-use Rattle.position.specs.declared.Position.{Position}
-use Rattle.position.specs.Keyed.{boardOf, lone, manIn}
-use Rattle.index.specs.Answers.{positionAt}
-use Rattle.successors.specs.declared.Verdict.{Verdict}
-use Rattle.successors.specs.Successors.{verdictOf}
-use Rattle.endings.specs.Ending.{tableSize, loneBoardAt, legalNumber, byteOf, ending}
+use Rattle.position.specs.declared.Men.{Men}
+use Rattle.position.specs.Posed.{materialFor}
 use Rattle.endings.specs.Answers.{checkOf}
-use Rattle.endings.specs.laws.Checking.{byte-reads}
-use Rattle.checking.specs.Right.{Alone, RightBelow}
+use Rattle.endings.specs.CheckedTrue.{CheckPromise}
+use Rattle.endings.specs.laws.Checking.{check-promised}
+use Rattle.four_men.specs.Lending.{Lent}
+use Rattle.four_men.specs.Reading.{legalNumberOf, numbered}
+use Rattle.four_men.specs.Answers.{lengthsFit, accepts, lentAccepted, checkWith}
+use Rattle.four_men.specs.laws.Alone.{check-alone}
+use Rattle.four_men.specs.laws.Checking.{long-of}
+use Rattle.position.specs.declared.Place.{Place}
+use Rattle.successors.specs.declared.Standing.{Standing}
+use Rattle.successors.specs.Successors.{StandingAt}
+use Rattle.checking.specs.Right.{Numbers, Ended, RightBelow, found}
 
--- ---- the byte required there
+-- ---- the byte required at a number
 
--- what is found of the man's position is found of the position
-pub of-alone : (p : Position) (m : Piece) (byte : Board → ℕ) (c : ℕ) (v : Verdict) → m ≡ manIn (p .first) → Alone p
-    → v ≡ verdictOf byte c (boardOf (lone (m .kind) (p .side) (p .«white_king») (m .square) (p .«black_king»)))
-    → v ≡ verdictOf byte c (boardOf p)
-of-alone p m byte c v e a h = h
-    ∙ ap (λ (q : Position). verdictOf byte c (boardOf q))
-    (ap (λ (n : Piece). lone (n .kind) (p .side) (p .«white_king») (n .square) (p .«black_king»)) e ∙ a)
-
-module _ (t : List ℕ) (kind n c : ℕ) where
+module _ (m : Material) (l : Lent) (t : List ℕ) (n c : ℕ) where
   -- nothing legal stands there
-  pub zero-right : legalNumber kind n ≡ false → eqb c 0 ≡ eqb c (requiredByte chess (ending kind) t n)
-  unfolding requiredByte ending
+  pub zero-right : legalNumberOf m n ≡ false → eqb c 0 ≡ eqb c (requiredByte chess (numbered m l) t n)
+  unfolding requiredByte numbered
   zero-right e = sym (rw e)
 
   -- a legal position stands there
-  pub position-right : (p : Position) (r : Bool) → p ≡ positionAt kind n → legalNumber kind n ≡ true
-      → r ≡ eqb c (requiredAt chess (byteOf t) (boardOf p)) → r ≡ eqb c (requiredByte chess (ending kind) t n)
-  unfolding requiredByte ending loneBoardAt
-  position-right p r b l e = e ∙ sym (rw (l, ← byte-reads kind t, ← b))
+  pub position-right : (b : Board) (r : Bool) → b ≡ boardAt (menOf m) n → legalNumberOf m n ≡ true
+      → r ≡ eqb c (requiredAt chess (reads chess (numbered m l) t) b) → r ≡ eqb c (requiredByte chess (numbered m l) t n)
+  unfolding requiredByte numbered
+  position-right b r e g h =
+      h ∙ ap (λ (d : Board). eqb c (requiredAt chess (reads chess (numbered m l) t) d)) e ∙ sym (rw g)
+
+-- what code finds there
+pub legal-there : (m : Men) (n : ℕ) (s : Standing) (q : Place) → Numbers m n
+    → (T (known (materialFor m)) → m .colour < 2 → n < sizeOf (materialFor m) → StandingAt m n s) → s ≡ Standing.Legal q
+    → StandingAt m n (Standing.Legal q)
+legal-there m n s q h f e = subst (StandingAt m n) e (f (h .0 .ending) (h .0 .colour) (h .1))
+
+pub none-there : (m : Men) (n : ℕ) (s : Standing) → Numbers m n
+    → (T (known (materialFor m)) → m .colour < 2 → n < sizeOf (materialFor m) → StandingAt m n s) → s ≡ Standing.Nothing
+    → legalNumberOf (materialFor m) n ≡ false
+none-there m n s h f e = subst (StandingAt m n) e (f (h .0 .ending) (h .0 .colour) (h .1))
 
 -- ---- the loop
 
-module _ (kind : ℕ) (t : List ℕ) where
-  right-at : (n : ℕ) → eqb (getD t n 0) (requiredByte chess (ending kind) t n) ≡ true
-      → wrongAt chess (ending kind) t n ≡ false
+pub size-most : (m : Material) → sizeOf m ≤ 3784704
+size-most (Material.One kind) = omega arith
+size-most (Material.Two first second rivals) = omega arith
+
+module _ (m : Material) (l : Lent) (t : List ℕ) where
+  right-at : (n : ℕ) → eqb (getD t n 0) (requiredByte chess (numbered m l) t n) ≡ true
+      → wrongAt chess (numbered m l) t n ≡ false
   unfolding wrongAt
   right-at n e = rw e
 
-  pub right-more : (n : ℕ) (right : Bool) → right ≡ eqb (getD t n 0) (requiredByte chess (ending kind) t n)
-      → right ≡ true → RightBelow kind t n → RightBelow kind t (n + 1)
-  right-more n right e q r k h = go (eq-or-lt-of-le (le-of-suc-le-suc (subst (λ (m : ℕ). k < m) (add-one n) h)))
+  pub right-more : (n : ℕ) (right : Bool) → right ≡ eqb (getD t n 0) (requiredByte chess (numbered m l) t n)
+      → right ≡ true → RightBelow m l t n → RightBelow m l t (n + 1)
+  right-more n right e q r k h = go (eq-or-lt-of-le (le-of-suc-le-suc (subst (λ (i : ℕ). k < i) (add-one n) h)))
     where
-      go : (k ≡ n) ⊎ (k < n) → wrongAt chess (ending kind) t k ≡ false
+      go : (k ≡ n) ⊎ (k < n) → wrongAt chess (numbered m l) t k ≡ false
       go (inl z) = rw z (right-at n (sym e ∙ q))
-      go (inr l) = r k l
+      go (inr h) = r k h
 
-  module _ (known : kind < 4) (long : length t ≡ tableSize) where
-    asked : checkOf kind t ≡ cond (ltb (lowest (wrongAt chess (ending kind) t) tableSize) tableSize) (Checked.Wrong
-        (lowest (wrongAt chess (ending kind) t) tableSize)) Checked.Accepted
-    unfolding checkOf
-    asked = rw (lt-leb 4 kind known, eq-eqb (length t) tableSize long)
+  -- a wrong byte after right ones is the lowest wrong
+  pub found-wrong : (n : ℕ) (right : Bool) → n < sizeOf m
+      → right ≡ eqb (getD t n 0) (requiredByte chess (numbered m l) t n) → right ≡ false → RightBelow m l t n
+      → Checked.Wrong n ≡ found m l t
+  unfolding found
+  found-wrong n right h e q r =
+      let low : lowest (wrongAt chess (numbered m l) t) (sizeOf m) ≡ n =
+      lowest-is (wrongAt chess (numbered m l) t) (sizeOf m) n h (λ j k x. refuted (r j k) x) (wrong n (sym e ∙ q)) in
+      sym (rw (low, lt-ltb n (sizeOf m) h))
+    where
+      wrong : (n : ℕ) → eqb (getD t n 0) (requiredByte chess (numbered m l) t n) ≡ false
+          → T (wrongAt chess (numbered m l) t n)
+      wrong n f = unfold wrongAt in of-true (ap not f)
 
-    -- a wrong byte after right ones is the lowest wrong
-    pub check-wrong : (n : ℕ) (right : Bool) → n < tableSize
-        → right ≡ eqb (getD t n 0) (requiredByte chess (ending kind) t n) → right ≡ false → RightBelow kind t n
-        → Checked.Wrong n ≡ checkOf kind t
-    check-wrong n right h e q r =
-        let low : lowest (wrongAt chess (ending kind) t) tableSize ≡ n =
-        lowest-is (wrongAt chess (ending kind) t) tableSize n h (λ j l x. refuted (r j l) x) (wrong n (sym e ∙ q))
-        in
-        sym (asked ∙ rw (low, lt-ltb n tableSize h))
-      where
-        wrong : (n : ℕ) → eqb (getD t n 0) (requiredByte chess (ending kind) t n) ≡ false
-            → T (wrongAt chess (ending kind) t n)
-        wrong n f = unfold wrongAt in of-true (ap not f)
+  pub found-right : (n : ℕ) → sizeOf m ≤ n → RightBelow m l t n → Checked.Accepted ≡ found m l t
+  unfolding found
+  found-right n h r =
+      let low : lowest (wrongAt chess (numbered m l) t) (sizeOf m) ≡ sizeOf m =
+      lowest-none (wrongAt chess (numbered m l) t) (sizeOf m) (λ j k x. refuted (r j (omega arith)) x) in
+      sym (rw (low, le-ltb (sizeOf m) (sizeOf m) (omega arith)))
 
-    pub check-right : (n : ℕ) → tableSize ≤ n → RightBelow kind t n → Checked.Accepted ≡ checkOf kind t
-    check-right n h r =
-        let low : lowest (wrongAt chess (ending kind) t) tableSize ≡ tableSize =
-        lowest-none (wrongAt chess (ending kind) t) tableSize (λ j l x. refuted (r j (omega arith)) x) in
-        sym (asked ∙ rw low)
+  -- ---- the refusals before it, as the code asks them
 
-pub check-man : (kind : ℕ) (t : List ℕ) → 4 ≤ kind → Checked.Refused 1 ≡ checkOf kind t
-unfolding checkOf
-check-man kind t h = sym (rw (le-leb 4 kind h))
+  module _ (is : Bool) (e : is ≡ known m) where
+    pub refused-ending : is ≡ false → Checked.Refused 1 ≡ checkWith m l t
+    unfolding checkWith
+    refused-ending z = sym (rw (sym e ∙ z))
 
-pub check-length : (kind : ℕ) (t : List ℕ) → kind < 4 → (length t ≡ tableSize → ⊥) → Checked.Refused 7 ≡ checkOf kind t
-unfolding checkOf
-check-length kind t h n = sym (rw (lt-leb 4 kind h, ne-eqb (length t) tableSize n))
+    module _ (g : is ≡ true) (fit : Bool) (f : fit ≡ lengthsFit m l t) where
+      pub refused-lengths : fit ≡ false → Checked.Refused 7 ≡ checkWith m l t
+      unfolding checkWith
+      refused-lengths z = sym (rw (sym e ∙ g, sym f ∙ z))
+
+      module _ (long : fit ≡ true) where
+        -- the men by which the table is read
+        pub their-table : (n : Men) → (T (known m) → (materialFor n ≡ m) × (n .colour < 2)) → Ended n (length t)
+        their-table n h =
+            let k : T (known m) = of-true (sym e ∙ g) in
+            let w = h k in (
+              record { ending = subst⁻¹ (λ (x : Material). T (known x)) (w .0) k; colour = w .1 },
+              long-of m l t (of-true (sym f ∙ long)) ∙ ap sizeOf (sym (w .0)),
+            )
+
+        module _ (ok : Bool) (a : ok ≡ lentAccepted m l) where
+          pub refused-lent : ok ≡ false → Checked.Refused 17 ≡ checkWith m l t
+          unfolding checkWith
+          refused-lent z = sym (rw (sym e ∙ g, sym f ∙ long, sym a ∙ z))
+
+          pub found-last : ok ≡ true → (n : Men) → (T (known m) → (materialFor n ≡ m) × (n .colour < 2))
+              → (r : Checked) → r ≡ found (materialFor n) l t → r ≡ checkWith m l t
+          unfolding checkWith found
+          found-last z n h r q =
+              q ∙ ap (λ (x : Material). found x l t) (h (of-true (sym e ∙ g)) .0)
+              ∙ sym (rw (sym e ∙ g, sym f ∙ long, sym a ∙ z))
+
+-- ---- the lent tables
+
+module _ (m : Material) (j k : ℕ) (r : Bool) (l : Lent) (e : m ≡ Material.Two j k r) (c : Checked)
+    (h : c ≡ checkOf j (l .first)) (a : Bool) (f : a ≡ accepts c) where
+  -- the first is not accepted
+  pub first-refused : a ≡ false → false ≡ lentAccepted m l
+  first-refused z = sym (rw (e, ← h, ← f, z))
+
+  -- it is, and so it lies with the second
+  pub second-decides : a ≡ true → (d : Checked) → d ≡ checkOf k (l .second) → (b : Bool) → b ≡ accepts d
+      → b ≡ lentAccepted m l
+  second-decides z d q b g = g ∙ sym (rw (e, ← h, ← f, z, ← q))
+
+-- one man's table: it borrows none
+pub one-promised : (kind : ℕ) (l : Lent) (t : List ℕ) (r : Checked) → r ≡ checkWith (Material.One kind) l t
+    → CheckPromise kind t r
+one-promised kind l t r e = check-promised kind t r (e ∙ check-alone kind l t)

@@ -31,7 +31,8 @@ use Rattle.endings.specs.Truth.{TrueAnswer}
 use Rattle.endings.specs.Answers.{checkOf, answerOf, chosen, lookUpOf}
 use Rattle.endings.specs.laws.Turning.{ending-carries, chosen-chooses}
 use Rattle.endings.specs.laws.LookingUp.{accepted-bytes, look-up-answers, look-up-true, over-none}
-use Rattle.endings.specs.GamePromise.{slotOf, others, keyed, given, moveOfAnswer, deskMove, Told, GamePromise}
+use Rattle.position.specs.Keyed.{slotOf, others, keyed}
+use Rattle.endings.specs.GamePromise.{given, moveOfAnswer, deskMove, Told, GamePromise}
 
 -- keying a board gives it back
 keyed-board : (kind : ℕ) (b : Board) → Lone kind b → boardOf (keyed b) ≡ b

@@ -16,12 +16,15 @@ use Rattle.rules.specs.Changed.{changed}
 use Rattle.rules.specs.Chess.{chess}
 use Rattle.numbering.specs.Number.{normalBy, normalised}
 use Rattle.numbering.specs.Fits.{twoFit, mirror}
+use Rattle.numbering.specs.Change.{Change, change, changedBy}
+use Rattle.numbering.specs.laws.ChangeLaws.{HasNumber, one-change}
 use Rattle.numbering.specs.laws.FitLaws.{same-normal, turn-plain, turn-mirrored}
 use Rattle.position.specs.declared.Position.{Position}
 use Rattle.position.specs.Keyed.{boardOf, manKind}
 use Rattle.position.specs.Refusals.{standingRefusal}
 use Rattle.position.specs.Maps.{changedPosition}
 use Rattle.position.specs.laws.Legality.{standing-facts}
+use Rattle.position.specs.laws.PlacedLaws.{endingWith}
 use Rattle.position.specs.laws.ChangedRefusals.{change-board, standing-changed}
 use Rattle.answers.specs.declared.BestMove.{BestMove}
 use Rattle.answers.specs.declared.Answer.{Answer}
@@ -36,12 +39,12 @@ use Rattle.endings.specs.laws.Turning.{byte-turned, required-turned}
 -- ---- the chosen move
 
 -- by squares
-advice-by : (k m n : Symmetry) (a : BestMove) → ((s : ℕ) → mapped k s ≡ mapped m (mapped n s))
+pub advice-by : (k m n : Symmetry) (a : BestMove) → ((s : ℕ) → mapped k s ≡ mapped m (mapped n s))
     → mappedAdvice k a ≡ mappedAdvice m (mappedAdvice n a)
 advice-by k m n (BestMove.Play v) h = rw (h (v .from), h (v .to))
 advice-by k m n BestMove.NoMove h = refl
 
-advice-by-three : (k m x n : Symmetry) (a : BestMove) → ((s : ℕ) → mapped k s ≡ mapped m (mapped x (mapped n s)))
+pub advice-by-three : (k m x n : Symmetry) (a : BestMove) → ((s : ℕ) → mapped k s ≡ mapped m (mapped x (mapped n s)))
     → mappedAdvice k a ≡ mappedAdvice m (mappedAdvice x (mappedAdvice n a))
 advice-by-three k m x n (BestMove.Play v) h = rw (h (v .from), h (v .to))
 advice-by-three k m x n BestMove.NoMove h = refl
@@ -50,13 +53,23 @@ module _ (kind : ℕ) (t : List ℕ) (m : Symmetry) (x : Bool) (b : Board) (l : 
   abbrev c : Board
   c = changed m x b
 
+  abbrev turning : Change
+  turning = change false x m
+
+  -- with one man the order does not count
+  as-changed : changedBy turning b ≡ c
+  as-changed = one-change turning b _ (lone .1 .1)
+
+  has : HasNumber (endingWith kind) b
+  has = lone-has kind b l lone
+
   -- both boards have one normal board, and so one move there
   there : chosen (byteOf t) c
       ≡ mappedAdvice (inverse (normalBy c)) (adviceOf (firstSuited chess (byteOf t) (normalised b)))
   unfolding chosen
   there =
       ap (λ (n : Board). mappedAdvice (inverse (normalBy c)) (adviceOf (firstSuited chess (byteOf t) n)))
-      (same-normal b (lone-has kind b l lone) _ (lone .1 .1) m x)
+      (ap normalised (sym as-changed) ∙ same-normal b has turning)
 
   chosen-plain : (T (twoFit b) → m .swap ≡ false) → chosen (byteOf t) c ≡ mappedAdvice m (chosen (byteOf t) b)
   unfolding chosen
@@ -64,7 +77,8 @@ module _ (kind : ℕ) (t : List ℕ) (m : Symmetry) (x : Bool) (b : Board) (l : 
       there
       ∙ advice-by (inverse (normalBy c)) m (inverse (normalBy b))
       (adviceOf (firstSuited chess (byteOf t) (normalised b)))
-      (undone-by m (normalBy c) (normalBy b) (turn-plain m x b (lone-has kind b l lone) _ (lone .1 .1) h))
+      (undone-by m (normalBy c) (normalBy b)
+      (ap (λ (d : Board). composed m (normalBy d)) (sym as-changed) ∙ turn-plain turning b has h))
 
   chosen-mirrored : T (twoFit b) → m .swap ≡ true
       → chosen (byteOf t) c ≡ mappedAdvice m (mappedAdvice (mirror b) (chosen (byteOf t) b))
@@ -74,17 +88,17 @@ module _ (kind : ℕ) (t : List ℕ) (m : Symmetry) (x : Bool) (b : Board) (l : 
       ∙ advice-by-three (inverse (normalBy c)) m (mirror b) (inverse (normalBy b))
       (adviceOf (firstSuited chess (byteOf t) (normalised b)))
       (λ u. undone-by m (normalBy c) (composed (normalBy b) exchange)
-      (turn-mirrored m x b (lone-has kind b l lone) _ (lone .1 .1) w h) u
+      (ap (λ (d : Board). composed m (normalBy d)) (sym as-changed) ∙ turn-mirrored turning b has w h) u
       ∙ ap (mapped m) (undone-mirror (normalBy b) u))
 
 -- ---- the answer
 
 -- a change of answers that changes the move alone
-record MovesOnly (f : Answer → Answer) (g : BestMove → BestMove) : Type 0 where
-  refused : (n : ℕ) → f (Answer.Refused n) ≡ Answer.Refused n
-  valued : (n : ℕ) (a : BestMove) → f (answerOf n a) ≡ answerOf n (g a)
+pub record MovesOnly (f : Answer → Answer) (g : BestMove → BestMove) : Type 0 where
+  pub refused : (n : ℕ) → f (Answer.Refused n) ≡ Answer.Refused n
+  pub valued : (n : ℕ) (a : BestMove) → f (answerOf n a) ≡ answerOf n (g a)
 
-mapped-only : (m : Symmetry) → MovesOnly (mappedAnswer m) (mappedAdvice m)
+pub mapped-only : (m : Symmetry) → MovesOnly (mappedAnswer m) (mappedAdvice m)
 unfolding answerOf
 mapped-only m = record { refused = λ n. refl; valued = λ n a. go n a (leb n 1) (eqb (n % 2) 1) }
   where
@@ -96,7 +110,7 @@ mapped-only m = record { refused = λ n. refl; valued = λ n a. go n a (leb n 1)
     go n a false true = refl
     go n a false false = refl
 
-twice-only : (m k : Symmetry)
+pub twice-only : (m k : Symmetry)
     → MovesOnly (λ a. mappedAnswer m (mappedAnswer k a)) (λ a. mappedAdvice m (mappedAdvice k a))
 twice-only m k = record {
   refused = λ n. refl;

@@ -1,5 +1,6 @@
--- P13, with DEMAND 3 in it: every list of legal moves from any legal position of an ending, in which one side, either one, plays the moves that
--- look-up gives with an accepted table, at whatever counts from 0 to 99. From a marked position the winner mates before the loser may claim.
+-- P13, with DEMAND 3 in it: every list of legal moves from any legal position of an ending of one man or of two, in
+-- which one side, either one, plays the moves that look-up gives with accepted tables, at whatever counts from 0 to 99.
+-- From a marked position the winner mates before the loser may claim, whatever the replies and captures.
 use mathlib.Core.Path.{_≡_, refl, sym, ap, subst, _∙_}
 use mathlib.Core.Bool.{Bool, true, false, cond}
 use mathlib.Core.Logic.{_↔_}
@@ -8,6 +9,7 @@ use mathlib.Core.Option.{Option, none}
 use Prim.Native.Nat.{ℕ, _+_, _≤_}
 use native.Mathlib.Omega.{arith}
 use lib.Dec.{T, leb, ltb, leb→le, le→leb}
+use lib.ListN.{length}
 use borrow.Author.Tests.{le-ltb}
 use Rattle.theory.specs.Value.{WonIn, LostIn, Drawn, DepthIs}
 use Rattle.theory.specs.Play.{LegalGame, Follows, atPly, Promised}
@@ -22,10 +24,20 @@ use Rattle.answers.specs.declared.Checked.{Checked}
 use Rattle.endings.specs.Ending.{Lone, byteOf}
 use Rattle.endings.specs.Truth.{TrueAnswer}
 use Rattle.endings.specs.Answers.{checkOf, lookUpOf}
-use Rattle.endings.specs.GamePromise.{keyed, moveOfAnswer, deskMove, GamePromise}
+use Rattle.position.specs.Keyed.{keyed}
+use Rattle.endings.specs.GamePromise.{moveOfAnswer, deskMove, GamePromise}
 use Rattle.endings.specs.laws.Games.{games}
-use Rattle.fifty.specs.Marks.{marks, isRefused, atCount, lookUpAt}
-use Rattle.fifty.specs.FiftyPromise.{zeroing, answerAt, countedMove, PlaysCounted, ClearBy, Within, FiftyPromise}
+use Rattle.table_theory.specs.Tables.{reads}
+use Rattle.numbering.specs.declared.Material.{Material}
+use Rattle.numbering.specs.Material.{OfMaterial}
+use Rattle.four_men.specs.Lending.{Lent}
+use Rattle.four_men.specs.Reading.{numbered}
+use Rattle.four_men.specs.Answers.{checkWith}
+use Rattle.four_men.specs.GamePromise.{lookedUp, deskMoveWith, GamePromiseWith}
+use Rattle.four_men.specs.laws.Games.{games-with}
+use Rattle.fifty.specs.declared.Marked.{Marked}
+use Rattle.fifty.specs.Marks.{marks, isRefused, atCount, markedBy, lookUpAt, lookUpAtWith}
+use Rattle.fifty.specs.FiftyPromise.{zeroing, answerAt, answerAtWith, moveAt, countedMove, countedMoveWith, PlaysBy, PlaysCounted, PlaysCountedWith, ClearBy, Within, CountsPromise, FiftyPromise, FiftyPromiseWith}
 
 -- at a count from 0 to 99 the answer is look-up's own
 at-99 : (c : ℕ) (a : Answer) → c ≤ 99 → atCount c a ≡ a
@@ -80,46 +92,99 @@ module _ (reads : Board → ℕ) (pick : Board → Option Move) (side : Bool) (b
       (λ f. lost-clear chess zeroing reads pick side b ms p n c h w f)
   clear-by a (Called.drawn x w e) t = absurd (subst (λ (z : Answer). T (marks c z)) e t)
 
--- ---- the game
+-- ---- the answers at any counts, from what look-up answers without one
 
-module _ (t : List ℕ) where
+module _ (looked : Board → Answer) (answer : Board → ℕ → Marked)
+    (is : (b : Board) (c : ℕ) → answer b c ≡ markedBy c (atCount c (looked b))) where
   -- the answer at a count from 0 to 99, and its move, are look-up's own
-  same-answer : (b : Board) (c : ℕ) → c ≤ 99 → answerAt t b c .answer ≡ lookUpOf t (keyed b)
-  unfolding lookUpAt
-  same-answer b c h = at-99 c (lookUpOf t (keyed b)) h
+  same-answer : (b : Board) (c : ℕ) → c ≤ 99 → answer b c .answer ≡ looked b
+  same-answer b c h = ap (λ (m : Marked). m .answer) (is b c) ∙ at-99 c (looked b) h
 
-  same-mark : (b : Board) (c : ℕ) → c ≤ 99
-      → answerAt t b c .«within_fifty» ≡ marks c (lookUpOf t (keyed b))
-  unfolding lookUpAt
-  same-mark b c h = ap (marks c) (at-99 c (lookUpOf t (keyed b)) h)
+  same-mark : (b : Board) (c : ℕ) → c ≤ 99 → answer b c .«within_fifty» ≡ marks c (looked b)
+  same-mark b c h = ap (λ (m : Marked). m .«within_fifty») (is b c) ∙ ap (marks c) (at-99 c (looked b) h)
 
-  pub counted-desk : (b : Board) (c : ℕ) → c ≤ 99 → countedMove t c b ≡ deskMove t b
-  unfolding countedMove deskMove
-  counted-desk b c h = ap (λ (a : Answer). cond (empty (b .men)) none (moveOfAnswer a)) (same-answer b c h)
+  abbrev own : Board → Option Move
+  own b = cond (empty (b .men)) none (moveOfAnswer (looked b))
 
-  plays-desk : (side : Bool) (b : Board) (ms : List Move) → PlaysCounted t side b ms
-      → Follows chess (deskMove t) side b ms
-  plays-desk side b [] f = tt
-  plays-desk side b (m ∷ ms) f = (
-    λ e. let g = f .0 e in sym (counted-desk b (g .0) (g .1)) ∙ g .2,
-    plays-desk side (chess .play b m) ms (f .1),
-  )
+  same-move : (b : Board) (c : ℕ) → c ≤ 99 → moveAt answer c b ≡ own b
+  same-move b c h = ap (λ (a : Answer). cond (empty (b .men)) none (moveOfAnswer a)) (same-answer b c h)
 
--- The table is accepted for the ending; b is a legal board of it; ms is a game from b; the side plays the desk's moves in it, at any counts.
+  module _ (pick : Board → Option Move) (by : ℕ → Board → Option Move)
+      (counted : (b : Board) (c : ℕ) → c ≤ 99 → by c b ≡ pick b) where
+    plays-own : (side : Bool) (b : Board) (ms : List Move) → PlaysBy by side b ms → Follows chess pick side b ms
+    plays-own side b [] f = tt
+    plays-own side b (m ∷ ms) f = (
+      λ e. let g = f .0 e in sym (counted b (g .0) (g .1)) ∙ g .2,
+      plays-own side (chess .play b m) ms (f .1),
+    )
+
+  -- from the promise of the game
+  module _ (reads : Board → ℕ) (pick : Board → Option Move) (side : Bool) (b : Board) (ms : List Move)
+      (called : TrueAnswer b (looked b))
+      (answers : (i : ℕ) → i ≤ length ms → empty (atPly chess b ms i .men) ≡ false
+      → TrueAnswer (atPly chess b ms i) (looked (atPly chess b ms i)))
+      (p : Promised chess reads pick side b ms) where
+    at-counts : CountsPromise answer side b ms
+    at-counts = record {
+      called = λ c k. subst (TrueAnswer b) (sym (same-answer b c k)) called;
+      answers = λ i h n c k. subst (TrueAnswer (atPly chess b ms i)) (sym (same-answer (atPly chess b ms i) c k))
+          (answers i h n);
+      marked = λ i h n c k. let q = atPly chess b ms i in
+          subst (λ (x : Bool). T x ↔ Within q c) (sym (same-mark q c k))
+          (marks-within q c (looked q) (called-by q _ (answers i h n)));
+      clear = λ c k x. subst (λ (a : Answer). ClearBy a side b ms c) (sym (same-answer b c k))
+          (clear-by reads pick side b ms p c (looked b) (called-by b _ called) (subst T (same-mark b c k) x));
+    }
+
+-- ---- the game with one man
+
+abbrev looked-one : List ℕ → Board → Answer
+looked-one t b = lookUpOf t (keyed b)
+
+is-one : (t : List ℕ) (b : Board) (c : ℕ) → answerAt t b c ≡ markedBy c (atCount c (looked-one t b))
+unfolding lookUpAt
+is-one t b c = refl
+
+pub counted-desk : (t : List ℕ) (b : Board) (c : ℕ) → c ≤ 99 → countedMove t c b ≡ deskMove t b
+unfolding countedMove deskMove
+counted-desk t b c h = same-move (looked-one t) (answerAt t) (is-one t) b c h
+
+-- The table is accepted for the ending; b is a legal board of it; ms is a game from b; the side plays the desk's moves
+-- in it, at any counts.
 pub fifty-games : (kind : ℕ) (t : List ℕ) → checkOf kind t ≡ Checked.Accepted → (b : Board) → T (legal b) → Lone kind b
     → (side : Bool) (ms : List Move) → LegalGame chess b ms → PlaysCounted t side b ms → FiftyPromise t side b ms
 fifty-games kind t ok b l m side ms game plays = record {
   game = g;
-  called = λ c k. subst (TrueAnswer b) (sym (same-answer t b c k)) (g .called);
-  answers = λ i h n c k. subst (TrueAnswer (atPly chess b ms i)) (sym (same-answer t (atPly chess b ms i) c k))
-      (g .answers i h n);
-  marked = λ i h n c k. let q = atPly chess b ms i in
-      subst (λ (x : Bool). T x ↔ Within q c) (sym (same-mark t q c k))
-      (marks-within q c (lookUpOf t (keyed q)) (called-by q _ (g .answers i h n)));
-  clear = λ c k x. subst (λ (a : Answer). ClearBy a side b ms c) (sym (same-answer t b c k))
-      (clear-by (byteOf t) (deskMove t) side b ms (g .promised) c (lookUpOf t (keyed b)) (called-by b _ (g .called))
-      (subst T (same-mark t b c k) x));
+  counts = at-counts (looked-one t) (answerAt t) (is-one t) (byteOf t) (deskMove t) side b ms (g .called) (g .answers)
+      (g .promised);
 }
   where
     g : GamePromise t side b ms
-    g = games kind t ok b l m side ms game (plays-desk t side b ms plays)
+    g = games kind t ok b l m side ms game
+        (plays-own (looked-one t) (answerAt t) (is-one t) (deskMove t) (countedMove t) (counted-desk t) side b ms plays)
+
+-- ---- with one man or two, through captures until bare kings
+
+module _ (m : Material) (l : Lent) (t : List ℕ) where
+  is-with : (b : Board) (c : ℕ) → answerAtWith m l t b c ≡ markedBy c (atCount c (lookedUp m l t b))
+  unfolding lookUpAtWith lookedUp
+  is-with b c = refl
+
+  pub counted-desk-with : (b : Board) (c : ℕ) → c ≤ 99 → countedMoveWith m l t c b ≡ deskMoveWith m l t b
+  unfolding countedMoveWith deskMoveWith
+  counted-desk-with b c h = same-move (lookedUp m l t) (answerAtWith m l t) is-with b c h
+
+  -- The tables are accepted; b is a legal board of the ending; ms is a game from b; the side plays the desk's moves in
+  -- it, at any counts.
+  pub fifty-games-with : checkWith m l t ≡ Checked.Accepted → (b : Board) → T (legal b) → OfMaterial m b → (side : Bool)
+      (ms : List Move) → LegalGame chess b ms → PlaysCountedWith m l t side b ms → FiftyPromiseWith m l t side b ms
+  fifty-games-with ok b g e side ms game plays = record {
+    game = whole;
+    counts = at-counts (lookedUp m l t) (answerAtWith m l t) is-with (reads chess (numbered m l) t) (deskMoveWith m l t)
+        side b ms (whole .called) (whole .answers) (whole .promised);
+  }
+    where
+      whole : GamePromiseWith m l t side b ms
+      whole = games-with m l t ok b g e side ms game
+          (plays-own (lookedUp m l t) (answerAtWith m l t) is-with (deskMoveWith m l t) (countedMoveWith m l t)
+          counted-desk-with side b ms plays)

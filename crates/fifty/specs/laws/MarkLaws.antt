@@ -21,8 +21,11 @@ module _ (c : ℕ) (a : Answer) (r : Bool) (e : r ≡ isRefused a) where
   kept-counted t h = let f : isRefused a ≡ false = sym e ∙ t in sym (rw (f, le-ltb 99 c h))
 
 -- an answer found, brought to the count, and marked
-pub marked-with : (c : ℕ) (found answer looked : Answer) (mark : Bool) → found ≡ looked → answer ≡ atCount c found
-    → mark ≡ marks c answer
-    → _≡_ {A = Marked} (record { answer = answer; «within_fifty» = mark }) (markedBy c (atCount c looked))
-marked-with c found answer looked mark e f g =
-    ap (λ (b : Bool). record { answer = answer; «within_fifty» = b }) g ∙ ap (markedBy c) (f ∙ ap (atCount c) e)
+pub marked-with : (c : ℕ) (found answer : Answer) (mark : Bool) → answer ≡ atCount c found → mark ≡ marks c answer
+    → _≡_ {A = Marked} (record { answer = answer; «within_fifty» = mark }) (markedBy c (atCount c found))
+marked-with c found answer mark f g =
+    ap (λ (b : Bool). record { answer = answer; «within_fifty» = b }) g ∙ ap (markedBy c) f
+
+pub marked-found : (c : ℕ) (found looked : Answer) (r : Marked) → found ≡ looked → r ≡ markedBy c (atCount c found)
+    → r ≡ markedBy c (atCount c looked)
+marked-found c found looked r e h = h ∙ ap (λ (a : Answer). markedBy c (atCount c a)) e

@@ -1,5 +1,5 @@
 -- A start and a step of one man are those for both sizes, handed back.
-use mathlib.Core.Path.{_≡_, refl, sym, ap, _∙_}
+use mathlib.Core.Path.{_≡_, refl, sym, ap, subst⁻¹, _∙_}
 use mathlib.Core.Bool.{Bool, true, false, cond, not}
 use mathlib.Core.List.{List}
 use Prim.Native.Nat.{ℕ}
@@ -10,10 +10,12 @@ use Rattle.table_theory.specs.Steps as over
 use Rattle.table_theory.specs.Steps.{goingOn, started, stepFrom}
 use Rattle.rules.specs.Chess.{chess}
 use Rattle.endings.specs.Ending.{tableSize, ending}
-use Rattle.four_men.specs.Material.{Material, Lent}
+use Rattle.numbering.specs.declared.Material.{Material}
+use Rattle.four_men.specs.Lending.{Lent, lent}
 use Rattle.four_men.specs.Steps.{Call, startWith, stepWith}
 use Rattle.four_men.specs.laws.Alone.{start-alone, step-alone}
-use Rattle.filling.specs.Steps.{takenOf, refused, admitted, noneDeeper, startOf, stepOf}
+use Rattle.filling.specs.declared.steps.Step.{Step}
+use Rattle.filling.specs.Steps.{Taken, Hands, takenOf, refused, admitted, noneDeeper, startOf, stepOf}
 use Rattle.filling.specs.Handed.{handed}
 
 -- the refusals are asked alike
@@ -32,15 +34,25 @@ admitted-handed kind t p s = go (leb 4 kind) (not (eqb (length t) tableSize))
     go false false = refl
 
 pub start-handed : (kind : ℕ) (t : List ℕ)
-    → startOf kind t ≡ handed t (goingOn 0 0) (startWith (Material.one kind) t)
+    → startOf kind t ≡ handed t (goingOn 0 0) (startWith (Material.One kind) t)
 unfolding startOf
 start-handed kind t =
     admitted-handed kind t (goingOn 0 0) (started chess (ending kind) t)
     ∙ ap (handed t (goingOn 0 0)) (sym (start-alone kind t))
 
 pub step-handed : (kind : ℕ) (l : Lent) (t : List ℕ) (p : Progress)
-    → stepOf kind t p ≡ handed t p (stepWith (Material.one kind) l t p)
+    → stepOf kind t p ≡ handed t p (stepWith (Material.One kind) l t p)
 unfolding stepOf
 step-handed kind l t p =
     admitted-handed kind t p (stepFrom chess (ending kind) noneDeeper p t)
     ∙ ap (handed t p) (sym (step-alone kind l t p))
+
+-- as the code has it
+pub start-one : (kind : ℕ) (t : List ℕ) (r : Step) (w : List ℕ)
+    → Hands (handed t (goingOn 0 0) (startWith (Material.One kind) t)) r w → Hands (startOf kind t) r w
+start-one kind t r w h = subst⁻¹ (λ (o : Taken). Hands o r w) (start-handed kind t) h
+
+pub step-one : (kind : ℕ) (first second t : List ℕ) (p : Progress) (r : Step) (w : List ℕ)
+    → Hands (handed t p (stepWith (Material.One kind) (lent first second) t p)) r w → Hands (stepOf kind t p) r w
+step-one kind first second t p r w h =
+    subst⁻¹ (λ (o : Taken). Hands o r w) (step-handed kind (lent first second) t p) h

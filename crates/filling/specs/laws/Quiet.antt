@@ -1,16 +1,17 @@
--- Where a pass settles nothing: a depth above 0 is required only where a successor holds the depth before it, and successors' numbers lie in the
--- other half of the table.
-use mathlib.Core.Path.{_≡_, refl, sym, ap, subst, _∙_}
-use mathlib.Core.Bool.{Bool, false, cond, not, _&&_}
+-- Where a pass settles nothing: a depth above 0 is required only where a successor holds the depth before it, and
+-- successors' numbers lie in the other half of the table, or in a lent one; the men being of one side, in its other
+-- half too.
+use mathlib.Core.Path.{_≡_, refl, sym, ap, subst, subst⁻¹, _∙_}
+use mathlib.Core.Bool.{Bool, true, false, cond, not, _&&_}
 use mathlib.Core.Logic.{_⊎_, inl, inr}
-use mathlib.Core.List.{List, map}
-use Prim.Native.Nat.{ℕ, _+_, _-_, _/_, _%_, _<_, _≤_}
+use mathlib.Core.List.{List, [], _∷_, map, List·Memᴰ·head, List·Memᴰ·tail}
+use Prim.Native.Nat.{ℕ, _+_, _-_, _/_, _<_, _≤_}
 use native.Mathlib.Omega.{arith}
-use lib.Dec.{T, ltb, eqb, eqb→eq}
-use lib.ListN.{getD}
-use borrow.Author.Tests.{lt-ltb, le-ltb}
+use lib.Dec.{T, leb, ltb, eqb, eqb→eq}
+use lib.ListN.{length, getD}
+use borrow.Author.Tests.{lt-leb, le-leb, lt-ltb, le-ltb, eqb-true}
 use Rattle.finite.specs.Truth.{decided, and-left, and-right, fails, le-or-lt, false-of}
-use Rattle.finite.specs.Members.{map-out}
+use Rattle.finite.specs.Members.{_∈_, map-out, none-in}
 use Rattle.finite.specs.Mapped.{Upto}
 use Rattle.theory.specs.Game.{next}
 use Rattle.theory.specs.Required.{requiredAt}
@@ -18,78 +19,254 @@ use Rattle.theory.specs.laws.RuleLaws.{required-rule, byte-before}
 use Rattle.table_theory.specs.Tables.{reads, settles, passByte}
 use Rattle.table_theory.specs.laws.Acceptance.{reads-inside, reads-outside}
 use Rattle.table_theory.specs.laws.Passing.{settles-in-place}
+use Rattle.rules.specs.declared.Piece.{Piece}
 use Rattle.rules.specs.Rules.{Board, empty, legal, mated}
 use Rattle.rules.specs.Chess.{chess}
+use Rattle.position.specs.declared.Men.{Men}
+use Rattle.position.specs.Posed.{materialFor}
+use Rattle.numbering.specs.Keys.{boardAt}
 use Rattle.numbering.specs.Number.{numberOf}
-use Rattle.position.specs.Keyed.{boardOf}
-use Rattle.index.specs.Answers.{positionAt}
-use Rattle.endings.specs.Ending.{LoneOf, tableSize, loneBoardAt, legalNumber, ending}
-use Rattle.endings.specs.laws.EndingDrawn.{ending-closed}
-use Rattle.endings.specs.laws.Halves.{side-at, side-next, white-next, number-side}
-use Rattle.endings.specs.laws.EndingLaws.{live-at}
-use Rattle.filling.specs.Quiet.{Absent, Quiet}
+use Rattle.numbering.specs.declared.Material.{Material}
+use Rattle.numbering.specs.Material.{known, menOf, sizeOf}
+use Rattle.endings.specs.Ending.{LoneOf, Lone, tableSize, byteOf}
+use Rattle.endings.specs.laws.Halves.{side-next, number-side}
+use Rattle.endings.specs.laws.IndexLaws.{number-of-ending}
+use Rattle.four_men.specs.Lending.{Lent, lent, borrowed}
+use Rattle.four_men.specs.Reading.{Fewer, Within, full, lentFor, lentTo, lentByte, legalNumberOf, numbered}
+use Rattle.four_men.specs.laws.Captures.{within-closed, fewer-of}
+use Rattle.four_men.specs.laws.Numbered.{numbers, number-live, live-at}
+use Rattle.filling.specs.Admitted.{over, Admitted}
+use Rattle.filling.specs.Quiet.{Absent, Quiet, lowOf, highOf}
+use Rattle.filling.specs.laws.Code.{long}
+use Rattle.filling.specs.laws.Halves.{side-below, side-above, below-side, above-side, number-side-with, standard-next, white-left}
 
-module _ (kind k : ℕ) (t : List ℕ) (n : ℕ) (h : n < tableSize) where
-  -- a number that pass k settles, k not 0, has a successor in the other half with depth k - 1
-  cause : 0 < k → T (settles chess (ending kind) k t n)
-      → (m : ℕ) × (m < tableSize) × (m / 64 / 462 ≡ 1 - n / 64 / 462) × (getD t m 0 ≡ 1 + k)
-  unfolding settles ending
+-- the men of one side: what is left of them is White's
+abbrev OneSide : Material → Type 0
+OneSide (Material.One kind) = Unit {0}
+OneSide (Material.Two j k r) = r ≡ false
+
+module _ (m : Material) (l : Lent) (k : ℕ) (t : List ℕ) (side : ℕ) where
+  -- where depth k - 1 stands, for a board with this side to move
+  data Cause : Type 0 where
+    own : (i : ℕ) → i < sizeOf m → boardAt (menOf m) i .side ≡ 1 - side → getD t i 0 ≡ 1 + k → Cause
+    lower : (u : List ℕ) → u ∈ borrowed m l → (i : ℕ) → i < tableSize → (OneSide m → i / 64 / 462 ≡ 1 - side)
+        → getD u i 0 ≡ 1 + k → Cause
+
+-- the table lent for a kind is one of the two
+lent-in : (j k kind : ℕ) (r : Bool) (l : Lent) → lentFor j l kind ∈ borrowed (Material.Two j k r) l
+lent-in j k kind r l = go (eqb kind j)
+  where
+    go : (x : Bool) → cond x (l .first) (l .second) ∈ (l .first ∷ l .second ∷ [])
+    go true = List·Memᴰ·head refl
+    go false = List·Memᴰ·tail (List·Memᴰ·head refl)
+
+-- a successor with a man taken: bare kings hold no depth, a man left alone is read in his table
+module _ (l : Lent) (d : ℕ) (t : List ℕ) (n : ℕ) (q : Board) (legality : T (legal q)) (some : 0 < d) where
+  bare : (u : List ℕ) → q .men ≡ [] → byteOf u q ≡ 1 + d → ⊥
+  unfolding byteOf
+  bare u e r =
+      let z : byteOf u q ≡ 1 = ap (λ (men : List Piece). cond (empty men) 1 (getD u (numberOf q) 0)) e in
+      omega (arith, z, r, some)
+
+  read : (u : List ℕ) (kind : ℕ) → Lone kind q → byteOf u q ≡ getD u (numberOf q) 0
+  unfolding byteOf
+  read u kind w = ap (λ (men : List Piece). cond (empty men) 1 (getD u (numberOf q) 0)) (w .1 .1)
+
+  alone : (j k kind : ℕ) (r : Bool) → q ∈ next chess (boardAt (menOf (Material.Two j k r)) n) → Lone kind q
+      → byteOf (lentTo j l (q .men)) q ≡ 1 + d
+      → Cause (Material.Two j k r) l d t (boardAt (menOf (Material.Two j k r)) n .side)
+  alone j k kind r i w e =
+      let f : lentTo j l (q .men) ≡ lentFor j l kind = ap (lentTo j l) (w .1 .1) in
+      Cause.lower (lentFor j l kind) (lent-in j k kind r l) (numberOf q) (number-of-ending kind q legality w .0)
+      (λ o. half o i)
+      (sym (read (lentFor j l kind) kind w) ∙ ap (λ (u : List ℕ). byteOf u q) (sym f) ∙ e)
+    where
+      half : r ≡ false → q ∈ next chess (boardAt (menOf (Material.Two j k r)) n)
+          → numberOf q / 64 / 462 ≡ 1 - boardAt (menOf (Material.Two j k r)) n .side
+      half o i =
+          let z : w .0 ≡ 0 =
+          white-left j k kind (w .0) (w .1 .0) n q
+          (subst (λ (x : Bool). q ∈ next chess (boardAt (menOf (Material.Two j k x)) n)) o i) (w .1 .1) in
+          number-side kind q legality (subst (λ (c : ℕ). LoneOf kind c q) z (w .1)) .1
+          ∙ side-next (boardAt (menOf (Material.Two j k r)) n) q i
+
+  fewer : (m : Material) → q ∈ next chess (boardAt (menOf m) n) → Fewer m q → lentByte m l q ≡ 1 + d
+      → Cause m l d t (boardAt (menOf m) n .side)
+  fewer (Material.One kind) i f e = absurd (omega arith)
+  fewer (Material.Two j k r) i (inl f) e = absurd (bare (lentTo j l (q .men)) f e)
+  fewer (Material.Two j k r) i (inr (inl f)) e = alone j k j r i f e
+  fewer (Material.Two j k r) i (inr (inr f)) e = alone j k k r i f e
+
+module _ (m : Material) (w : T (known m)) (l : Lent) (k : ℕ) (t : List ℕ) (n : ℕ) (h : n < sizeOf m) where
+  abbrev board : Board
+  board = boardAt (menOf m) n
+
+  -- a number that pass k settles, k not 0, has a successor that holds depth k - 1
+  cause : 0 < k → T (settles chess (numbered m l) k t n) → Cause m l k t (board .side)
+  unfolding settles numbered
   cause some s =
-      let byte = requiredAt chess (reads chess (ending kind) t) (loneBoardAt kind n) in
-      let last = and-right (eqb (getD t n 0) 1) (legalNumber kind n && eqb byte (2 + k)) s in
-      let e = eqb→eq byte (2 + k) (and-right (legalNumber kind n) (eqb byte (2 + k)) last) in
+      let byte = requiredAt chess (reads chess (numbered m l) t) board in
+      let last = and-right (eqb (getD t n 0) 1) (legalNumberOf m n && eqb byte (2 + k)) s in
+      let e = eqb→eq byte (2 + k) (and-right (legalNumberOf m n) (eqb byte (2 + k)) last) in
       let b = byte-before
-      (required-rule (mated (loneBoardAt kind n))
-      (map (reads chess (ending kind) t) (next chess (loneBoardAt kind n)))) (omega (arith, e)) in
-      let w = map-out (reads chess (ending kind) t) (b .0) (next chess (loneBoardAt kind n)) (b .1) in
-      let d = ending-closed kind (loneBoardAt kind n) (w .0)
-      (live-at kind n h (and-left (legalNumber kind n) (eqb byte (2 + k)) last) .0) (w .1) in
-      go (w .0) (d .legality) (λ i. white-next kind (loneBoardAt kind n) (w .0) at-white (w .1) i)
-      (side-next (loneBoardAt kind n) (w .0) (w .1)) (sym (w .2) ∙ before (b .0) (sym e ∙ b .2))
-      (decided (not (empty (w .0 .men))))
+      (required-rule (mated board) (map (reads chess (numbered m l) t) (next chess board))) (omega (arith, e)) in
+      let v = map-out (reads chess (numbered m l) t) (b .0) (next chess board) (b .1) in
+      go (v .0)
+      (within-closed m board (v .0) (live-at m w n h (and-left (legalNumberOf m n) (eqb byte (2 + k)) last) .0) (v .1))
+      (v .1) (sym (v .2) ∙ before (b .0) (sym e ∙ b .2)) (decided (full m (v .0 .men)))
     where
       before : (b : ℕ) → 2 + k ≡ 1 + b → b ≡ 1 + k
       before b e = omega arith
 
-      at-white : LoneOf kind 0 (loneBoardAt kind n)
-      at-white = unfold loneBoardAt boardOf positionAt in (n % 64, refl)
+      go : (q : Board) → Within m q → q ∈ next chess board → reads chess (numbered m l) t q ≡ 1 + k
+          → T (full m (q .men)) ⊎ T (not (full m (q .men))) → Cause m l k t (board .side)
+      go q d i r (inl f) =
+          Cause.own (numberOf q) (number-live m w q d f .0)
+          (number-side-with m w q (numbers m w q d f) (standard-next m n q i w f) ∙ side-next board q i)
+          (sym (reads-inside chess (numbered m l) t q f) ∙ r)
+      go q d i r (inr o) =
+          fewer l k t n q (d .legality) some m i (fewer-of m q d (false-of o))
+          (sym (reads-outside chess (numbered m l) t q (false-of o)) ∙ r)
 
-      go : (q : Board) → T (legal q) → (T (not (empty (q .men))) → LoneOf kind 0 q)
-          → q .side ≡ 1 - loneBoardAt kind n .side → reads chess (ending kind) t q ≡ 1 + k
-          → T (not (empty (q .men))) ⊎ T (not (not (empty (q .men))))
-          → (m : ℕ) × (m < tableSize) × (m / 64 / 462 ≡ 1 - n / 64 / 462) × (getD t m 0 ≡ 1 + k)
-      go q l m side r (inl i) = let z = number-side kind q l (m i) in (
-        numberOf q,
-        z .0,
-        z .1 ∙ side
-            ∙ ap (λ (x : ℕ). 1 - x) (side-at kind n),
-        sym (reads-inside chess (ending kind) t q i) ∙ r,
-      )
-      go q l m side r (inr o) = let one : reads chess (ending kind) t q ≡ 1 =
-          reads-outside chess (ending kind) t q (false-of o) in absurd (omega (arith, one, r, some))
+-- ---- the numbers lent that a side's successors may have
 
-  pub quiet-white : n < 29568 → Quiet k t 29568 59136 → settles chess (ending kind) k t n ≡ false
-  quiet-white low q =
-      fails (settles chess (ending kind) k t n)
-      (λ s. let c = cause (q .later) s in q .absent .none (c .0) (omega (arith, c .2)) (c .1) (c .3))
+one-side : (m : Men) → m .colour ≡ 0 → OneSide (materialFor m)
+one-side m e = go (leb 4 (m .second))
+  where
+    go : (x : Bool) → OneSide
+        (cond x (Material.One (m .first)) (Material.Two (m .first) (m .second) (eqb (m .colour) 1)))
+    go true = tt
+    go false = ap (λ (c : ℕ). eqb c 1) e
 
-  pub quiet-black : 29568 ≤ n → Quiet k t 0 29568 → settles chess (ending kind) k t n ≡ false
-  quiet-black high q =
-      fails (settles chess (ending kind) k t n)
-      (λ s. let c = cause (q .later) s in q .absent .none (c .0) (omega arith) (omega (arith, c .2)) (c .3))
+in-upper : (m : Men) (i : ℕ) → (OneSide (materialFor m) → i / 64 / 462 ≡ 1) → lowOf m ≤ i
+in-upper m i f = go (eqb (m .colour) 0) refl
+  where
+    go : (x : Bool) → eqb (m .colour) 0 ≡ x → cond x 29568 0 ≤ i
+    go true e = let z = f (one-side m (eqb-true (m .colour) 0 e)) in omega arith
+    go false e = omega arith
 
-  -- in place: the half's answer, asked of the table at the pass's start
-  pub quiet-in-place : (u : List ℕ) (white black may : Bool) → (white ≡ false → Quiet k t 29568 59136)
-      → (black ≡ false → Quiet k t 0 29568) → may ≡ cond (ltb n 29568) white black
-      → Upto (passByte chess (ending kind) k t) t u n → may ≡ false → settles chess (ending kind) k u n ≡ false
-  quiet-in-place u white black may fw fb e up off =
-      settles-in-place chess (ending kind) k t u n up ∙ go (le-or-lt 29568 n)
+in-lower : (m : Men) (i : ℕ) → i < tableSize → (OneSide (materialFor m) → i / 64 / 462 ≡ 0) → i < highOf m
+in-lower m i h f = go (eqb (m .colour) 0) refl
+  where
+    go : (x : Bool) → eqb (m .colour) 0 ≡ x → i < cond x 29568 59136
+    go true e = let z = f (one-side m (eqb-true (m .colour) 0 e)) in omega arith
+    go false e = omega arith
+
+module _ (men : Men) (l : Lent) (k : ℕ) (t : List ℕ) where
+  abbrev m : Material
+  m = materialFor men
+
+  abbrev pub WhiteQuiet : Type 0
+  WhiteQuiet = Quiet m l k t (sizeOf m / 2) (sizeOf m) (lowOf men) tableSize
+
+  abbrev pub BlackQuiet : Type 0
+  BlackQuiet = Quiet m l k t 0 (sizeOf m / 2) 0 (highOf men)
+
+  module _ (w : T (known (materialFor men))) (n : ℕ) (h : n < sizeOf (materialFor men)) where
+    quiet-white : n < sizeOf m / 2 → WhiteQuiet → settles chess (numbered m l) k t n ≡ false
+    quiet-white low q =
+        fails (settles chess (numbered m l) k t n) (λ s. none (cause m w l k t n h (q .later) s))
+      where
+        none : Cause m l k t (boardAt (menOf m) n .side) → ⊥
+        none (Cause.own i b e r) =
+            q .absent .none i (above-side m i (e ∙ ap (λ (x : ℕ). 1 - x) (side-below m n low))) b r
+        none (Cause.lower u g i b e r) =
+            q .lent u g .none i (in-upper men i (λ o. e o ∙ ap (λ (x : ℕ). 1 - x) (side-below m n low))) b r
+
+    quiet-black : sizeOf m / 2 ≤ n → BlackQuiet → settles chess (numbered m l) k t n ≡ false
+    quiet-black high q =
+        fails (settles chess (numbered m l) k t n) (λ s. none (cause m w l k t n h (q .later) s))
+      where
+        none : Cause m l k t (boardAt (menOf m) n .side) → ⊥
+        none (Cause.own i b e r) =
+            q .absent .none i (omega arith) (below-side m i (e ∙ ap (λ (x : ℕ). 1 - x) (side-above m n h high))) r
+        none (Cause.lower u g i b e r) =
+            q .lent u g .none i (omega arith)
+            (in-lower men i b (λ o. e o ∙ ap (λ (x : ℕ). 1 - x) (side-above m n h high))) r
+
+    -- in place: the half's answer, asked of the table at the pass's start
+    pub quiet-in-place : (u : List ℕ) (white black may : Bool) → (white ≡ false → WhiteQuiet)
+        → (black ≡ false → BlackQuiet) → may ≡ cond (ltb n (sizeOf m / 2)) white black
+        → Upto (passByte chess (numbered m l) k t) t u n → may ≡ false → settles chess (numbered m l) k u n ≡ false
+    quiet-in-place u white black may fw fb e up off =
+        settles-in-place chess (numbered m l) k t u n up ∙ go (le-or-lt (sizeOf m / 2) n)
+      where
+        go : (sizeOf m / 2 ≤ n) ⊎ (n < sizeOf m / 2) → settles chess (numbered m l) k t n ≡ false
+        go (inl high) = let z : may ≡ black = e
+            ∙ ap (λ (b : Bool). cond b white black) (le-ltb n (sizeOf m / 2) high) in
+            quiet-black high (fb (sym z ∙ off))
+        go (inr low) = let z : may ≡ white = e
+            ∙ ap (λ (b : Bool). cond b white black) (lt-ltb n (sizeOf m / 2) low) in
+            quiet-white low (fw (sym z ∙ off))
+
+-- as the code has it: the table has the ending's size
+pub quiet-here : (m : Men) (first second t : List ℕ) → Admitted m first second t → (k n : ℕ) → n < length t
+    → (u : List ℕ) (white black may : Bool)
+    → (white ≡ false → Quiet (materialFor m) (lent first second) k t (length t / 2) (length t) (lowOf m) 59136)
+    → (black ≡ false → Quiet (materialFor m) (lent first second) k t 0 (length t / 2) 0 (highOf m))
+    → may ≡ cond (ltb n (length t / 2)) white black → Upto (passByte chess (over m first second) k t) t u n
+    → may ≡ false → settles chess (over m first second) k u n ≡ false
+quiet-here m first second t a k n h u white black may fw fb e up off =
+    go (length t) (long m first second t a) h fw fb e
+  where
+    go : (s : ℕ) → s ≡ sizeOf (materialFor m) → n < s
+        → (white ≡ false → Quiet (materialFor m) (lent first second) k t (s / 2) s (lowOf m) 59136)
+        → (black ≡ false → Quiet (materialFor m) (lent first second) k t 0 (s / 2) 0 (highOf m))
+        → may ≡ cond (ltb n (s / 2)) white black → settles chess (over m first second) k u n ≡ false
+    go s z =
+        subst⁻¹ (λ (s : ℕ). n < s
+        → (white ≡ false → Quiet (materialFor m) (lent first second) k t (s / 2) s (lowOf m) 59136)
+        → (black ≡ false → Quiet (materialFor m) (lent first second) k t 0 (s / 2) 0 (highOf m))
+        → may ≡ cond (ltb n (s / 2)) white black → settles chess (over m first second) k u n ≡ false) z
+        (λ h fw fb e. quiet-in-place m (lent first second) k t (a .ending) n h u white black may fw fb e up off)
+
+-- ---- nothing found
+
+module _ (m : Men) (l : Lent) (k : ℕ) (t : List ℕ) (from to low high : ℕ) (z : k ≡ 0 → ⊥)
+    (a : Absent t (1 + k) from to) where
+  positive : 0 < k
+  positive = omega arith
+
+  none-in-any : (bs : List (List ℕ)) → borrowed (materialFor m) l ≡ bs
+      → ((u : List ℕ) → u ∈ bs → Absent u (1 + k) low high) → Quiet (materialFor m) l k t from to low high
+  none-in-any bs e f =
+      record { later = positive; absent = a; lent = λ u i. f u (subst (λ (l : List (List ℕ)). u ∈ l) e i) }
+
+  -- with one man nothing is lent
+  pub quiet-one : 4 ≤ m .second → Quiet (materialFor m) l k t from to low high
+  quiet-one h =
+      none-in-any []
+      (ap (λ (x : Bool). borrowed
+      (cond x (Material.One (m .first)) (Material.Two (m .first) (m .second) (eqb (m .colour) 1))) l)
+      (le-leb 4 (m .second) h)) (λ u i. absurd (none-in refl i))
+
+  -- with two, both lent tables are asked
+  pub quiet-two : m .second < 4 → Absent (l .first) (1 + k) low high → Absent (l .second) (1 + k) low high
+      → Quiet (materialFor m) l k t from to low high
+  quiet-two h b c =
+      none-in-any (l .first ∷ l .second ∷ [])
+      (ap (λ (x : Bool). borrowed
+      (cond x (Material.One (m .first)) (Material.Two (m .first) (m .second) (eqb (m .colour) 1))) l)
+      (lt-leb 4 (m .second) h)) either
     where
-      go : (29568 ≤ n) ⊎ (n < 29568) → settles chess (ending kind) k t n ≡ false
-      go (inl high) = let z : may ≡ black = e
-          ∙ ap (λ (b : Bool). cond b white black) (le-ltb n 29568 high) in quiet-black high (fb (sym z ∙ off))
-      go (inr low) = let z : may ≡ white = e
-          ∙ ap (λ (b : Bool). cond b white black) (lt-ltb n 29568 low) in quiet-white low (fw (sym z ∙ off))
+      either : (u : List ℕ) → u ∈ (l .first ∷ l .second ∷ []) → Absent u (1 + k) low high
+      either u (List·Memᴰ·head e) = subst⁻¹ (λ (v : List ℕ). Absent v (1 + k) low high) e b
+      either u (List·Memᴰ·tail (List·Memᴰ·head e)) = subst⁻¹ (λ (v : List ℕ). Absent v (1 + k) low high) e c
+
+pub quiet-low : (m : Men) (l : Lent) (k : ℕ) (t : List ℕ) (from to low high : ℕ) → low ≡ lowOf m
+    → Quiet (materialFor m) l k t from to low high → Quiet (materialFor m) l k t from to (lowOf m) high
+quiet-low m l k t from to low high e q = subst (λ (x : ℕ). Quiet (materialFor m) l k t from to x high) e q
+
+pub quiet-high : (m : Men) (l : Lent) (k : ℕ) (t : List ℕ) (from to low high : ℕ) → high ≡ highOf m
+    → Quiet (materialFor m) l k t from to low high → Quiet (materialFor m) l k t from to low (highOf m)
+quiet-high m l k t from to low high e q = subst (Quiet (materialFor m) l k t from to low) e q
+
+pub high-most : (m : Men) (high : ℕ) → high ≡ highOf m → high ≤ 59136
+high-most m high e = subst⁻¹ (λ (x : ℕ). x ≤ 59136) e (go (eqb (m .colour) 0))
+  where
+    go : (x : Bool) → cond x 29568 59136 ≤ 59136
+    go true = omega arith
+    go false = omega arith
 
 -- ---- looking for a byte
 
@@ -104,9 +281,5 @@ module _ (t : List ℕ) (byte from : ℕ) where
       go m a b e (inl h) = let z : m ≡ n = omega arith in g (subst (λ (j : ℕ). getD t j 0 ≡ byte) z e)
       go m a b e (inr h) = f .none m a h e
 
-pub quiet-if : (k : ℕ) (t : List ℕ) (from to n : ℕ) → (k ≡ 0 → ⊥) → to ≤ n → Absent t (1 + k) from n → Quiet k t from to
-quiet-if k t from to n z h f =
-    record { later = positive k z; absent = record { none = λ m a b e. f .none m a (omega arith) e } }
-  where
-    positive : (k : ℕ) → (k ≡ 0 → ⊥) → 0 < k
-    positive k z = omega arith
+  pub absent-upto : (n to : ℕ) → to ≤ n → Absent t byte from n → Absent t byte from to
+  absent-upto n to h f = record { none = λ m a b e. f .none m a (omega arith) e }

@@ -1,6 +1,7 @@
--- The fill in steps (02, P8). On any bytes: what a step writes, what it says where it settles none, how many it settles. From a start: n steps leave
--- the true byte wherever the depth is less than n and the starting byte elsewhere, no 10 given; a run that has ended leaves what the single fill
--- leaves, and stays so; it gives 10 exactly where the single fill does.
+-- The fill in steps (02, P8). On any bytes: what a step writes, what it says where it settles none, how many it
+-- settles. From a start: n steps leave the true byte wherever the depth is less than n and the starting byte elsewhere,
+-- no 10 given; a run that has ended leaves what the single fill leaves, and stays so; it gives 10 exactly where the
+-- single fill does.
 use mathlib.Core.Path.{_≡_, refl, sym, ap, subst, _∙_}
 use mathlib.Core.Bool.{Bool, true, false, cond, not}
 use mathlib.Core.Logic.{_⊎_, inl, inr, _↔_}
@@ -38,9 +39,9 @@ use Rattle.endings.specs.laws.EndingLaws.{Turned, turned-alike, lawful, outer-t
 use Rattle.endings.specs.laws.Checking.{keyed-lone, keyed-ending}
 use Rattle.endings.specs.Answers.{resultOf, Fill, fillOf}
 use Rattle.filling.specs.declared.steps.Stepped.{Stepped}
-use Rattle.filling.specs.laws.Laws.{size-is, passed-none}
+use Rattle.filling.specs.laws.Laws.{passed-none}
 use Rattle.filling.specs.Steps.{Taken, saidOf, takenOf, refused, admitted, noneDeeper, startOf, stepAlone, stepOf, stepsOf, settledOf}
-use Rattle.filling.specs.laws.StepLaws.{start-is, step-is, step-going, alone-done, alone-more}
+use Rattle.filling.specs.laws.StepLaws.{size-is, start-is, step-is, step-going, alone-done, alone-more}
 
 -- ---- on any bytes
 
@@ -49,15 +50,16 @@ module _ (kind : ℕ) (t : List ℕ) (p : Progress) (known : kind < 4) (long : l
     abbrev k : ℕ
     k = min (p .next) 254
 
-    -- A STEP THAT SETTLES NONE SAYS DONE, with greatest depth k - 1, or none decided at k = 0, and the table stays: whatever the progress holds as last.
+    -- A STEP THAT SETTLES NONE SAYS DONE, with greatest depth k - 1, or none decided at k = 0, and the table stays:
+    -- whatever the progress holds as last.
     pub step-none : someSettles chess (ending kind) k t ≡ false
         → (stepOf kind t p .step .said ≡ Stepped.Says (resultOf (ended k))) × (stepOf kind t p .bytes ≡ t)
-    step-none e = let z = step-going kind t p known long on
+    step-none e = let z = step-going kind t known long p on
         ∙ alone-done kind k t e in (ap (λ (s : Taken). s .step .said) z, ap (λ (s : Taken). s .bytes) z)
 
     step-passed : k < 254 → stepOf kind t p .bytes ≡ passed chess (ending kind) k t
     step-passed h =
-        ap (λ (s : Taken). s .bytes) (step-going kind t p known long on) ∙ go (someSettles chess (ending kind) k t) refl
+        ap (λ (s : Taken). s .bytes) (step-going kind t known long p on) ∙ go (someSettles chess (ending kind) k t) refl
       where
         go : (b : Bool) → someSettles chess (ending kind) k t ≡ b
             → stepAlone kind k t .bytes ≡ passed chess (ending kind) k t
@@ -134,7 +136,7 @@ module _ (kind : ℕ) (t : List ℕ) (known : kind < 4) (long : length t ≡ tab
   unfolding stepsOf steps
   steps-is zero s l = refl
   steps-is (suc n) s l =
-      ap (stepsOf kind n) (step-is kind (s .bytes) (s .progress) known l)
+      ap (stepsOf kind n) (step-is kind (s .bytes) known l (s .progress))
       ∙ steps-is n (stepFrom chess (ending kind) noneDeeper (s .progress) (s .bytes))
       (from-length chess (ending kind) noneDeeper (s .progress) (s .bytes) ∙ l)
 
@@ -244,7 +246,8 @@ module _ (kind : ℕ) (t : List ℕ) (known : kind < 4) (long : length t ≡ tab
         ∙ runs.steps-zero chess (ending kind) (lawful kind) noneDeeper (outer-true kind) none-lent refl t sized n never
         i h v
 
-    -- The same of every legal position of the ending, whichever map, with colours exchanged or not, makes it its number's own board.
+    -- The same of every legal position of the ending, whichever map, with colours exchanged or not, makes it its
+    -- number's own board.
     pub steps-keyed : (p : Position) → manKind p ≡ kind → standingRefusal p ≡ 0
         → Settled chess n (boardOf p) (getD (run n .bytes) (numberOf (boardOf p)) 0)
     unfolding ending lawful boardOf

@@ -1,6 +1,6 @@
 -- One man is an instance: what is defined here for both sizes is what stands for one man, on every input.
 use mathlib.Core.Path.{_≡_, refl, sym, ap, ap₂, fun-ext, _∙_}
-use mathlib.Core.Bool.{Bool, true, false, cond, not, _&&_}
+use mathlib.Core.Bool.{Bool, false, cond, not, _&&_}
 use mathlib.Core.Logic.{_⊎_, inl, inr}
 use mathlib.Core.List.{List, [], _++_}
 use Prim.Native.Nat.{ℕ, _≤_, _<_}
@@ -24,22 +24,24 @@ use Rattle.position.specs.declared.Position.{Position}
 use Rattle.position.specs.Keyed.{slotMen, boardOf}
 use Rattle.position.specs.Refusals.{badMen, badMan, badSide, badSquare, sharedSquare, kingsTouch, placingRefusal, standingRefusal}
 use Rattle.position.specs.laws.PlacedLaws.{endingWith}
-use Rattle.index.specs.declared.Placed.{Placed}
-use Rattle.index.specs.Answers.{positionAt, unused, numberAnswer, placedAt}
+use Rattle.index.specs.Answers.{positionAt, numberAnswer, placedAt}
 use Rattle.index.specs.laws.AnswerLaws.{board-at, unused-exactly}
+use Rattle.index.specs.laws.AloneLaws as index
 use Rattle.endings.specs.Ending.{tableSize, loneBoardAt, legalNumber, byteOf, ending}
 use Rattle.endings.specs.Answers.{checkOf, fillOf, lookUpOf}
-use Rattle.endings.specs.GamePromise.{keyed}
 use Rattle.endings.specs.laws.Checking.{byte-reads}
-use Rattle.four_men.specs.Material.{Material, materialIn, Lent}
+use Rattle.numbering.specs.declared.Material.{Material}
+use Rattle.numbering.specs.Material.{materialIn}
+use Rattle.four_men.specs.Lending.{Lent}
 use Rattle.four_men.specs.Reading.{full, legalNumberOf, numbered, holdsDepth}
-use Rattle.four_men.specs.Refusals.{badMenOf, placingWith, standingWith}
-use Rattle.four_men.specs.Answers.{lengthsFit, checkWith, fillWith, lookUpWith, numberWith, placedWith}
+use Rattle.position.specs.Refusals.{badMenOf, placingWith, standingWith}
+use Rattle.index.specs.Answers.{numberWith, placedWith}
+use Rattle.four_men.specs.Answers.{lengthsFit, checkWith, fillWith, lookUpWith}
 use Rattle.four_men.specs.Steps.{Call, nothing, startWith, stepWith}
 
 -- ---- the numbering
 
-live-alone : (kind n : ℕ) → legalNumberOf (Material.one kind) n ≡ legalNumber kind n
+live-alone : (kind n : ℕ) → legalNumberOf (Material.One kind) n ≡ legalNumber kind n
 unfolding legalNumberOf legalNumber loneBoardAt
 live-alone kind n =
     ap (λ (b : Board). used b && legal b) (sym (board-at kind n))
@@ -49,12 +51,12 @@ at-alone : (kind n : ℕ) → boardAt (endingWith kind) n ≡ loneBoardAt kind n
 unfolding loneBoardAt
 at-alone kind n = sym (board-at kind n)
 
-pub numbered-alone : (kind : ℕ) (l : Lent) → numbered (Material.one kind) l ≡ ending kind
+pub numbered-alone : (kind : ℕ) (l : Lent) → numbered (Material.One kind) l ≡ ending kind
 unfolding numbered ending
 numbered-alone kind l =
     ap₂ (λ (at : ℕ → Board) (live : ℕ → Bool). record {
       size = tableSize;
-      inside = λ b. full (Material.one kind) (b .men);
+      inside = λ b. full (Material.One kind) (b .men);
       number = numberOf;
       at = at;
       live = live;
@@ -77,7 +79,7 @@ none-lent = fun-ext (λ k. refl)
 module _ (kind : ℕ) (l : Lent) (t : List ℕ) where
   -- ---- checking and filling
 
-  pub check-alone : checkWith (Material.one kind) l t ≡ checkOf kind t
+  pub check-alone : checkWith (Material.One kind) l t ≡ checkOf kind t
   unfolding checkWith checkOf
   check-alone = rw (not-known kind, numbered-alone kind l)
 
@@ -85,19 +87,19 @@ module _ (kind : ℕ) (l : Lent) (t : List ℕ) where
   fill-none = ap (λ (deeper : ℕ → Bool). filledUntil chess (ending kind) deeper t) none-lent
       ∙ filled-same chess (ending kind) t
 
-  pub fill-alone : fillWith (Material.one kind) l t ≡ fillOf kind t
+  pub fill-alone : fillWith (Material.One kind) l t ≡ fillOf kind t
   unfolding fillWith fillOf
   fill-alone = rw (not-known kind, numbered-alone kind l, fill-none)
 
 -- ---- filling in steps
 
-pub start-alone : (kind : ℕ) (t : List ℕ) → startWith (Material.one kind) t
+pub start-alone : (kind : ℕ) (t : List ℕ) → startWith (Material.One kind) t
     ≡ cond (leb 4 kind) (Call.refused 1)
     (cond (not (eqb (length t) tableSize)) (Call.refused 7) (Call.made (started chess (ending kind) t)))
 unfolding startWith
 start-alone kind t = rw (not-known kind, numbered-alone kind nothing)
 
-pub step-alone : (kind : ℕ) (l : Lent) (t : List ℕ) (p : Progress) → stepWith (Material.one kind) l t p
+pub step-alone : (kind : ℕ) (l : Lent) (t : List ℕ) (p : Progress) → stepWith (Material.One kind) l t p
     ≡ cond (leb 4 kind) (Call.refused 1)
     (cond (not (eqb (length t) tableSize)) (Call.refused 7)
     (Call.made (stepFrom chess (ending kind) (λ k. false) p t)))
@@ -127,7 +129,7 @@ pub number-alone : (p : Position) → p .second ≡ Absent → numberWith p ≡ 
 unfolding numberWith numberAnswer
 number-alone p e = rw (placing-alone p e)
 
-pub reads-alone : (kind : ℕ) (l : Lent) (t : List ℕ) → reads chess (numbered (Material.one kind) l) t ≡ byteOf t
+pub reads-alone : (kind : ℕ) (l : Lent) (t : List ℕ) → reads chess (numbered (Material.One kind) l) t ≡ byteOf t
 reads-alone kind l t = ap (λ (n : Numbering chess). reads chess n t) (numbered-alone kind l) ∙ sym (byte-reads kind t)
 
 -- of one man or none, whichever his kind
@@ -145,16 +147,5 @@ pub look-up-alone : (l : Lent) (t : List ℕ) (p : Position) → p .second ≡ A
 unfolding lookUpWith lookUpOf boardOf
 look-up-alone l t p e = rw (standing-alone p e, e, reads-few (p .first) l t, fit-few (p .first) l t)
 
-pub placed-alone : (kind n : ℕ) → placedWith (Material.one kind) n ≡ placedAt kind n
-unfolding placedWith placedAt
-placed-alone kind n = rw (not-known kind, ← board-at kind n, unused-exactly kind n)
-    (go (unused (positionAt kind n)))
-  where
-    go : (x : Bool) → cond {A = Placed} (leb 4 kind) (Placed.Refused 1)
-        (cond (leb tableSize n) (Placed.Refused 8)
-        (cond (not x) (Placed.At (keyed (boardOf (positionAt kind n)))) (Placed.Refused 9)))
-        ≡ cond (leb 4 kind) (Placed.Refused 1)
-        (cond (leb 59136 n) (Placed.Refused 8)
-        (cond x (Placed.Refused 9) (Placed.At (positionAt kind n))))
-    go true = refl
-    go false = unfold boardOf positionAt in refl
+pub placed-alone : (kind n : ℕ) → placedWith (Material.One kind) n ≡ placedAt kind n
+placed-alone kind n = index.placed-alone kind n

@@ -21,9 +21,11 @@ use Rattle.answers.specs.declared.Checked.{Checked}
 use Rattle.endings.specs.Ending.{Lone, Ending, byteOf}
 use Rattle.endings.specs.Truth.{TrueAnswer}
 use Rattle.endings.specs.Answers.{checkOf, lookUpOf}
-use Rattle.endings.specs.GamePromise.{keyed, moveOfAnswer, deskMove, Told, GamePromise}
+use Rattle.position.specs.Keyed.{keyed}
+use Rattle.endings.specs.GamePromise.{moveOfAnswer, deskMove, Told, GamePromise}
 use Rattle.endings.specs.laws.EndingDrawn.{ending-closed}
-use Rattle.four_men.specs.Material.{Material, OfMaterial}
+use Rattle.numbering.specs.declared.Material.{Material}
+use Rattle.numbering.specs.Material.{OfMaterial}
 use Rattle.four_men.specs.Steps.{nothing}
 use Rattle.four_men.specs.GamePromise.{lookedUp, deskMoveWith, GamePromiseWith}
 use Rattle.four_men.specs.laws.Alone.{check-alone, reads-alone, look-up-alone}
@@ -33,7 +35,7 @@ use Rattle.four_men.specs.laws.Games.{second-none, games-with}
 
 module _ (D : Board → Type 0) (closed : (b q : Board) → D b → (v : Move) → v ∈ moves b → q ≡ played b v → D q)
     (pick other : Board → Option Move) (same : (b : Board) → D b → pick b ≡ other b) where
-  follows-same : (side : Bool) (b : Board) (ms : List Move) → D b → LegalGame chess b ms
+  pub follows-same : (side : Bool) (b : Board) (ms : List Move) → D b → LegalGame chess b ms
       → Follows chess pick side b ms → Follows chess other side b ms
   follows-same side b [] d g f = tt
   follows-same side b (v ∷ ms) d g f = (
@@ -68,28 +70,28 @@ module _ (D : Board → Type 0) (closed : (b q : Board) → D b → (v : Move) �
 -- ---- one man
 
 module _ (kind : ℕ) (t : List ℕ) where
-  looked-alone : (b : Board) → Lone kind b → lookedUp (Material.one kind) nothing t b ≡ lookUpOf t (keyed b)
+  looked-alone : (b : Board) → Lone kind b → lookedUp (Material.One kind) nothing t b ≡ lookUpOf t (keyed b)
   unfolding lookedUp
   looked-alone b w = look-up-alone nothing t (keyed b) (second-none kind b w)
 
-  desk-alone : (b : Board) → Ending kind b → deskMoveWith (Material.one kind) nothing t b ≡ deskMove t b
+  pub desk-alone : (b : Board) → Ending kind b → deskMoveWith (Material.One kind) nothing t b ≡ deskMove t b
   unfolding deskMoveWith deskMove
   desk-alone b d = go (d .men)
     where
       go : (b .men ≡ []) ⊎ Lone kind b
-          → cond (empty (b .men)) none (moveOfAnswer (lookedUp (Material.one kind) nothing t b))
+          → cond (empty (b .men)) none (moveOfAnswer (lookedUp (Material.One kind) nothing t b))
           ≡ cond (empty (b .men)) none (moveOfAnswer (lookUpOf t (keyed b)))
       go (inl e) =
           subst⁻¹ (λ (ms : List Piece). cond (empty ms) none
-          (moveOfAnswer (lookedUp (Material.one kind) nothing t b))
+          (moveOfAnswer (lookedUp (Material.One kind) nothing t b))
           ≡ cond (empty ms) none (moveOfAnswer (lookUpOf t (keyed b)))) e refl
       go (inr w) = ap (λ (a : Answer). cond (empty (b .men)) none (moveOfAnswer a)) (looked-alone b w)
 
-  lone-material : (b : Board) → Lone kind b → OfMaterial (Material.one kind) b
+  pub lone-material : (b : Board) → Lone kind b → OfMaterial (Material.One kind) b
   unfolding materialOf
   lone-material b w = ap materialOf (w .1 .1)
 
-  closed : (b q : Board) → Ending kind b → (v : Move) → v ∈ moves b → q ≡ played b v → Ending kind q
+  pub closed : (b q : Board) → Ending kind b → (v : Move) → v ∈ moves b → q ≡ played b v → Ending kind q
   closed b q d v i e = subst⁻¹ (Ending kind) e (ending-closed kind b (played b v) d (map-in (played b) i))
 
   -- THREE-MAN GAMES FOLLOW: what is promised of a game with one man and his table.
@@ -100,9 +102,9 @@ module _ (kind : ℕ) (t : List ℕ) where
     told = subst (λ (a : Answer). Told a side b ms) (looked-alone b w) (whole .told);
     answers = λ i h n. answer (atPly chess b ms i) (man i n) (whole .answers i h n);
     bare = whole .bare;
-    promised = promised-same (Ending kind) closed (deskMoveWith (Material.one kind) nothing t) (deskMove t) desk-alone
+    promised = promised-same (Ending kind) closed (deskMoveWith (Material.One kind) nothing t) (deskMove t) desk-alone
         (byteOf t) side b ms start game (back (not side))
-        (subst (λ (bytes : Board → ℕ). Promised chess bytes (deskMoveWith (Material.one kind) nothing t) side b ms)
+        (subst (λ (bytes : Board → ℕ). Promised chess bytes (deskMoveWith (Material.One kind) nothing t) side b ms)
         (reads-alone kind nothing t) (whole .promised));
   }
     where
@@ -110,15 +112,15 @@ module _ (kind : ℕ) (t : List ℕ) where
       start = record { legality = g; men = inr w }
 
       back : (s : Bool) → Follows chess (deskMove t) s b ms
-          → Follows chess (deskMoveWith (Material.one kind) nothing t) s b ms
-      back s = follows-same (Ending kind) closed (deskMove t) (deskMoveWith (Material.one kind) nothing t)
+          → Follows chess (deskMoveWith (Material.One kind) nothing t) s b ms
+      back s = follows-same (Ending kind) closed (deskMove t) (deskMoveWith (Material.One kind) nothing t)
           (λ c d. sym (desk-alone c d)) s b ms start game
 
-      whole : GamePromiseWith (Material.one kind) nothing t side b ms
-      whole = games-with (Material.one kind) nothing t (check-alone kind nothing t ∙ ok) b g (lone-material b w) side ms
+      whole : GamePromiseWith (Material.One kind) nothing t side b ms
+      whole = games-with (Material.One kind) nothing t (check-alone kind nothing t ∙ ok) b g (lone-material b w) side ms
           game (back side follows)
 
-      answer : (c : Board) → Lone kind c → TrueAnswer c (lookedUp (Material.one kind) nothing t c)
+      answer : (c : Board) → Lone kind c → TrueAnswer c (lookedUp (Material.One kind) nothing t c)
           → TrueAnswer c (lookUpOf t (keyed c))
       answer c x a = subst (TrueAnswer c) (looked-alone c x) a
 

@@ -1,4 +1,5 @@
--- What a move leaves: all the men, one of two alone, or bare kings. So an ending with what its captures leave is closed.
+-- What a move leaves: all the men, one of two alone, or bare kings. So an ending with what its captures leave is
+-- closed.
 use mathlib.Core.Path.{_≡_, refl, sym, ap, subst, subst⁻¹, _∙_}
 use mathlib.Core.Bool.{Bool, true, false, not}
 use mathlib.Core.Logic.{_⊎_, inl, inr, ⊎-elim}
@@ -18,7 +19,8 @@ use Rattle.rules.specs.Chess.{chess, played, next-legal}
 use Rattle.numbering.specs.Men.{materialOf}
 use Rattle.endings.specs.Ending.{Lone}
 use Rattle.endings.specs.laws.EndingDrawn.{ending-closed, bare-over}
-use Rattle.four_men.specs.Material.{Material, OfMaterial}
+use Rattle.numbering.specs.declared.Material.{Material}
+use Rattle.numbering.specs.Material.{OfMaterial}
 use Rattle.four_men.specs.Reading.{Fewer, Within, full}
 use Rattle.four_men.specs.laws.Materials.{one-of, two-of, both-kinds, few-of, full-of}
 
@@ -59,22 +61,22 @@ leaves-next b q h =
 
 -- a man of one of the two kinds
 either-kind : (j k i : ℕ) (r : Bool) (q : Board) → (i ≡ j) ⊎ (i ≡ k) → LoneMan i (q .men)
-    → Fewer (Material.two j k r) q
+    → Fewer (Material.Two j k r) q
 either-kind j k i r q (inl e) w = inr (inl (subst (λ (x : ℕ). Lone x q) e w))
 either-kind j k i r q (inr e) w = inr (inr (subst (λ (x : ℕ). Lone x q) e w))
 
 own-next : (m : Material) (b q : Board) → OfMaterial m b → q ∈ next chess b → OfMaterial m q ⊎ Fewer m q
-own-next (Material.one kind) b q e h =
+own-next (Material.One kind) b q e h =
     let w = one-of kind (b .men) e in
     ⊎-elim (λ r. inl (r ∙ ap materialOf (sym (w .1)) ∙ e)) (λ r. inr r)
     (subst (λ (l : List Piece). Leaves l (q .men)) (w .1) (leaves-next b q h))
-own-next (Material.two j k r) b q e h =
+own-next (Material.Two j k r) b q e h =
     let w = two-of j k r (b .men) e in
     go (w .0) (w .1) (w .2) (both-kinds j k r (w .0) (w .1) (w .3))
     (subst (λ (l : List Piece). Leaves l (q .men)) (w .2) (leaves-next b q h))
   where
     go : (a c : Piece) → b .men ≡ a ∷ c ∷ [] → ((a .kind ≡ j) ⊎ (a .kind ≡ k)) × ((c .kind ≡ j) ⊎ (c .kind ≡ k))
-        → Leaves (a ∷ c ∷ []) (q .men) → OfMaterial (Material.two j k r) q ⊎ Fewer (Material.two j k r) q
+        → Leaves (a ∷ c ∷ []) (q .men) → OfMaterial (Material.Two j k r) q ⊎ Fewer (Material.Two j k r) q
     go a c f x (inl v) = inl (v ∙ ap materialOf (sym f) ∙ e)
     go a c f x (inr (inl v)) = inr (inl v)
     go a c f x (inr (inr (inl v))) = inr (either-kind j k (a .kind) r q (x .0) v)
@@ -83,13 +85,13 @@ own-next (Material.two j k r) b q e h =
 -- ---- closed
 
 pub fewer-next : (m : Material) (b q : Board) → Within m b → Fewer m b → q ∈ next chess b → Fewer m q
-fewer-next (Material.one kind) b q d e h = absurd (none-in (ap (map (played b)) (bare-over b (d .legality) e)) h)
-fewer-next (Material.two j k r) b q d (inl e) h =
+fewer-next (Material.One kind) b q d e h = absurd (none-in (ap (map (played b)) (bare-over b (d .legality) e)) h)
+fewer-next (Material.Two j k r) b q d (inl e) h =
     absurd (none-in (ap (map (played b)) (bare-over b (d .legality) e)) h)
-fewer-next (Material.two j k r) b q d (inr (inl l)) h =
+fewer-next (Material.Two j k r) b q d (inr (inl l)) h =
     ⊎-elim (λ e. inl e) (λ x. inr (inl x))
     (ending-closed j b q (record { legality = d .legality; men = inr l }) h .men)
-fewer-next (Material.two j k r) b q d (inr (inr l)) h =
+fewer-next (Material.Two j k r) b q d (inr (inr l)) h =
     ⊎-elim (λ e. inl e) (λ x. inr (inr x))
     (ending-closed k b q (record { legality = d .legality; men = inr l }) h .men)
 
@@ -107,16 +109,16 @@ within-few m b d = record { legality = d .legality; few = go m (d .men) }
   where
     go : (m : Material) → OfMaterial m b ⊎ Fewer m b → Few (b .men)
     go m (inl e) = few-of m (b .men) e
-    go (Material.one kind) (inr e) = subst⁻¹ Few e tt
-    go (Material.two j k r) (inr (inl e)) = subst⁻¹ Few e tt
-    go (Material.two j k r) (inr (inr (inl w))) = subst⁻¹ Few (w .1 .1) tt
-    go (Material.two j k r) (inr (inr (inr w))) = subst⁻¹ Few (w .1 .1) tt
+    go (Material.One kind) (inr e) = subst⁻¹ Few e tt
+    go (Material.Two j k r) (inr (inl e)) = subst⁻¹ Few e tt
+    go (Material.Two j k r) (inr (inr (inl w))) = subst⁻¹ Few (w .1 .1) tt
+    go (Material.Two j k r) (inr (inr (inr w))) = subst⁻¹ Few (w .1 .1) tt
 
 pub fewer-not-full : (m : Material) (b : Board) → Fewer m b → full m (b .men) ≡ false
-fewer-not-full (Material.one kind) b e = ap (full (Material.one kind)) e
-fewer-not-full (Material.two j k r) b (inl e) = ap (full (Material.two j k r)) e
-fewer-not-full (Material.two j k r) b (inr (inl w)) = ap (full (Material.two j k r)) (w .1 .1)
-fewer-not-full (Material.two j k r) b (inr (inr w)) = ap (full (Material.two j k r)) (w .1 .1)
+fewer-not-full (Material.One kind) b e = ap (full (Material.One kind)) e
+fewer-not-full (Material.Two j k r) b (inl e) = ap (full (Material.Two j k r)) e
+fewer-not-full (Material.Two j k r) b (inr (inl w)) = ap (full (Material.Two j k r)) (w .1 .1)
+fewer-not-full (Material.Two j k r) b (inr (inr w)) = ap (full (Material.Two j k r)) (w .1 .1)
 
 pub own-of : (m : Material) (b : Board) → Within m b → T (full m (b .men)) → OfMaterial m b
 own-of m b d t = go (d .men)

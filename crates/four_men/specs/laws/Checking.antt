@@ -1,5 +1,6 @@
--- Checking accepts a table exactly when it is the true one and the lent ones are accepted; 17 is given exactly where one of these is not (demand 2).
-use mathlib.Core.Path.{_≡_, refl, subst}
+-- Checking accepts a table exactly when it is the true one and the lent ones are accepted; 17 is given exactly where
+-- one of these is not (demand 2).
+use mathlib.Core.Path.{_≡_, refl, sym, subst, _∙_}
 use mathlib.Core.Bool.{Bool, true, false, cond, not}
 use mathlib.Core.Logic.{inl, _↔_}
 use mathlib.Core.List.{List}
@@ -17,10 +18,13 @@ use Rattle.rules.specs.Chess.{chess}
 use Rattle.numbering.specs.Keys.{boardAt}
 use Rattle.answers.specs.declared.Checked.{Checked}
 use Rattle.endings.specs.Ending.{tableSize}
-use Rattle.four_men.specs.Material.{Material, known, menOf, largeSize, sizeOf, Lent}
+use Rattle.numbering.specs.declared.Material.{Material}
+use Rattle.numbering.specs.Material.{known, menOf, largeSize, sizeOf}
+use Rattle.four_men.specs.Lending.{Lent}
 use Rattle.four_men.specs.Reading.{numbered}
 use Rattle.four_men.specs.Answers.{lengthsFit, lentAccepted, checkWith}
 use Rattle.four_men.specs.Truth.{TrueTableOf}
+use Rattle.four_men.specs.CheckedTrue.{CheckPromiseWith}
 use Rattle.four_men.specs.laws.Materials.{full-of}
 use Rattle.four_men.specs.laws.Captures.{own-of}
 use Rattle.four_men.specs.laws.Numbered.{live-at, lawfulWith}
@@ -28,8 +32,8 @@ use Rattle.four_men.specs.laws.Lent.{outer-true-with}
 
 -- the lengths that fit
 pub long-of : (m : Material) (l : Lent) (t : List ℕ) → T (lengthsFit m l t) → length t ≡ sizeOf m
-long-of (Material.one kind) l t h = eqb→eq (length t) tableSize h
-long-of (Material.two j k r) l t h = eqb→eq (length t) largeSize (and-left (eqb (length t) largeSize) _ h)
+long-of (Material.One kind) l t h = eqb→eq (length t) tableSize h
+long-of (Material.Two j k r) l t h = eqb→eq (length t) largeSize (and-left (eqb (length t) largeSize) _ h)
 
 module _ (m : Material) (w : T (known m)) (l : Lent) (t : List ℕ) (ok : T (lentAccepted m l)) where
   -- the true table in the words of chess and of `table_theory`
@@ -137,6 +141,14 @@ module _ (m : Material) (l : Lent) (t : List ℕ) where
         (of-true (r .0), of-true (r .1), r .2),
     λ x. rw (true-of {b = known m} (x .0), true-of {b = lengthsFit m l t} (x .1), x .2),
   )
+
+  -- the definition's answer keeps the promise
+  pub check-promised-with : (r : Checked) → r ≡ checkWith m l t → CheckPromiseWith m l t r
+  check-promised-with r e = record {
+    answered = e;
+    true-only = (λ a. accepts-true-with .0 (sym e ∙ a), λ x. e ∙ accepts-true-with .1 x);
+    not-accepted = (λ a. checked-17 .0 (sym e ∙ a), λ x. e ∙ checked-17 .1 x);
+  }
 
 -- the checker accepts one table for each ending
 pub one-accepted-with : (m : Material) (l : Lent) (t u : List ℕ) → checkWith m l t ≡ Checked.Accepted

@@ -1,4 +1,5 @@
--- After a fill every legal position's byte is its true value and depth; 17, like 1 and 7, leaves the table as it was (demand 2).
+-- After a fill every legal position's byte is its true value and depth; 17, like 1 and 7, leaves the table as it was
+-- (demand 2).
 use mathlib.Core.Path.{_≡_, refl, ap}
 use mathlib.Core.Bool.{Bool, true, false, cond, not}
 use mathlib.Core.Logic.{inl, _↔_}
@@ -16,7 +17,9 @@ use Rattle.rules.specs.Chess.{chess}
 use Rattle.answers.specs.declared.Filled.{Filled}
 use Rattle.answers.specs.declared.Checked.{Checked}
 use Rattle.endings.specs.Answers.{resultOf, Fill}
-use Rattle.four_men.specs.Material.{Material, known, Lent, borrowed}
+use Rattle.numbering.specs.declared.Material.{Material}
+use Rattle.numbering.specs.Material.{known}
+use Rattle.four_men.specs.Lending.{Lent, borrowed}
 use Rattle.four_men.specs.Reading.{numbered, holdsDepth}
 use Rattle.four_men.specs.Answers.{lengthsFit, lentAccepted, checkWith, fillWith}
 use Rattle.four_men.specs.Truth.{TrueTableOf, DecidedOf, FillTrueOf, LentBytes}
@@ -83,7 +86,8 @@ module _ (m : Material) (l : Lent) (t : List ℕ) where
     unfolding numbered
     sized = long-of m l t long
 
-    -- FILLING LEAVES THE TRUE TABLE and gives the greatest depth settled, or says that none is decided, or gives 10 and clears it.
+    -- FILLING LEAVES THE TRUE TABLE and gives the greatest depth settled, or says that none is decided, or gives 10 and
+    -- clears it.
     pub filled-true-with : LentBytes m l → FillTrueOf m (fillWith m l t)
     unfolding numbered lawfulWith FillRight
     filled-true-with small =
@@ -121,8 +125,8 @@ module _ (m : Material) (l : Lent) (t : List ℕ) where
     filled-accepted-with small no? = go (filled-true-with small)
       where
         fits : (m : Material) (u : List ℕ) → length u ≡ length t → T (lengthsFit m l t) → T (lengthsFit m l u)
-        fits (Material.one kind) u e h = rw e h
-        fits (Material.two j k r) u e h = rw e h
+        fits (Material.One kind) u e h = rw e h
+        fits (Material.Two j k r) u e h = rw e h
 
         accept : TrueTableOf m (fillWith m l t .bytes) → checkWith m l (fillWith m l t .bytes) ≡ Checked.Accepted
         accept v = accepts-true-with m l (fillWith m l t .bytes) .1

@@ -1,5 +1,6 @@
--- DEMAND 3, in one theorem for one man and for two: every list of legal moves from any legal position of an ending, through captures until bare kings,
--- in which one side, either one, plays the moves that look-up gives with tables that checking accepted and that stay as they are.
+-- DEMAND 3, in one theorem for one man and for two: every list of legal moves from any legal position of an ending,
+-- through captures until bare kings, in which one side, either one, plays the moves that look-up gives with tables that
+-- checking accepted and that stay as they are.
 use mathlib.Core.Path.{_≡_, refl, sym, ap, subst, subst⁻¹, _∙_}
 use mathlib.Core.Bool.{Bool, false, cond}
 use mathlib.Core.Logic.{_⊎_, inl, inr}
@@ -27,12 +28,15 @@ use Rattle.answers.specs.declared.Checked.{Checked}
 use Rattle.endings.specs.Ending.{Lone, Ending, byteOf}
 use Rattle.endings.specs.Truth.{TrueAnswer}
 use Rattle.endings.specs.Answers.{checkOf, adviceOf, mappedAdvice, chosen, lookUpOf}
-use Rattle.endings.specs.GamePromise.{slotOf, others, keyed, given, moveOfAnswer, deskMove}
+use Rattle.position.specs.Keyed.{slotOf, others, keyed}
+use Rattle.endings.specs.GamePromise.{given, moveOfAnswer, deskMove}
 use Rattle.endings.specs.laws.EndingDrawn.{ending-closed, bare-over, bare-drawn}
 use Rattle.endings.specs.laws.Turning.{normal-ending}
 use Rattle.endings.specs.laws.LookingUp.{over-none}
 use Rattle.endings.specs.laws.Games.{answer-move, told-by, desk-chosen, board-answer}
-use Rattle.four_men.specs.Material.{Material, OfMaterial, materialIn, Lent}
+use Rattle.numbering.specs.declared.Material.{Material}
+use Rattle.numbering.specs.Material.{OfMaterial, materialIn}
+use Rattle.four_men.specs.Lending.{Lent}
 use Rattle.four_men.specs.Reading.{Fewer, Within, full, lentFor, numbered}
 use Rattle.four_men.specs.Answers.{checkWith, lookUpWith}
 use Rattle.four_men.specs.GamePromise.{tableThen, lookedUp, deskMoveWith, GamePromiseWith}
@@ -65,8 +69,8 @@ module _ (m : Material) (l : Lent) (t : List ℕ) (ok : checkWith m l t ≡ Chec
     own-table = go m e
       where
         go : (m : Material) → OfMaterial m b → tableThen m l t (b .men) ≡ t
-        go (Material.one kind) e = refl
-        go (Material.two j k r) e = ap (tableThen (Material.two j k r) l t) (two-of j k r (b .men) e .2)
+        go (Material.One kind) e = refl
+        go (Material.Two j k r) e = ap (tableThen (Material.Two j k r) l t) (two-of j k r (b .men) e .2)
 
     own-manned : Manned (b .men)
     own-manned = manned m (accepted-with m l t ok .0) b (full-of m (b .men) e)
@@ -111,53 +115,53 @@ first-same f g (v ∷ l) h = rw (h v (List·Memᴰ·head refl), first-same f g l
 
 -- ---- a man left alone: he is looked up in his own ending's table
 
-module _ (j k : ℕ) (r : Bool) (l : Lent) (t : List ℕ) (ok : checkWith (Material.two j k r) l t ≡ Checked.Accepted)
+module _ (j k : ℕ) (r : Bool) (l : Lent) (t : List ℕ) (ok : checkWith (Material.Two j k r) l t ≡ Checked.Accepted)
     (kind : ℕ) (s : (kind ≡ j) ⊎ (kind ≡ k)) where
   abbrev small : List ℕ
   small = lentFor j l kind
 
   small-ok : checkOf kind small ≡ Checked.Accepted
-  small-ok = own-accepted j k r l (accepted-with (Material.two j k r) l t ok .2) kind s
+  small-ok = own-accepted j k r l (accepted-with (Material.Two j k r) l t ok .2) kind s
 
   -- what is read of his ending is read in that table
-  lone-byte : (b : Board) → Ending kind b → bytesOf (Material.two j k r) l t ok b ≡ byteOf small b
+  lone-byte : (b : Board) → Ending kind b → bytesOf (Material.Two j k r) l t ok b ≡ byteOf small b
   unfolding numbered
   lone-byte b d =
-      reads-outside chess (numbered (Material.two j k r) l) t b (taken (d .men)) ∙ lower-byte j k r l kind b d
+      reads-outside chess (numbered (Material.Two j k r) l) t b (taken (d .men)) ∙ lower-byte j k r l kind b d
     where
-      taken : (b .men ≡ []) ⊎ Lone kind b → full (Material.two j k r) (b .men) ≡ false
-      taken (inl e) = ap (full (Material.two j k r)) e
-      taken (inr w) = ap (full (Material.two j k r)) (w .1 .1)
+      taken : (b .men ≡ []) ⊎ Lone kind b → full (Material.Two j k r) (b .men) ≡ false
+      taken (inl e) = ap (full (Material.Two j k r)) e
+      taken (inr w) = ap (full (Material.Two j k r)) (w .1 .1)
 
   module _ (b : Board) (g : T (legal b)) (w : Lone kind b) where
     lone-ending : Ending kind b
     lone-ending = record { legality = g; men = inr w }
 
-    lone-looked : lookedUp (Material.two j k r) l t b ≡ lookUpOf small (keyed b)
+    lone-looked : lookedUp (Material.Two j k r) l t b ≡ lookUpOf small (keyed b)
     unfolding lookedUp
     lone-looked =
-        ap (λ (u : List ℕ). lookUpWith l u (keyed b)) (ap (tableThen (Material.two j k r) l t) (w .1 .1))
+        ap (λ (u : List ℕ). lookUpWith l u (keyed b)) (ap (tableThen (Material.Two j k r) l t) (w .1 .1))
         ∙ look-up-alone l small (keyed b) (second-none kind b w)
 
-    lone-answer : TrueAnswer b (lookedUp (Material.two j k r) l t b)
+    lone-answer : TrueAnswer b (lookedUp (Material.Two j k r) l t b)
     lone-answer =
         subst⁻¹ (TrueAnswer b) lone-looked (board-answer kind small small-ok b lone-ending (ap empty (w .1 .1)))
 
     -- on his normal board the same moves suit
     lone-first : firstSuited chess (byteOf small) (normalised b)
-        ≡ firstSuited chess (bytesOf (Material.two j k r) l t ok) (normalised b)
+        ≡ firstSuited chess (bytesOf (Material.Two j k r) l t ok) (normalised b)
     unfolding firstSuited
     lone-first =
         let n = normalised b in
         let d = normal-ending kind b lone-ending in
         ap (λ (i : ℕ). first (λ v. suits i (byteOf small (played n v))) (moves n)) (sym (lone-byte n d))
-        ∙ first-same (λ v. suits (bytesOf (Material.two j k r) l t ok n) (byteOf small (played n v)))
-        (λ v. suits (bytesOf (Material.two j k r) l t ok n) (bytesOf (Material.two j k r) l t ok (played n v)))
+        ∙ first-same (λ v. suits (bytesOf (Material.Two j k r) l t ok n) (byteOf small (played n v)))
+        (λ v. suits (bytesOf (Material.Two j k r) l t ok n) (bytesOf (Material.Two j k r) l t ok (played n v)))
         (moves n)
-        (λ v i. ap (suits (bytesOf (Material.two j k r) l t ok n))
+        (λ v i. ap (suits (bytesOf (Material.Two j k r) l t ok n))
         (sym (lone-byte (played n v) (ending-closed kind n (played n v) d (map-in (played n) i)))))
 
-    lone-desk : deskMoveWith (Material.two j k r) l t b ≡ given (chosen (bytesOf (Material.two j k r) l t ok) b)
+    lone-desk : deskMoveWith (Material.Two j k r) l t b ≡ given (chosen (bytesOf (Material.Two j k r) l t ok) b)
     unfolding deskMoveWith deskMove chosen
     lone-desk =
         ap (λ (a : Answer). cond (empty (b .men)) none (moveOfAnswer a)) lone-looked
@@ -168,17 +172,17 @@ module _ (j k : ℕ) (r : Bool) (l : Lent) (t : List ℕ) (ok : checkWith (Mater
 
 fewer-answer : (m : Material) (l : Lent) (t : List ℕ) → checkWith m l t ≡ Checked.Accepted → (b : Board) → T (legal b)
     → Fewer m b → (b .men ≡ [] → ⊥) → TrueAnswer b (lookedUp m l t b)
-fewer-answer (Material.one kind) l t ok b g f n = absurd (n f)
-fewer-answer (Material.two j k r) l t ok b g (inl e) n = absurd (n e)
-fewer-answer (Material.two j k r) l t ok b g (inr (inl w)) n = lone-answer j k r l t ok j (inl refl) b g w
-fewer-answer (Material.two j k r) l t ok b g (inr (inr w)) n = lone-answer j k r l t ok k (inr refl) b g w
+fewer-answer (Material.One kind) l t ok b g f n = absurd (n f)
+fewer-answer (Material.Two j k r) l t ok b g (inl e) n = absurd (n e)
+fewer-answer (Material.Two j k r) l t ok b g (inr (inl w)) n = lone-answer j k r l t ok j (inl refl) b g w
+fewer-answer (Material.Two j k r) l t ok b g (inr (inr w)) n = lone-answer j k r l t ok k (inr refl) b g w
 
 fewer-desk : (m : Material) (l : Lent) (t : List ℕ) (ok : checkWith m l t ≡ Checked.Accepted) (b : Board) → Within m b
     → Fewer m b → deskMoveWith m l t b ≡ given (chosen (bytesOf m l t ok) b)
-fewer-desk (Material.one kind) l t ok b d f = bare-desk (Material.one kind) l t ok b d f
-fewer-desk (Material.two j k r) l t ok b d (inl e) = bare-desk (Material.two j k r) l t ok b d e
-fewer-desk (Material.two j k r) l t ok b d (inr (inl w)) = lone-desk j k r l t ok j (inl refl) b (d .legality) w
-fewer-desk (Material.two j k r) l t ok b d (inr (inr w)) = lone-desk j k r l t ok k (inr refl) b (d .legality) w
+fewer-desk (Material.One kind) l t ok b d f = bare-desk (Material.One kind) l t ok b d f
+fewer-desk (Material.Two j k r) l t ok b d (inl e) = bare-desk (Material.Two j k r) l t ok b d e
+fewer-desk (Material.Two j k r) l t ok b d (inr (inl w)) = lone-desk j k r l t ok j (inl refl) b (d .legality) w
+fewer-desk (Material.Two j k r) l t ok b d (inr (inr w)) = lone-desk j k r l t ok k (inr refl) b (d .legality) w
 
 module _ (m : Material) (l : Lent) (t : List ℕ) (ok : checkWith m l t ≡ Checked.Accepted) where
   -- the desk's move is the chosen one
@@ -198,7 +202,7 @@ module _ (m : Material) (l : Lent) (t : List ℕ) (ok : checkWith m l t ≡ Chec
           fewer-answer m l t ok b (d .legality) f
           (λ e. refuted n (subst⁻¹ (λ (ms : List Piece). T (empty ms)) e tt))
 
-  desk-chooses-with : Chooses chess (Within m) (bytesOf m l t ok) (deskMoveWith m l t)
+  pub desk-chooses-with : Chooses chess (Within m) (bytesOf m l t ok) (deskMoveWith m l t)
   desk-chooses-with =
       let rule = chosen-chooses-with m l t ok in
       record {
@@ -210,8 +214,8 @@ module _ (m : Material) (l : Lent) (t : List ℕ) (ok : checkWith m l t ≡ Chec
   stays b [] d g = d
   stays b (v ∷ ms) d g = stays (played b v) ms (within-closed m b (played b v) d (map-in (played b) (g .0))) (g .1)
 
-  -- THE THEOREM ABOUT GAMES, for one man and for two. The tables are accepted; b is a legal board of the ending, its men in either order, White's or
-  -- Black's; ms is a game from b; the side plays the desk's moves in it.
+  -- THE THEOREM ABOUT GAMES, for one man and for two. The tables are accepted; b is a legal board of the ending, its
+  -- men in either order, White's or Black's; ms is a game from b; the side plays the desk's moves in it.
   pub games-with : (b : Board) → T (legal b) → OfMaterial m b → (side : Bool) (ms : List Move) → LegalGame chess b ms
       → Follows chess (deskMoveWith m l t) side b ms → GamePromiseWith m l t side b ms
   games-with b g e side ms game follows = record {

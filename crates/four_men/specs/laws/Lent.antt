@@ -25,7 +25,9 @@ use Rattle.endings.specs.Ending.{Lone, Ending, byteOf}
 use Rattle.endings.specs.Answers.{checkOf}
 use Rattle.endings.specs.laws.EndingDrawn.{ending-closed, bare-drawn}
 use Rattle.endings.specs.laws.LookingUp.{accepted-bytes}
-use Rattle.four_men.specs.Material.{Material, known, Lent, borrowed}
+use Rattle.numbering.specs.declared.Material.{Material}
+use Rattle.numbering.specs.Material.{known}
+use Rattle.four_men.specs.Lending.{Lent, borrowed}
 use Rattle.four_men.specs.Reading.{Fewer, Within, full, lentFor, lentTo, lentByte, numbered, holdsDepth}
 use Rattle.four_men.specs.Answers.{accepts, lentAccepted}
 use Rattle.four_men.specs.Truth.{LentBytes}
@@ -45,14 +47,14 @@ module _ (j k : ℕ) (r : Bool) (l : Lent) where
     pub kinds : (kind ≡ j) ⊎ (kind ≡ k)
     pub below : Ending kind b
 
-  pub lower-of : (b : Board) → Within (Material.two j k r) b → Fewer (Material.two j k r) b → (kind : ℕ) × Lower b kind
+  pub lower-of : (b : Board) → Within (Material.Two j k r) b → Fewer (Material.Two j k r) b → (kind : ℕ) × Lower b kind
   lower-of b d (inl e) = (j, record { kinds = inl refl; below = record { legality = d .legality; men = inl e } })
   lower-of b d (inr (inl w)) = (j, record { kinds = inl refl; below = record { legality = d .legality; men = inr w } })
   lower-of b d (inr (inr w)) = (k, record { kinds = inr refl; below = record { legality = d .legality; men = inr w } })
 
   -- a board with a man of this kind, or bare kings, is read in his table
   pub lower-byte : (kind : ℕ) (b : Board) → Ending kind b
-      → lentByte (Material.two j k r) l b ≡ byteOf (lentFor j l kind) b
+      → lentByte (Material.Two j k r) l b ≡ byteOf (lentFor j l kind) b
   lower-byte kind b d = go (d .men)
     where
       bare : (t : List ℕ) → b .men ≡ [] → byteOf t b ≡ 1
@@ -62,7 +64,7 @@ module _ (j k : ℕ) (r : Bool) (l : Lent) where
       go (inl e) = bare (lentTo j l (b .men)) e ∙ sym (bare (lentFor j l kind) e)
       go (inr w) = ap (λ (men : List Piece). byteOf (lentTo j l men) b) (w .1 .1)
 
-  module _ (ok : T (lentAccepted (Material.two j k r) l)) where
+  module _ (ok : T (lentAccepted (Material.Two j k r) l)) where
     -- each kind's table is accepted for it
     pub own-accepted : (kind : ℕ) → (kind ≡ j) ⊎ (kind ≡ k) → checkOf kind (lentFor j l kind) ≡ Checked.Accepted
     own-accepted kind s = go (eqb kind j) refl s
@@ -81,7 +83,7 @@ module _ (j k : ℕ) (r : Bool) (l : Lent) where
         go false e (inl h) = absurd (refuted e (subst⁻¹ T (eq-eqb kind j h) tt))
         go false e (inr h) = ap (λ (i : ℕ). checkOf i (l .second)) h ∙ other
 
-    pub lower-true : (b : Board) (kind : ℕ) → Lower b kind → TrueByte chess b (lentByte (Material.two j k r) l b)
+    pub lower-true : (b : Board) (kind : ℕ) → Lower b kind → TrueByte chess b (lentByte (Material.Two j k r) l b)
     lower-true b kind w =
         subst⁻¹ (TrueByte chess b) (lower-byte kind b (w .below))
         (consistent-true chess (Ending kind) (ending-closed kind) (byteOf (lentFor j l kind))
@@ -95,8 +97,8 @@ unfolding numbered lawfulWith
 outer-true-with m w l ok b d e = go m ok d (fewer-of m b d e)
   where
     go : (m : Material) → T (lentAccepted m l) → Within m b → Fewer m b → TrueByte chess b (lentByte m l b)
-    go (Material.one kind) ok d f = TrueByte.draw (bare-drawn b (d .legality) f) refl
-    go (Material.two j k r) ok d f = let x = lower-of j k r l b d f in lower-true j k r l ok b (x .0) (x .1)
+    go (Material.One kind) ok d f = TrueByte.draw (bare-drawn b (d .legality) f) refl
+    go (Material.Two j k r) ok d f = let x = lower-of j k r l b d f in lower-true j k r l ok b (x .0) (x .1)
 
 -- ---- the depths that lent tables hold
 
@@ -133,12 +135,12 @@ lent-held m l ok b d e n h = go m ok d (fewer-of m b d e)
         by false f = (numberOf b, f)
 
     go : (m : Material) → T (lentAccepted m l) → Within m b → Fewer m b → T (holdsDepth (borrowed m l) n)
-    go (Material.one kind) ok d f = absurd (draw-is chess b .0 (bare-drawn b (d .legality) f) n h)
-    go (Material.two j k r) ok d f =
+    go (Material.One kind) ok d f = absurd (draw-is chess b .0 (bare-drawn b (d .legality) f) n h)
+    go (Material.Two j k r) ok d f =
         let x = lower-of j k r l b d f in
         let t = lentFor j l (x .0) in
         let v = read t (sym (lower-byte j k r l (x .0) b (x .1 .below))
-        ∙ byte-is chess b (lentByte (Material.two j k r) l b) n (lower-true j k r l ok b (x .0) (x .1)) .1 h) in
+        ∙ byte-is chess b (lentByte (Material.Two j k r) l b) n (lower-true j k r l ok b (x .0) (x .1)) .1 h) in
         lent-depth (l .first ∷ l .second ∷ []) t (v .0) n (lent-one j l (x .0)) (v .1)
 
 -- bytes hold no depth of 254

@@ -1,4 +1,5 @@
--- Look-up on accepted tables never refuses a legal position of the ending, and answers its true value and depth (demand 2).
+-- Look-up on accepted tables never refuses a legal position of the ending, and answers its true value and depth (demand
+-- 2).
 use mathlib.Core.Path.{_≡_, sym, subst, subst⁻¹}
 use mathlib.Core.Logic.{inl}
 use mathlib.Core.List.{List}
@@ -26,9 +27,11 @@ use Rattle.endings.specs.Answers.{answerOf, chosen}
 use Rattle.endings.specs.GamePromise.{given}
 use Rattle.endings.specs.laws.Turning.{Carries, chosen-chooses}
 use Rattle.endings.specs.laws.LookingUp.{TrueNext, true-answer}
-use Rattle.four_men.specs.Material.{Material, OfMaterial, materialIn, Lent}
+use Rattle.numbering.specs.declared.Material.{Material}
+use Rattle.numbering.specs.Material.{OfMaterial, materialIn}
+use Rattle.four_men.specs.Lending.{Lent}
 use Rattle.four_men.specs.Reading.{Within, numbered}
-use Rattle.four_men.specs.Refusals.{standingWith}
+use Rattle.position.specs.Refusals.{standingWith}
 use Rattle.four_men.specs.Answers.{lengthsFit, checkWith, lookUpWith}
 use Rattle.four_men.specs.laws.Same.{normal-as, same-forth, same-back, same-next}
 use Rattle.four_men.specs.laws.Captures.{within-closed, within-few}

@@ -14,7 +14,8 @@ use Rattle.rules.specs.Rules.{pieceOf}
 use Rattle.rules.specs.Reordered.{Few}
 use Rattle.numbering.specs.Keys.{spread}
 use Rattle.numbering.specs.Men.{materialOf}
-use Rattle.four_men.specs.Material.{Material, known, menOf, materialIn, sizeOf}
+use Rattle.numbering.specs.declared.Material.{Material}
+use Rattle.numbering.specs.Material.{known, menOf, materialIn, sizeOf}
 use Rattle.four_men.specs.Reading.{full}
 
 -- ---- twenty of two men
@@ -23,7 +24,7 @@ abbrev kinds : List ℕ
 kinds = 0 ∷ 1 ∷ 2 ∷ 3 ∷ []
 
 abbrev pairs : List Material
-pairs = flatMap (λ j. flatMap (λ k. Material.two j k false ∷ Material.two j k true ∷ []) kinds) kinds
+pairs = flatMap (λ j. flatMap (λ k. Material.Two j k false ∷ Material.Two j k true ∷ []) kinds) kinds
 
 pub twenty : length (filter known pairs) ≡ 20
 unfolding filter flatMap
@@ -33,8 +34,8 @@ twenty = refl
 
 pub size-is : (m : Material) → 924 * spread (menOf m) ≡ sizeOf m
 unfolding spread
-size-is (Material.one kind) = refl
-size-is (Material.two first second rivals) = refl
+size-is (Material.One kind) = refl
+size-is (Material.Two first second rivals) = refl
 
 -- ---- the men of a board of the material
 
@@ -51,7 +52,7 @@ are-rivals false true e = refl
 are-rivals false false e = absurd (let z : _≡_ {A = ℕ} 0 1 = cc in omega arith)
 
 -- one man of the kind
-pub one-of : (kind : ℕ) (l : List Piece) → materialOf l ≡ menOf (Material.one kind)
+pub one-of : (kind : ℕ) (l : List Piece) → materialOf l ≡ menOf (Material.One kind)
     → (a : Piece) × (l ≡ a ∷ []) × (a .kind ≡ kind)
 unfolding materialOf
 one-of kind [] e = let z : _≡_ {A = ℕ} 0 1 = cc in absurd (omega arith)
@@ -60,14 +61,14 @@ one-of kind (a ∷ []) e =
 one-of kind (a ∷ c ∷ []) e = let z : _≡_ {A = ℕ} 0 1 = cc in absurd (omega arith)
 one-of kind (a ∷ c ∷ d ∷ l) e = let z : _≡_ {A = ℕ} 0 1 = cc in absurd (omega arith)
 
--- Two men are of a material exactly where their kinds are its kinds, in either order, and they are of one side or of two as it says, whichever
--- side: "P9's exchange serves the rest, two black men too".
+-- Two men are of a material exactly where their kinds are its kinds, in either order, and they are of one side or of
+-- two as it says, whichever side: "P9's exchange serves the rest, two black men too".
 pub record Both (first second : ℕ) (rivals : Bool) (a c : Piece) : Type 0 where
   pub least : min (a .kind) (c .kind) ≡ first
   pub greatest : max (a .kind) (c .kind) ≡ second
   pub sides : not (eqb (a .colour) (c .colour)) ≡ rivals
 
-pub two-of : (j k : ℕ) (r : Bool) (l : List Piece) → materialOf l ≡ menOf (Material.two j k r)
+pub two-of : (j k : ℕ) (r : Bool) (l : List Piece) → materialOf l ≡ menOf (Material.Two j k r)
     → (a : Piece) × (c : Piece) × (l ≡ a ∷ c ∷ []) × Both j k r a c
 unfolding materialOf
 two-of j k r [] e = let z : _≡_ {A = ℕ} 0 1 = cc in absurd (omega arith)
@@ -88,7 +89,7 @@ two-of j k r (a ∷ c ∷ []) e =
 two-of j k r (a ∷ c ∷ d ∷ l) e = let z : _≡_ {A = ℕ} 0 1 = cc in absurd (omega arith)
 
 pub of-two : (j k : ℕ) (r : Bool) (a c : Piece) → Both j k r a c
-    → materialOf (a ∷ c ∷ []) ≡ menOf (Material.two j k r)
+    → materialOf (a ∷ c ∷ []) ≡ menOf (Material.Two j k r)
 unfolding materialOf
 of-two j k r a c w = rw (w .least, w .greatest, are-rivals (eqb (a .colour) (c .colour)) r (w .sides))
 
@@ -106,8 +107,8 @@ both-kinds j k r a c w = go (w .least) (w .greatest) (le-or-lt (a .kind) (c .kin
 
 pub own-material : (m : Material) → T (known m) → materialOf (menOf m) ≡ menOf m
 unfolding materialOf
-own-material (Material.one kind) t = refl
-own-material (Material.two j k r) t =
+own-material (Material.One kind) t = refl
+own-material (Material.Two j k r) t =
     let h = leb→le j k (and-left (leb j k) (ltb k 4) t) in
     of-two j k r (pieceOf j 0 0) (pieceOf k (cond r 1 0) 0)
     (record { least = omega arith; greatest = omega arith; sides = side r })
@@ -117,21 +118,21 @@ own-material (Material.two j k r) t =
     side false = refl
 
 pub material-in : (m : Material) (l : List Piece) → materialOf l ≡ menOf m → materialIn l ≡ m
-material-in (Material.one kind) l e =
-    let w = one-of kind l e in ap materialIn (w .1) ∙ ap Material.one (w .2)
-material-in (Material.two j k r) l e =
+material-in (Material.One kind) l e =
+    let w = one-of kind l e in ap materialIn (w .1) ∙ ap Material.One (w .2)
+material-in (Material.Two j k r) l e =
     let w = two-of j k r l e in
     ap materialIn (w .2)
-    ∙ ap₂ (λ (x y : ℕ). Material.two x y (not (eqb (w .0 .colour) (w .1 .colour)))) (w .3 .least) (w .3 .greatest)
-    ∙ ap (Material.two j k) (w .3 .sides)
+    ∙ ap₂ (λ (x y : ℕ). Material.Two x y (not (eqb (w .0 .colour) (w .1 .colour)))) (w .3 .least) (w .3 .greatest)
+    ∙ ap (Material.Two j k) (w .3 .sides)
 
 pub few-of : (m : Material) (l : List Piece) → materialOf l ≡ menOf m → Few l
-few-of (Material.one kind) l e = let w = one-of kind l e in subst⁻¹ Few (w .1) tt
-few-of (Material.two j k r) l e = let w = two-of j k r l e in subst⁻¹ Few (w .2) tt
+few-of (Material.One kind) l e = let w = one-of kind l e in subst⁻¹ Few (w .1) tt
+few-of (Material.Two j k r) l e = let w = two-of j k r l e in subst⁻¹ Few (w .2) tt
 
 -- none of them has been taken
 pub full-of : (m : Material) (l : List Piece) → materialOf l ≡ menOf m → T (full m l)
-full-of (Material.one kind) l e =
-    let w = one-of kind l e in subst⁻¹ (λ (k : List Piece). T (full (Material.one kind) k)) (w .1) tt
-full-of (Material.two j k r) l e =
-    let w = two-of j k r l e in subst⁻¹ (λ (k′ : List Piece). T (full (Material.two j k r) k′)) (w .2) tt
+full-of (Material.One kind) l e =
+    let w = one-of kind l e in subst⁻¹ (λ (k : List Piece). T (full (Material.One kind) k)) (w .1) tt
+full-of (Material.Two j k r) l e =
+    let w = two-of j k r l e in subst⁻¹ (λ (k′ : List Piece). T (full (Material.Two j k r) k′)) (w .2) tt

@@ -1,4 +1,5 @@
--- The ending's boards, numbered over lent tables: what `table_theory` asks of a numbering, for one man and for two at once.
+-- The ending's boards, numbered over lent tables: what `table_theory` asks of a numbering, for one man and for two at
+-- once.
 use mathlib.Core.Path.{_≡_, refl, sym, ap, ap₂, subst, subst⁻¹, _∙_}
 use mathlib.Core.Bool.{Bool, true, false, cond, _&&_}
 use mathlib.Core.Logic.{inl}
@@ -26,8 +27,10 @@ use Rattle.numbering.specs.laws.ClassLaws.{number-lt, number-along}
 use Rattle.numbering.specs.laws.AtLaws.{used-number, image-at, number-used}
 use Rattle.endings.specs.Ending.{byteOf}
 use Rattle.endings.specs.laws.IndexLaws as index
-use Rattle.four_men.specs.Material as materials
-use Rattle.four_men.specs.Material.{Material, menOf, OfMaterial, sizeOf, Lent}
+use Rattle.numbering.specs.Material as materials
+use Rattle.numbering.specs.declared.Material.{Material}
+use Rattle.numbering.specs.Material.{menOf, OfMaterial, sizeOf}
+use Rattle.four_men.specs.Lending.{Lent}
 use Rattle.four_men.specs.Reading.{Within, full, lentTo, lentByte, legalNumberOf, numbered}
 use Rattle.four_men.specs.Same.{Same, Manned}
 use Rattle.four_men.specs.laws.Materials.{size-is, own-material, full-of}
@@ -74,22 +77,22 @@ full-same m b c x =
   where
     go : (m : Material) (e : Bool) (l : List Piece)
         → full m (map (changedPiece (x .0 .symmetry) (x .0 .colours)) (crossed e l)) ≡ full m l
-    go (Material.one kind) false [] = unfold crossed in refl
-    go (Material.one kind) false (a ∷ l) = unfold crossed in refl
-    go (Material.one kind) true [] = unfold crossed in refl
-    go (Material.one kind) true (a ∷ []) = unfold crossed in refl
-    go (Material.one kind) true (a ∷ d ∷ []) = unfold crossed in refl
-    go (Material.one kind) true (a ∷ d ∷ f ∷ l) = unfold crossed in refl
-    go (Material.two j k r) false [] = unfold crossed in refl
-    go (Material.two j k r) false (a ∷ []) = unfold crossed in refl
-    go (Material.two j k r) false (a ∷ d ∷ l) = unfold crossed in refl
-    go (Material.two j k r) true [] = unfold crossed in refl
-    go (Material.two j k r) true (a ∷ []) = unfold crossed in refl
-    go (Material.two j k r) true (a ∷ d ∷ []) = unfold crossed in refl
-    go (Material.two j k r) true (a ∷ d ∷ f ∷ l) = unfold crossed in refl
+    go (Material.One kind) false [] = unfold crossed in refl
+    go (Material.One kind) false (a ∷ l) = unfold crossed in refl
+    go (Material.One kind) true [] = unfold crossed in refl
+    go (Material.One kind) true (a ∷ []) = unfold crossed in refl
+    go (Material.One kind) true (a ∷ d ∷ []) = unfold crossed in refl
+    go (Material.One kind) true (a ∷ d ∷ f ∷ l) = unfold crossed in refl
+    go (Material.Two j k r) false [] = unfold crossed in refl
+    go (Material.Two j k r) false (a ∷ []) = unfold crossed in refl
+    go (Material.Two j k r) false (a ∷ d ∷ l) = unfold crossed in refl
+    go (Material.Two j k r) true [] = unfold crossed in refl
+    go (Material.Two j k r) true (a ∷ []) = unfold crossed in refl
+    go (Material.Two j k r) true (a ∷ d ∷ []) = unfold crossed in refl
+    go (Material.Two j k r) true (a ∷ d ∷ f ∷ l) = unfold crossed in refl
 
 -- bare kings and a man alone: his kind stays and so does his number
-byte-same : (first : ℕ) (l : Lent) (b c : Board) → Same b c → full (Material.two 0 0 false) (b .men) ≡ false
+byte-same : (first : ℕ) (l : Lent) (b c : Board) → Same b c → full (Material.Two 0 0 false) (b .men) ≡ false
     → byteOf (lentTo first l (b .men)) b ≡ byteOf (lentTo first l (c .men)) c
 byte-same first l b c x e = go (b .men) refl e
   where
@@ -112,7 +115,7 @@ byte-same first l b c x e = go (b .men) refl e
     man-byte : (t : List ℕ) (d : Board) (a : Piece) → d .men ≡ a ∷ [] → byteOf t d ≡ getD t (numberOf d) 0
     man-byte t d a h = unfold byteOf in ap (λ (k : List Piece). cond (empty k) 1 (getD t (numberOf d) 0)) h
 
-    go : (k : List Piece) → b .men ≡ k → full (Material.two 0 0 false) k ≡ false
+    go : (k : List Piece) → b .men ≡ k → full (Material.Two 0 0 false) k ≡ false
         → byteOf (lentTo first l (b .men)) b ≡ byteOf (lentTo first l (c .men)) c
     go [] h f =
         bare-byte (lentTo first l (b .men)) b h
@@ -134,10 +137,10 @@ byte-same first l b c x e = go (b .men) refl e
 
 pub outer-same : (m : Material) (l : Lent) (b c : Board) → Same b c → full m (b .men) ≡ false
     → lentByte m l b ≡ lentByte m l c
-outer-same (Material.one kind) l b c x e = refl
-outer-same (Material.two j k r) l b c x e = byte-same j l b c x (plain (b .men) e)
+outer-same (Material.One kind) l b c x e = refl
+outer-same (Material.Two j k r) l b c x e = byte-same j l b c x (plain (b .men) e)
   where
-    plain : (men : List Piece) → full (Material.two j k r) men ≡ false → full (Material.two 0 0 false) men ≡ false
+    plain : (men : List Piece) → full (Material.Two j k r) men ≡ false → full (Material.Two 0 0 false) men ≡ false
     plain [] e = refl
     plain (a ∷ []) e = refl
     plain (a ∷ d ∷ men) e = e
@@ -152,10 +155,10 @@ module _ (m : Material) (w : T (materials.known m)) where
   manned b t = go m (b .men) t
     where
       go : (m : Material) (l : List Piece) → T (full m l) → Manned l
-      go (Material.one kind) [] t = absurd t
-      go (Material.one kind) (a ∷ l) t = tt
-      go (Material.two j k r) [] t = absurd t
-      go (Material.two j k r) (a ∷ l) t = tt
+      go (Material.One kind) [] t = absurd t
+      go (Material.One kind) (a ∷ l) t = tt
+      go (Material.Two j k r) [] t = absurd t
+      go (Material.Two j k r) (a ∷ l) t = tt
 
   pub number-live : (b : Board) → Within m b → T (full m (b .men))
       → (numberOf b < sizeOf m) × T (legalNumberOf m (numberOf b))
@@ -174,8 +177,8 @@ module _ (m : Material) (w : T (materials.known m)) where
   material-at n = go m w
     where
       go : (m : Material) → T (materials.known m) → OfMaterial m (boardAt (menOf m) n)
-      go (Material.one kind) t = unfold boardAt menAt materialOf in refl
-      go (Material.two j k r) t = unfold boardAt menAt materialOf in own-material (Material.two j k r) t
+      go (Material.One kind) t = unfold boardAt menAt materialOf in refl
+      go (Material.Two j k r) t = unfold boardAt menAt materialOf in own-material (Material.Two j k r) t
 
   pub live-at : (n : ℕ) → n < sizeOf m → T (legalNumberOf m n)
       → Within m (boardAt (menOf m) n) × T (full m (boardAt (menOf m) n .men)) × (numberOf (boardAt (menOf m) n) ≡ n)

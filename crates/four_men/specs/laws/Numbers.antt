@@ -1,5 +1,5 @@
--- Numbers, for one man and for two: positions of one ending have one number exactly if a change makes one into the other, and each used number leads
--- back to a position that bears it (demand 2).
+-- Numbers, for one man and for two: positions of one ending have one number exactly if a change makes one into the
+-- other, and each used number leads back to a position that bears it (demand 2).
 use mathlib.Core.Path.{_≡_, refl, sym, ap, subst, subst⁻¹, _∙_}
 use mathlib.Core.Bool.{Bool, true, false, cond, not, _&&_}
 use mathlib.Core.Logic.{_↔_}
@@ -13,8 +13,7 @@ use Rattle.finite.specs.Members.{all}
 use Rattle.rules.specs.Rules.{Board, pieces, apart, touching}
 use Rattle.position.specs.declared.Position.{Position}
 use Rattle.position.specs.Keyed.{boardOf}
-use Rattle.position.specs.Refusals.{badSide, badSquare, sharedSquare, kingsTouch}
-use Rattle.position.specs.laws.PlacedLaws.{five, five-back, passes, fulfilled, either, neither, kings-separate}
+use Rattle.position.specs.laws.PlacedLaws.{kings-separate}
 use Rattle.numbering.specs.Keys.{unplaced, menAt, boardAt}
 use Rattle.numbering.specs.Number.{numberOf, used}
 use Rattle.numbering.specs.laws.Numberable.{Numberable, separate-white, separate-black, separate-touching}
@@ -24,45 +23,18 @@ use Rattle.numbering.specs.laws.AtLaws.{numberable-at, used-number}
 use Rattle.index.specs.declared.NumberAnswer.{NumberAnswer}
 use Rattle.index.specs.declared.Placed.{Placed}
 use Rattle.index.specs.NumberLaws.{SameClass}
-use Rattle.endings.specs.GamePromise.{slotOf, others, keyed}
-use Rattle.four_men.specs.Material.{Material, known, menOf, materialIn, sizeOf}
-use Rattle.four_men.specs.Refusals.{badMenOf, placingWith}
-use Rattle.four_men.specs.Answers.{numberWith, placedWith}
+use Rattle.index.specs.laws.CompleteLaws.{PlacedOf, placed-facts-with, facts-placed-with}
+use Rattle.position.specs.Keyed.{slotOf, others, keyed}
+use Rattle.numbering.specs.declared.Material.{Material}
+use Rattle.numbering.specs.Material.{known, menOf, materialIn, sizeOf}
+use Rattle.position.specs.Refusals.{badMenOf, placingWith}
+use Rattle.index.specs.Answers.{numberWith, placedWith}
 use Rattle.four_men.specs.Numbers.{BearsOf}
 use Rattle.four_men.specs.laws.Materials.{size-is, own-material, material-in, few-of}
 use Rattle.four_men.specs.laws.Numbered.{material-at}
 use Rattle.four_men.specs.laws.Standing.{has-material, keyed-back}
 
 -- ---- a position that meets none of the refusals 1 to 5
-
-pub record PlacedOf (p : Position) : Type 0 where
-  pub men : badMenOf (p .first) (p .second) ≡ false
-  pub side : p .side < 2
-  pub colours : T (all coloured (boardOf p .men))
-  pub squares : T (all (λ m. ltb (m .square) 64) (pieces (boardOf p)))
-  pub distinct : T (apart (pieces (boardOf p)))
-  pub kings : touching (boardOf p) ≡ false
-
-placed-facts-with : (p : Position) → placingWith p ≡ 0 → PlacedOf p
-unfolding placingWith badSide badSquare sharedSquare
-placed-facts-with p z =
-    let f = five (badMenOf (p .first) (p .second)) (badSide p) (badSquare p) (sharedSquare p) (kingsTouch p) z in
-    record {
-      men = f .0;
-      side = leb-false 2 (p .side) (either (leb 2 (p .side)) (all coloured (boardOf p .men)) (f .1) .0);
-      colours = either (leb 2 (p .side)) (all coloured (boardOf p .men)) (f .1) .1;
-      squares = passes (all (λ m. ltb (m .square) 64) (pieces (boardOf p))) (f .2);
-      distinct = passes (apart (pieces (boardOf p))) (f .3);
-      kings = f .4;
-    }
-
-facts-placed-with : (p : Position) → PlacedOf p → placingWith p ≡ 0
-unfolding placingWith badSide badSquare sharedSquare
-facts-placed-with p w =
-    five-back (badMenOf (p .first) (p .second)) (badSide p) (badSquare p) (sharedSquare p) (kingsTouch p) (w .men)
-    (neither (leb 2 (p .side)) (all coloured (boardOf p .men)) (lt-leb 2 (p .side) (w .side)) (w .colours))
-    (fulfilled (all (λ m. ltb (m .square) 64) (pieces (boardOf p))) (w .squares))
-    (fulfilled (apart (pieces (boardOf p))) (w .distinct)) (w .kings)
 
 placed-has-with : (p : Position) → placingWith p ≡ 0 → HasNumber (menOf (materialIn (boardOf p .men))) (boardOf p)
 unfolding all
@@ -85,8 +57,8 @@ number-with-is : (p : Position) → placingWith p ≡ 0 → numberWith p ≡ Num
 unfolding numberWith
 number-with-is p z = rw (eq-eqb (placingWith p) 0 z)
 
--- POSITIONS OF ONE ENDING HAVE ONE NUMBER EXACTLY IF A CHANGE MAKES ONE INTO THE OTHER: a map, like men exchanged, the colours exchanged but for like
--- kinds one each.
+-- POSITIONS OF ONE ENDING HAVE ONE NUMBER EXACTLY IF A CHANGE MAKES ONE INTO THE OTHER: a map, like men exchanged, the
+-- colours exchanged but for like kinds one each.
 pub same-number-with : (p q : Position) → placingWith p ≡ 0 → placingWith q ≡ 0
     → materialIn (boardOf p .men) ≡ materialIn (boardOf q .men) → (numberWith p ≡ numberWith q) ↔ SameClass p q
 same-number-with p q y z e = (there, here)
@@ -115,8 +87,8 @@ module _ (m : Material) (w : T (known m)) (n : ℕ) (h : n < sizeOf m) (u : T (u
   numberable = numberable-at (menOf m) n (plain m) (subst⁻¹ (λ (k : ℕ). n < k) (size-is m) h)
     where
       plain : (m : Material) → map unplaced (menOf m) ≡ menOf m
-      plain (Material.one kind) = refl
-      plain (Material.two j k r) = refl
+      plain (Material.One kind) = refl
+      plain (Material.Two j k r) = refl
 
   board-back : boardOf (keyed board) ≡ board
   board-back = keyed-back board (few-of m (board .men) (material-at m w n))
@@ -126,8 +98,8 @@ module _ (m : Material) (w : T (known m)) (n : ℕ) (h : n < sizeOf m) (u : T (u
     where
       go : (m : Material) → T (known m)
           → badMenOf (slotOf (boardAt (menOf m) n .men)) (slotOf (others (boardAt (menOf m) n .men))) ≡ false
-      go (Material.one kind) t = unfold boardAt menAt in lt-leb 4 kind (ltb→lt kind 4 t)
-      go (Material.two j k r) t =
+      go (Material.One kind) t = unfold boardAt menAt in lt-leb 4 kind (ltb→lt kind 4 t)
+      go (Material.Two j k r) t =
           let a = leb→le j k (and-left (leb j k) (ltb k 4) t) in
           let b = ltb→lt k 4 (and-right (leb j k) (ltb k 4) t) in
           unfold boardAt menAt in rw (lt-leb 4 j (omega arith), lt-leb 4 k b)
@@ -136,9 +108,9 @@ module _ (m : Material) (w : T (known m)) (n : ℕ) (h : n < sizeOf m) (u : T (u
   men-coloured = go m
     where
       go : (m : Material) → T (all coloured (boardAt (menOf m) n .men))
-      go (Material.one kind) = unfold boardAt menAt all in tt
-      go (Material.two j k true) = unfold boardAt menAt all in tt
-      go (Material.two j k false) = unfold boardAt menAt all in tt
+      go (Material.One kind) = unfold boardAt menAt all in tt
+      go (Material.Two j k true) = unfold boardAt menAt all in tt
+      go (Material.Two j k false) = unfold boardAt menAt all in tt
 
   on-board : T (all (λ a. ltb (a .square) 64) (pieces board))
   unfolding all

@@ -1,4 +1,5 @@
--- Boards that go alike: a map, the men in the other order, the colours exchanged where that is allowed (01; 02, P9 and P10).
+-- Boards that go alike: a map, the men in the other order, the colours exchanged where that is allowed (01; 02, P9 and
+-- P10).
 use mathlib.Core.Path.{_≡_, refl, sym, ap, subst, subst⁻¹, _∙_}
 use mathlib.Core.Bool.{Bool, true, false, not, _&&_}
 use mathlib.Core.List.{List, [], _∷_, map}

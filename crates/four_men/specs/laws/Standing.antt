@@ -1,4 +1,5 @@
--- A position with one man or two is legal exactly where no refusal from 1 to 6 applies; a legal board, keyed, is not refused.
+-- A position with one man or two is legal exactly where no refusal from 1 to 6 applies; a legal board, keyed, is not
+-- refused.
 use mathlib.Core.Path.{_≡_, refl, sym, ap, subst⁻¹, _∙_}
 use mathlib.Core.Bool.{Bool, true, false, cond, not, _&&_, _||_}
 use mathlib.Core.List.{List, [], _∷_, _++_}
@@ -19,10 +20,10 @@ use Rattle.position.specs.Refusals.{badSide, badSquare, sharedSquare}
 use Rattle.position.specs.laws.SlotLaws.{leb-not}
 use Rattle.position.specs.laws.Legality.{chain, agree}
 use Rattle.numbering.specs.Men.{materialOf}
-use Rattle.endings.specs.GamePromise.{slotOf, others, keyed}
-use Rattle.four_men.specs.Material.{menOf, materialIn, OfMaterial}
+use Rattle.position.specs.Keyed.{slotOf, others, keyed}
+use Rattle.numbering.specs.Material.{menOf, materialIn, OfMaterial}
 use Rattle.four_men.specs.Same.{Manned}
-use Rattle.four_men.specs.Refusals.{badMenOf, placingWith, standingWith}
+use Rattle.position.specs.Refusals.{badMenOf, placingWith, standingWith}
 
 -- ---- the rules know the men of a position that 1 does not refuse, if they have a colour
 

@@ -20,7 +20,9 @@ use Rattle.rules.specs.Chess.{chess}
 use Rattle.numbering.specs.Keys.{boardAt}
 use Rattle.answers.specs.declared.Filled.{Filled}
 use Rattle.endings.specs.Answers.{resultOf, Fill}
-use Rattle.four_men.specs.Material.{Material, known, menOf, sizeOf, Lent, borrowed}
+use Rattle.numbering.specs.declared.Material.{Material}
+use Rattle.numbering.specs.Material.{known, menOf, sizeOf}
+use Rattle.four_men.specs.Lending.{Lent, borrowed}
 use Rattle.four_men.specs.Reading.{legalNumberOf, numbered, holdsDepth}
 use Rattle.four_men.specs.Answers.{lengthsFit, lentAccepted, fillWith}
 use Rattle.four_men.specs.Steps.{Call, startWith, stepWith, stepsWith}
@@ -50,7 +52,8 @@ module _ (m : Material) (l : Lent) (t : List ℕ) (p : Progress) (on : p .stage 
   said-is : (s : Stepped) → stepAt chess (numbered m l) deeper k (p .last) t ≡ s → step .said ≡ s .said
   said-is s e = ap (λ (x : Stepped). x .said) (from-going chess (numbered m l) deeper p t on ∙ e)
 
-  -- A STEP SAYS DONE EXACTLY WHEN IT SETTLES NONE AND NO LENT TABLE HOLDS A DEPTH OF k OR MORE, whatever the bytes and the progress.
+  -- A STEP SAYS DONE EXACTLY WHEN IT SETTLES NONE AND NO LENT TABLE HOLDS A DEPTH OF k OR MORE, whatever the bytes and
+  -- the progress.
   pub done-exactly : ((r : Result) × (step .said ≡ ends r) × (r ≡ tooDeep → ⊥))
       ↔ ((someSettles chess (numbered m l) k t ≡ false) × (holdsDepth (borrowed m l) k ≡ false))
   done-exactly = (
@@ -91,8 +94,8 @@ module _ (m : Material) (l : Lent) (t : List ℕ) (w : T (known m)) (long : T (l
   ran n = steps chess (numbered m l) (holdsDepth (borrowed m l)) n (started chess (numbered m l) t)
 
   fits : (m : Material) (u : List ℕ) → length u ≡ length t → T (lengthsFit m l t) → T (lengthsFit m l u)
-  fits (Material.one kind) u e h = rw e h
-  fits (Material.two first second rivals) u e h = rw e h
+  fits (Material.One kind) u e h = rw e h
+  fits (Material.Two first second rivals) u e h = rw e h
 
   steps-with-is : (n : ℕ) (s : Stepped) → length (s .bytes) ≡ length t
       → stepsWith m l n (Call.made s) ≡ Call.made (steps chess (numbered m l) (holdsDepth (borrowed m l)) n s)

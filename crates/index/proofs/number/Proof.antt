@@ -3,7 +3,7 @@ use mathlib.Core.Path.{ap, sym, _∙_}
 use borrow.Author.Needs.{needs}
 use Rattle.index.specs.declared.NumberAnswer.{NumberAnswer}
 use Rattle.index.specs.laws.AnswerLaws.{numbered-is, numbered-refused}
-use Rattle.index.specs.laws.NumberLaws.{owned-number}
+use Rattle.index.specs.laws.AloneLaws.{placing-with}
 use Rattle.index.proofs.number.Statement.{statement}
 use Rattle.index.proofs.number.Tie as tie
 
@@ -15,14 +15,14 @@ returns c =
     let e = c .before .placing-refusal .ensures in
     ap NumberAnswer.Refused e ∙ sym (numbered-refused (c .before .before .args .p) (λ z. c .if1 .taken (e ∙ z)))
 
-number-of-requires : tie.Need-number-of-requires
-number-of-requires c κs = search needs
+placed-number-requires : tie.Need-placed-number-requires
+placed-number-requires c κs = search needs
 
 returns-2 : tie.Need-returns-2
 returns-2 c =
     let p = c .before .before .before .args .p in
     let z = sym (c .before .before .placing-refusal .ensures) ∙ c .before .if1 .left in
-    ap NumberAnswer.Number (c .number-of .ensures ∙ owned-number p z) ∙ sym (numbered-is p z)
+    ap NumberAnswer.Number (c .placed-number .ensures (placing-with p z)) ∙ sym (numbered-is p z)
 
 pub number-spec : {M : Type 1} → statement M
-number-spec = tie.close (tie.spec placing-refusal-requires returns number-of-requires returns-2)
+number-spec = tie.close (tie.spec placing-refusal-requires returns placed-number-requires returns-2)

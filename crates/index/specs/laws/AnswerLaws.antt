@@ -82,16 +82,6 @@ module _ (kind n : ℕ) where
   pub kings-at : KingsOf (n / 64 % 462)
   kings-at = kings-of (n / 64 % 462) (omega arith)
 
-  -- from its parts, as the code finds them
-  pub at-parts : (kings : ℕ) → kings ≡ kingsOf (n / 64 % 462)
-      → lone kind (n / 64 / 462) (kings / 64) (n % 64) (kings % 64) ≡ positionAt kind n
-  unfolding positionAt
-  at-parts kings e = ap (λ (k : ℕ). lone kind (n / 64 / 462) (k / 64) (n % 64) (k % 64)) e
-
-  pub placed-man : 4 ≤ kind → placedAt kind n ≡ Placed.Refused 1
-  unfolding placedAt
-  placed-man h = rw (le-leb 4 kind h)
-
   pub placed-above : kind < 4 → 59136 ≤ n → placedAt kind n ≡ Placed.Refused 8
   unfolding placedAt
   placed-above h k = rw (lt-leb 4 kind h, le-leb 59136 n k)

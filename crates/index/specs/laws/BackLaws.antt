@@ -1,16 +1,16 @@
--- Numbers and positions, there and back: each used number leads back to a position that is placed and bears it; a placed position's number is
--- used, and what stands there is of its class; no position bears an unused number.
+-- Numbers and positions, there and back: each used number leads back to a position that is placed and bears it; a
+-- placed position's number is used, and what stands there is of its class; no position bears an unused number.
 use mathlib.Core.Path.{_≡_, refl, ap, subst, sym, _∙_}
 use mathlib.Core.Logic.{_⊎_, inl, inr}
-use mathlib.Core.Bool.{Bool, true, false, not, cond, _&&_, _||_}
-use Prim.Native.Nat.{ℕ, _/_, _%_, _<_}
+use mathlib.Core.Bool.{Bool, true, false, not, cond}
+use Prim.Native.Nat.{ℕ, _%_, _<_}
 use native.Mathlib.Omega.{arith}
 use lib.Dec.{T, leb, eqb}
 use borrow.Author.Tests.{leb-false, lt-leb, lt-ltb}
-use Rattle.finite.specs.Truth.{and-left, by-test, of-true, true-of, fails, refuted, true-not-false}
+use Rattle.finite.specs.Truth.{and-left, by-test, of-true, true-of, fails, true-not-false}
 use Rattle.finite.specs.Members.{all}
 use Rattle.rules.specs.Rules.{Board, pieces, apart, touching}
-use Rattle.numbering.specs.Keys.{keyOf, spread, boardAt}
+use Rattle.numbering.specs.Keys.{keyOf, boardAt}
 use Rattle.numbering.specs.Men.{materialOf}
 use Rattle.numbering.specs.Number.{numberOf, used}
 use Rattle.numbering.specs.laws.Numberable.{separate-touching, ruled-separate}
@@ -19,9 +19,8 @@ use Rattle.position.specs.declared.Position.{Position}
 use Rattle.position.specs.Keyed.{boardOf, manKind}
 use Rattle.position.specs.Refusals.{placingRefusal}
 use Rattle.position.specs.laws.PlacedLaws.{WellPlaced, placed-facts, facts-placed, endingWith, placed-kind}
-use Rattle.index.specs.declared.NumberAnswer.{NumberAnswer}
 use Rattle.index.specs.declared.Placed.{Placed}
-use Rattle.index.specs.Answers.{numberAnswer, positionAt, unused, placedAt}
+use Rattle.index.specs.Answers.{positionAt, unused, placedAt}
 use Rattle.index.specs.laws.AnswerLaws.{numbered-is, board-at, kings-at, placed-used, unused-exactly}
 use Rattle.index.specs.NumberLaws.{SameClass}
 use Rattle.index.specs.laws.NumberLaws.{board-has, number-below}

@@ -1,4 +1,5 @@
--- Demand 2's sameness: positions of one ending have one number exactly if a change makes one into the other; and the number as code finds it.
+-- Demand 2's sameness: positions of one ending have one number exactly if a change makes one into the other; and the
+-- number as code finds it.
 use mathlib.Core.Path.{_≡_, ap, subst, subst⁻¹, sym, _∙_}
 use mathlib.Core.Logic.{_↔_}
 use mathlib.Core.Bool.{false}

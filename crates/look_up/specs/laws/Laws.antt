@@ -1,37 +1,48 @@
 -- Look-up's answer by the tests that lead to it.
 use mathlib.Core.Path.{_≡_, refl, sym, ap, _∙_}
+use mathlib.Core.Bool.{Bool, true, false}
 use mathlib.Core.List.{List}
 use Prim.Native.Nat.{ℕ}
-use lib.ListN.{length}
+use lib.Dec.{T}
 use borrow.Author.Tests.{eq-eqb, ne-eqb}
 use Rattle.theory.specs.Required.{requiredAt}
 use Rattle.theory.specs.Play.{firstSuited}
+use Rattle.table_theory.specs.Tables.{reads}
 use Rattle.symmetry.specs.Symmetry.{Symmetry, mapped, inverse}
 use Rattle.rules.specs.declared.Piece.{Piece}
 use Rattle.rules.specs.declared.Move.{Move}
 use Rattle.rules.specs.Rules.{Board, moveOf}
+use Rattle.rules.specs.laws.ReorderedLaws.{LegalFew}
 use Rattle.rules.specs.Chess.{chess}
 use Rattle.numbering.specs.Number.{normalBy, normalised}
+use Rattle.numbering.specs.declared.Material.{Material}
+use Rattle.numbering.specs.Material.{known, materialIn}
 use Rattle.answers.specs.declared.BestMove.{BestMove}
 use Rattle.answers.specs.declared.Answer.{Answer}
+use Rattle.position.specs.declared.Slot.{Slot}
+use Rattle.position.specs.declared.Slot.the-variants.{Absent, Present}
 use Rattle.position.specs.declared.Position.{Position}
 use Rattle.position.specs.declared.Map.{Map}
-use Rattle.position.specs.declared.Normal.{Normal}
-use Rattle.position.specs.Keyed.{boardOf, manIn, manKind}
-use Rattle.position.specs.Refusals.{standingRefusal}
-use Rattle.position.specs.Owned.{whiteOwned}
-use Rattle.position.specs.Maps.{symmetryOf, normalOf}
-use Rattle.pairs.specs.Tables.{pairs}
-use Rattle.endings.specs.Ending.{tableSize, byteOf}
+use Rattle.position.specs.declared.Men.{Men}
+use Rattle.position.specs.Keyed.{boardOf}
+use Rattle.position.specs.Refusals.{badMen, placingRefusal, standingRefusal, placingWith, standingWith}
+use Rattle.position.specs.Maps.{symmetryOf}
+use Rattle.position.specs.Posed.{boardIn, materialFor, Complete}
+use Rattle.position.specs.laws.BothSizes.{standing-placed-with}
+use Rattle.index.specs.declared.NormalPlace.{NormalPlace}
+use Rattle.index.specs.Arranging.{Normalises}
 use Rattle.endings.specs.Answers.{adviceOf, mappedAdvice, answerOf, chosen, lookUpOf}
-use Rattle.endings.specs.laws.EndingLaws.{Turned}
-use Rattle.endings.specs.laws.Checking.{keyed-ending}
-use Rattle.endings.specs.laws.Turning.{turned-normal, byte-turned, required-turned}
+use Rattle.four_men.specs.Lending.{Lent}
+use Rattle.four_men.specs.Reading.{numbered}
+use Rattle.four_men.specs.Same.{Same}
+use Rattle.four_men.specs.Answers.{lengthsFit, lookUpWith}
+use Rattle.four_men.specs.laws.Alone.{look-up-alone}
+use Rattle.four_men.specs.laws.Materials.{few-of}
+use Rattle.four_men.specs.laws.Turned.{known-of, normal-same, reads-turned, required-turned-with}
+use Rattle.four_men.specs.laws.Standing.{standing-with-facts}
 use Rattle.successors.specs.declared.Verdict.{Verdict}
-use Rattle.successors.specs.Successors.{byteBy, suitedFrom, verdictOf}
-use Rattle.successors.specs.laws.ByteLaws.{lent-byte}
-use Rattle.successors.specs.laws.VerdictLaws.{told-wrong, told-right, lent-verdict}
-use Rattle.look_up.specs.laws.Asked.{own, via-is, board-is}
+use Rattle.successors.specs.Successors.{suitedFrom, verdictOf}
+use Rattle.successors.specs.laws.VerdictLaws.{told-wrong, told-right}
 
 -- a move, its two squares carried back
 pub back-on-the-board : (via : Map) (advice : BestMove) (m v : Move) (from to : ℕ) → advice ≡ BestMove.Play m
@@ -40,61 +51,115 @@ pub back-on-the-board : (via : Map) (advice : BestMove) (m v : Move) (from to : 
 back-on-the-board via advice m v from to e f g h =
     ap BestMove.Play (h ∙ rw (f, g)) ∙ ap (mappedAdvice (inverse (symmetryOf via))) (sym e)
 
-module _ (t : List ℕ) (p : Position) where
-  pub refused-standing : (n : ℕ) → n ≡ standingRefusal p → (n ≡ 0 → ⊥) → Answer.Refused n ≡ lookUpOf t p
-  unfolding lookUpOf
+-- whether the lengths fit, asked of the men's material
+pub fit-of : (l : Lent) (t : List ℕ) (m : Men) (x : Material) (fit : Bool) → x ≡ materialFor m → fit ≡ lengthsFit x l t
+    → fit ≡ lengthsFit (materialFor m) l t
+fit-of l t m x fit e h = h ∙ ap (λ (y : Material). lengthsFit y l t) e
+
+module _ (l : Lent) (t : List ℕ) (p : Position) where
+  pub refused-standing : (n : ℕ) → n ≡ standingWith p → (n ≡ 0 → ⊥) → Answer.Refused n ≡ lookUpWith l t p
+  unfolding lookUpWith
   refused-standing n e h = sym (rw (← e, ne-eqb n 0 h))
 
-  module _ (n : ℕ) (e : n ≡ standingRefusal p) (z : n ≡ 0) where
-    pub refused-length : (length t ≡ tableSize → ⊥) → Answer.Refused 7 ≡ lookUpOf t p
-    unfolding lookUpOf
-    refused-length h = sym (rw (← e, eq-eqb n 0 z, ne-eqb (length t) tableSize h))
+  module _ (n : ℕ) (e : n ≡ standingWith p) (z : n ≡ 0) (r : NormalPlace) (f : placingWith p ≡ 0 → Normalises p r) where
+    abbrev b : Board
+    b = boardOf p
 
-    module _ (q : Position) (n′ : Normal) (o : q ≡ whiteOwned p) (r : n′ ≡ normalOf q) (m : Piece)
-        (f : m ≡ manIn (n′ .position .first)) (list : List ℕ) (byte : ℕ) (v : Verdict) (l : length t ≡ tableSize)
-        (k : list ≡ pairs) (b : byte ≡ byteBy list t (boardOf (own (n′ .position) m)))
-        (g : v ≡ verdictOf (byteBy list t) byte (boardOf (own (n′ .position) m))) where
-      abbrev c : Board
-      c = normalised (boardOf p)
+    abbrev c : Board
+    c = normalised b
 
-      asked : boardOf (own (n′ .position) m) ≡ c
-      asked = board-is p (sym e ∙ z) q n′ o r m f
+    abbrev m : Material
+    m = materialIn (b .men)
 
-      turned : Turned (manKind p) (boardOf p) c
-      turned = turned-normal (manKind p) (boardOf p) (keyed-ending (manKind p) p refl (sym e ∙ z))
+    abbrev bytes : Board → ℕ
+    bytes = reads chess (numbered m l) t
 
-      at-number : byte ≡ byteOf t (boardOf p)
-      at-number =
-          b ∙ ap (byteBy list t) asked ∙ ap (λ (h : Board → ℕ). h c) (lent-byte list t k)
-          ∙ byte-turned (manKind p) t (boardOf p) c turned
+    stands : standingWith p ≡ 0
+    stands = sym e ∙ z
 
-      told : v ≡ verdictOf (byteOf t) byte c
-      told = lent-verdict list t byte c v k (g ∙ ap (verdictOf (byteBy list t) byte) asked)
+    there : Normalises p r
+    there = f (standing-placed-with p stands)
 
-      required : requiredAt chess (byteOf t) c ≡ requiredAt chess (byteOf t) (boardOf p)
-      required = required-turned (manKind p) t (boardOf p) c turned
+    few : LegalFew b
+    few = let w = standing-with-facts p stands in record { legality = w .0; few = few-of m (b .men) (w .1) }
 
-      pub refused-byte : v ≡ Verdict.Wrong → Answer.Refused 11 ≡ lookUpOf t p
-      unfolding lookUpOf
-      refused-byte w =
-          sym (rw (
-            ← e,
-            eq-eqb n 0 z,
-            eq-eqb (length t) tableSize l,
-            ← at-number,
-            ← required,
-            told-wrong (byteOf t) c byte v told w,
-          ))
+    is-known : T (known m)
+    is-known = let w = standing-with-facts p stands in known-of m b (w .0) (w .1)
 
-      -- the advice carried back by the map
-      pub answered : (a d : BestMove) → v ≡ Verdict.Right a → d ≡ mappedAdvice (inverse (symmetryOf (n′ .via))) a
-          → answerOf byte d ≡ lookUpOf t p
-      unfolding lookUpOf chosen suitedFrom firstSuited
-      answered a d w u =
-          let j = told-right (byteOf t) c byte v a told w in
-          let x : d ≡ chosen (byteOf t) (boardOf p) =
-          u ∙ ap (λ (h : Symmetry). mappedAdvice (inverse h) a) (via-is p (sym e ∙ z) q n′ o r)
-          ∙ ap (mappedAdvice (inverse (normalBy (boardOf p)))) (j .1)
-          ∙ ap (λ (h : ℕ). mappedAdvice (inverse (normalBy (boardOf p))) (adviceOf (suitedFrom (byteOf t) h c)))
-          (at-number ∙ sym (byte-turned (manKind p) t (boardOf p) c turned)) in
-          sym (rw (← e, eq-eqb n 0 z, eq-eqb (length t) tableSize l, ← at-number, ← required, j .0, ← x))
+    same : Same b c
+    same = normal-same b few
+
+    own : bytes b ≡ bytes c
+    own = reads-turned m is-known l t b c same
+
+    module _ (fit : Bool) (o : fit ≡ lengthsFit (materialFor (r .men)) l t) where
+      fits : fit ≡ lengthsFit m l t
+      fits = o ∙ ap (λ (x : Material). lengthsFit x l t) (there .material)
+
+      pub refused-length : fit ≡ false → Answer.Refused 7 ≡ lookUpWith l t p
+      unfolding lookUpWith
+      refused-length h = sym (rw (← e, eq-eqb n 0 z, sym fits ∙ h))
+
+      module _ (long : fit ≡ true) (byte : ℕ) (v : Verdict)
+          (g : Complete (r .men) (r .place)
+          → byte ≡ reads chess (numbered (materialFor (r .men)) l) t (boardIn (r .men) (r .place)))
+          (h : Complete (r .men) (r .place)
+          → v ≡ verdictOf (reads chess (numbered (materialFor (r .men)) l) t) byte (boardIn (r .men) (r .place))) where
+        at-normal : byte ≡ bytes c
+        at-normal = g (there .complete)
+            ∙ ap (λ (x : Material). reads chess (numbered x l) t (boardIn (r .men) (r .place))) (there .material)
+            ∙ ap bytes (there .board)
+
+        at-number : byte ≡ bytes b
+        at-number = at-normal ∙ sym own
+
+        told : v ≡ verdictOf bytes byte c
+        told = h (there .complete)
+            ∙ ap (λ (x : Material). verdictOf (reads chess (numbered x l) t) byte (boardIn (r .men) (r .place)))
+            (there .material)
+            ∙ ap (verdictOf bytes byte) (there .board)
+
+        required : requiredAt chess bytes c ≡ requiredAt chess bytes b
+        required = sym (required-turned-with m is-known l t b c same)
+
+        pub refused-byte : v ≡ Verdict.Wrong → Answer.Refused 11 ≡ lookUpWith l t p
+        unfolding lookUpWith
+        refused-byte w =
+            sym (rw (
+              ← e,
+              eq-eqb n 0 z,
+              sym fits ∙ long,
+              ← at-number,
+              ← required,
+              told-wrong bytes c byte v told w,
+            ))
+
+        -- the advice carried back by the map
+        pub answered : (a d : BestMove) → v ≡ Verdict.Right a → d ≡ mappedAdvice (inverse (symmetryOf (r .via))) a
+            → answerOf byte d ≡ lookUpWith l t p
+        unfolding lookUpWith chosen suitedFrom firstSuited
+        answered a d w u =
+            let j = told-right bytes c byte v a told w in
+            let x : d ≡ chosen bytes b =
+            u ∙ ap (λ (k : Symmetry). mappedAdvice (inverse k) a) (there .map)
+            ∙ ap (mappedAdvice (inverse (normalBy b))) (j .1)
+            ∙ ap (λ (i : ℕ). mappedAdvice (inverse (normalBy b)) (adviceOf (suitedFrom bytes i c))) at-normal in
+            sym (rw (← e, eq-eqb n 0 z, sym fits ∙ long, ← at-number, ← required, j .0, ← x))
+
+-- ---- the parts that keep to three men
+
+-- two men, or an absent one before a present one, are refused 1
+pub two-refused : (t : List ℕ) (p : Position) (a : Piece) → p .second ≡ Present a → Answer.Refused 1 ≡ lookUpOf t p
+unfolding lookUpOf standingRefusal placingRefusal
+two-refused t p a e = sym (rw (bad (p .first) (p .second) a e))
+  where
+    bad : (f s : Slot) (a : Piece) → s ≡ Present a → badMen f s ≡ true
+    bad f s a e = ap (badMen f) e ∙ go f
+      where
+        go : (f : Slot) → badMen f (Present a) ≡ true
+        go Absent = refl
+        go (Present x) = refl
+
+pub one-answered : (l : Lent) (t : List ℕ) (p : Position) (r : Answer) → p .second ≡ Absent → r ≡ lookUpWith l t p
+    → r ≡ lookUpOf t p
+one-answered l t p r e h = h ∙ look-up-alone l t p e

@@ -9,7 +9,7 @@ use borrow.Author.Tests.{eq-eqb, ne-eqb}
 use Rattle.rules.specs.Rules.{allMoves}
 use Rattle.position.specs.declared.Position.{Position}
 use Rattle.position.specs.Keyed.{boardOf}
-use Rattle.position.specs.Refusals.{standingRefusal}
+use Rattle.position.specs.Refusals.{standingWith}
 use Rattle.move_list.specs.declared.MoveList.{MoveList}
 use Rattle.move_list.specs.declared.Listed.{Listed}
 use Rattle.move_list.specs.declared.Counted.the-variants.{Count, Refused}
@@ -22,10 +22,10 @@ listed-eq : {r r′ : ℕ} {l l′ : MoveList} → r ≡ r′ → l ≡ l′
     → _≡_ {A = Listed} (record { refusal = r; list = l }) (record { refusal = r′; list = l′ })
 listed-eq p q = ap₂ (λ (x : ℕ) (y : MoveList). record { refusal = x; list = y }) p q
 
-module _ (p : Position) (r : ℕ) (e : r ≡ standingRefusal p) where
+module _ (p : Position) (r : ℕ) (e : r ≡ standingWith p) where
   module _ (n : r ≡ 0 → ⊥) where
-    some-refusal : eqb (standingRefusal p) 0 ≡ false
-    some-refusal = ne-eqb (standingRefusal p) 0 (λ q. n (e ∙ q))
+    some-refusal : eqb (standingWith p) 0 ≡ false
+    some-refusal = ne-eqb (standingWith p) 0 (λ q. n (e ∙ q))
 
     no-moves : movesOf p ≡ []
     unfolding movesOf
@@ -40,8 +40,8 @@ module _ (p : Position) (r : ℕ) (e : r ≡ standingRefusal p) where
     refused-count = record { answer = rw some-refusal (ap Refused e); refusal = e; count = rw no-moves }
 
   module _ (z : r ≡ 0) where
-    no-refusal : eqb (standingRefusal p) 0 ≡ true
-    no-refusal = eq-eqb (standingRefusal p) 0 (sym e ∙ z)
+    no-refusal : eqb (standingWith p) 0 ≡ true
+    no-refusal = eq-eqb (standingWith p) 0 (sym e ∙ z)
 
     all-moves : movesOf p ≡ allMoves (boardOf p)
     unfolding movesOf

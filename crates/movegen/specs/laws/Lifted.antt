@@ -1,5 +1,5 @@
--- Legal moves without making them, on any board: what the other side attacks once the mover's square is cleared tells which of its moves
--- leave its own king attacked.
+-- Legal moves without making them, on any board: what the other side attacks once the mover's square is cleared tells
+-- which of its moves leave its own king attacked.
 use mathlib.Core.Path.{_≡_, refl, sym, ap, _∙_, subst}
 use mathlib.Core.Bool.{Bool, true, false, cond, not, _&&_, and-true}
 use Prim.Native.Nat.{ℕ, _-_, _<_}
@@ -45,7 +45,8 @@ module _ (b : Board) (from to : ℕ) (g : Goer b from to) (colour : ℕ) (alone 
       (reaches-fewer (occupied (moved b from to)) (lifted (occupied b) from) t (λ u d. still-occupied b from to g u)
       (n .kind) (n .square) (and-right own hit (w .2))))
 
-  -- an attack on the target with the mover lifted is there after the move: a piece taken on the target did not attack it
+  -- an attack on the target with the mover lifted is there after the move: a piece taken on the target did not attack
+  -- it
   attack-after : T (attackedOver (lifted (occupied b) from) b colour to) → T (attacked (moved b from to) colour to)
   unfolding attacked attacks attackedOver
   attack-after h =

@@ -48,7 +48,7 @@ module _ (p : Position) (from occ reach mine free : ℕ) (eo : occ ≡ setOf (oc
     (eg : (t : ℕ) → t < 64 → has reach t ≡ goesOver (has occ) (boardOf p) from t)
     (em : mine ≡ setOf (stands (boardOf p) (p .side)))
     (ef : free ≡ setOf (λ (u : ℕ). has reach u && not (has mine u))) where
-  free-has : (t : ℕ) → t < 64 → has free t ≡ (goes (boardOf p) from t && not (stands (boardOf p) (p .side) t))
+  pub free-has : (t : ℕ) → t < 64 → has free t ≡ (goes (boardOf p) from t && not (stands (boardOf p) (p .side) t))
   unfolding goes goesOver
   free-has t h =
       set-has _ ef t h

@@ -1,5 +1,5 @@
--- Every board with one or two men has a change that puts its men in standard order and its kings by the rule; men in standard order are told by
--- their material.
+-- Every board with one or two men has a change that puts its men in standard order and its kings by the rule; men in
+-- standard order are told by their material.
 use mathlib.Core.Path.{_≡_, refl, ap, sym, _∙_}
 use mathlib.Core.Bool.{Bool, true, false, cond, not, _&&_}
 use mathlib.Core.List.{List, [], _∷_, map}

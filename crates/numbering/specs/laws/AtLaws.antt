@@ -1,4 +1,5 @@
--- The board of a number: it bears it, and every board with a number has the normal board of its class there. For one man and for two.
+-- The board of a number: it bears it, and every board with a number has the normal board of its class there. For one
+-- man and for two.
 use mathlib.Core.Path.{_≡_, refl, ap, subst, sym, _∙_}
 use mathlib.Core.Bool.{_&&_}
 use mathlib.Core.List.{List, [], _∷_, map}
@@ -57,11 +58,11 @@ unplaced-twice (a ∷ l) = ap (λ (k : List Piece). unplaced a ∷ k) (unplaced-
 
 -- ---- the board at a number, of any list of men
 
-kings-at : (ending : List Piece) (n : ℕ) → KingsOf (leading ending n % 462)
+pub kings-at : (ending : List Piece) (n : ℕ) → KingsOf (leading ending n % 462)
 kings-at ending n = kings-of (leading ending n % 462) (omega arith)
 
 -- it has that number for its key
-key-at : (ending : List Piece) (n : ℕ) → keyOf (boardAt ending n) ≡ n
+pub key-at : (ending : List Piece) (n : ℕ) → keyOf (boardAt ending n) ≡ n
 unfolding keyOf boardAt
 key-at ending n =
     let q = kings-at ending n .bears in
@@ -69,7 +70,7 @@ key-at ending n =
     (kingsOf (leading ending n % 462) % 64) ≡ leading ending n = omega arith in
     ap (λ (k : ℕ). keyFrom k (menAt ending n)) e ∙ men-key ending n
 
-ruled-at : (ending : List Piece) (n : ℕ) → T (kingRule (boardAt ending n .white) (boardAt ending n .black))
+pub ruled-at : (ending : List Piece) (n : ℕ) → T (kingRule (boardAt ending n .white) (boardAt ending n .black))
 unfolding boardAt
 ruled-at ending n = kings-at ending n .ruled
 
@@ -132,7 +133,7 @@ module _ {material : List Piece} (w : materialOf material ≡ material) (b : Boa
 
 -- ---- used numbers
 
-apart-by : (s : Change) (b : Board) → apart (pieces (changedBy s b)) ≡ apart (pieces b)
+pub apart-by : (s : Change) (b : Board) → apart (pieces (changedBy s b)) ≡ apart (pieces b)
 unfolding changedBy
 apart-by s b = apart-changed (s .symmetry) (s .colours && exchangeable (b .men)) (reordered (s .order) b)
     ∙ apart-crossed (s .order) b

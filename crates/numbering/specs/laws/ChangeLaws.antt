@@ -46,7 +46,7 @@ every-change s = go (s .order) (s .colours) (s .symmetry)
 
 -- ---- two men in the other order
 
-crossed-again : (e f : Bool) (l : List Piece) → crossed f (crossed e l) ≡ crossed (xor e f) l
+pub crossed-again : (e f : Bool) (l : List Piece) → crossed f (crossed e l) ≡ crossed (xor e f) l
 unfolding crossed xor
 crossed-again false false l = refl
 crossed-again false true l = refl
@@ -86,7 +86,7 @@ reordered-changed f m x b = board-eq refl refl refl (crossed-map (changedPiece m
 reordered-again : (e f : Bool) (b : Board) → reordered f (reordered e b) ≡ reordered (xor e f) b
 reordered-again e f b = board-eq refl refl refl (crossed-again e f (b .men))
 
-xor-and : (a c e : Bool) → xor (a && e) (c && e) ≡ (xor a c && e)
+pub xor-and : (a c e : Bool) → xor (a && e) (c && e) ≡ (xor a c && e)
 unfolding xor
 xor-and true true true = refl
 xor-and true true false = refl

@@ -1,5 +1,5 @@
--- The laws of numbers, once for one man and for two: the number of a board is the least key of its class; boards have one number exactly if a
--- change makes one into the other; a number is in range.
+-- The laws of numbers, once for one man and for two: the number of a board is the least key of its class; boards have
+-- one number exactly if a change makes one into the other; a number is in range.
 use mathlib.Core.Path.{_≡_, refl, ap, ap₂, subst, subst⁻¹, sym, _∙_}
 use mathlib.Core.Bool.{Bool, true, false, _&&_}
 use mathlib.Core.Logic.{⊎-elim, _↔_}
@@ -58,11 +58,11 @@ standing b h t =
       kings = h .kings;
     }
 
-arranged-men : {material : List Piece} (b : Board) → HasNumber material b → Standard (arranged b)
+pub arranged-men : {material : List Piece} (b : Board) → HasNumber material b → Standard (arranged b)
 unfolding arranged changedBy changed
 arranged-men b h = arranged-standard (swapping false) (b .men) (h .colours)
 
-arranged-has : {material : List Piece} (b : Board) → HasNumber material b → HasNumber material (arranged b)
+pub arranged-has : {material : List Piece} (b : Board) → HasNumber material b → HasNumber material (arranged b)
 unfolding arranged
 arranged-has b h = has-changed _ b h
 
@@ -128,7 +128,7 @@ module _ {material : List Piece} (c : Board) (h : HasNumber material c) (u : Sta
       (king-map-corners (c .white) (c .black) (prefers (changed (turn (c .white)) false c .men)) white-on black-on)
       (rw (separate-mapped (rulingMap c) (c .white) (c .black)) (h .kings))
 
-  last-men : last .men ≡ ordered men-mid
+  pub last-men : last .men ≡ ordered men-mid
   unfolding changedBy changed ordered rulingOrder
   last-men =
       sym (ap (λ (z : Bool). crossed (falling men-mid && z) men-mid) (like-map (rulingMap c) (c .men))

@@ -1,4 +1,5 @@
--- The kings under the eight maps: the map that puts them by the rule, and that there is no other but the exchange with both on the diagonal.
+-- The kings under the eight maps: the map that puts them by the rule, and that there is no other but the exchange with
+-- both on the diagonal.
 use mathlib.Core.Path.{_≡_, refl}
 use mathlib.Core.Bool.{Bool, true, false, not, _&&_, Bool·beq}
 use Prim.Native.Nat.{ℕ, _<_}

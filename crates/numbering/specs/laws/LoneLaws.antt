@@ -1,4 +1,5 @@
--- One white man: the normal board of his class is the image by 01's map, and his number is used exactly as 01 says. On any numbers whatever.
+-- One white man: the normal board of his class is the image by 01's map, and his number is used exactly as 01 says. On
+-- any numbers whatever.
 use mathlib.Core.Path.{_≡_, refl, ap, ap₂, sym, _∙_}
 use mathlib.Core.Bool.{Bool, true, false, not, _&&_, _||_, Bool·beq}
 use mathlib.Core.Logic.{_⊎_, inl, inr, ⊎-elim}

@@ -1,5 +1,5 @@
--- Of the orders and colours that a class allows, like men by their squares give the least key; and the exchange of file and rank is made where it
--- lowers it.
+-- Of the orders and colours that a class allows, like men by their squares give the least key; and the exchange of file
+-- and rank is made where it lowers it.
 use mathlib.Core.Path.{_≡_, refl, ap, subst, sym, _∙_}
 use mathlib.Core.Bool.{Bool, true, false, not, _&&_}
 use mathlib.Core.List.{List, [], _∷_, map}
@@ -179,7 +179,7 @@ pub not-preferred : (l : List Piece) → prefers l ≡ false
 unfolding prefers
 not-preferred l e = ltb-false (keyFrom 0 (ordered (map (changedPiece exchange false) l))) (keyFrom 0 (ordered l)) e
 
-twice : (l : List Piece) → map (changedPiece exchange false) (map (changedPiece exchange false) l) ≡ l
+pub twice : (l : List Piece) → map (changedPiece exchange false) (map (changedPiece exchange false) l) ≡ l
 unfolding inverse swapped
 twice [] = refl
 twice (a ∷ l) = rw (mapped-inverse exchange (a .square), twice l)

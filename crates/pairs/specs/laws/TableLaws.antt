@@ -30,7 +30,7 @@ all-slots : T (allBelow slot-right 28)
 unfolding allBelow slot-right slotOf
 all-slots = tt
 
-in-triangle : (white : ℕ) → T (inTriangle white) → white < 28
+pub in-triangle : (white : ℕ) → T (inTriangle white) → white < 28
 in-triangle white t =
     omega (
       arith,
@@ -39,7 +39,7 @@ in-triangle white t =
     )
 
 -- a square has a place exactly in the triangle
-slot-in : (white : ℕ) → T (inTriangle white) → slotOf white < 10
+pub slot-in : (white : ℕ) → T (inTriangle white) → slotOf white < 10
 unfolding slot-right
 slot-in white t =
     ltb→lt (slotOf white) 10

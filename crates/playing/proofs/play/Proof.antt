@@ -5,13 +5,13 @@ use Rattle.playing.specs.laws.PlayLaws.{refused-play, illegal-play, lega
 use Rattle.playing.proofs.play.Statement.{statement}
 use Rattle.playing.proofs.play.Tie as tie
 
-standing-refusal-requires : tie.Need-standing-refusal-requires
-standing-refusal-requires c κs = search needs
+standing-with-requires : tie.Need-standing-with-requires
+standing-with-requires c κs = search needs
 
 returns : tie.Need-returns
 returns c =
     let a = c .before .before .args in
-    refused-play (a .p) (a .from) (a .to) _ (c .before .standing-refusal .ensures) (c .if1 .taken)
+    refused-play (a .p) (a .from) (a .to) _ (c .before .standing-with .ensures) (c .if1 .taken)
 
 legal-targets-requires : tie.Need-legal-targets-requires
 legal-targets-requires c κs = search needs
@@ -24,7 +24,7 @@ returns-2 c =
     let l = c .before .before in
     let s = l .before .before in
     let a = s .before .args in
-    illegal-play (a .p) (a .from) (a .to) _ (s .standing-refusal .ensures) (l .before .if1 .left) _
+    illegal-play (a .p) (a .from) (a .to) _ (s .standing-with .ensures) (l .before .if1 .left) _
     (l .legal-targets .ensures) (l .legal-targets .ok) _ (c .before .has .ensures) (not-true _ (c .if2 .taken))
 
 make-requires : tie.Need-make-requires
@@ -39,7 +39,7 @@ returns-3 c =
     let l = t .before .before in
     let s = l .before .before in
     let a = s .before .args in
-    legal-play (a .p) (a .from) (a .to) _ (s .standing-refusal .ensures) (l .before .if1 .left) _
+    legal-play (a .p) (a .from) (a .to) _ (s .standing-with .ensures) (l .before .if1 .left) _
     (l .legal-targets .ensures) (l .legal-targets .ok) _ (t .before .has .ensures) _ _ (not-false _ (t .if2 .left))
     (c .before .make .ensures) (c .closed-up .ensures)
 
@@ -47,7 +47,7 @@ pub play-spec : {M : Type 1} → statement M
 play-spec =
     tie.close
     (tie.spec
-    standing-refusal-requires
+    standing-with-requires
     returns
     legal-targets-requires
     has-requires

@@ -16,7 +16,7 @@ use Rattle.position.specs.declared.Slot.{Slot}
 use Rattle.position.specs.declared.Slot.the-variants.{Absent, Present}
 use Rattle.position.specs.declared.Position.{Position}
 use Rattle.position.specs.Keyed.{boardOf}
-use Rattle.position.specs.Refusals.{standingRefusal}
+use Rattle.position.specs.Refusals.{standingWith}
 use Rattle.movegen.specs.After.{after}
 use Rattle.playing.specs.declared.Played.the-variants.{At, NotLegal, Refused}
 use Rattle.playing.specs.Playing.{firstOf, secondOf, closedUp, playOf}
@@ -30,10 +30,10 @@ targets-tell b from to targets e l = go (le-or-lt 64 to)
     go (inl h) = has-off targets to h l ∙ sym (fails (canMove b from to) (λ t. omega (arith, can-on b from to t .1)))
     go (inr h) = set-has (canMove b from) e to h
 
-module _ (p : Position) (from to r : ℕ) (e : r ≡ standingRefusal p) where
+module _ (p : Position) (from to r : ℕ) (e : r ≡ standingWith p) where
   pub refused-play : (r ≡ 0 → ⊥) → Refused r ≡ playOf p from to
   unfolding playOf
-  refused-play n = sym (rw (ne-eqb (standingRefusal p) 0 (λ q. n (e ∙ q))) (ap Refused (sym e)))
+  refused-play n = sym (rw (ne-eqb (standingWith p) 0 (λ q. n (e ∙ q))) (ap Refused (sym e)))
 
   module _ (z : r ≡ 0) (targets : ℕ) (s : targets ≡ setOf (canMove (boardOf p) from)) (l : targets < 2 ^ 64)
       (found : Bool) (f : found ≡ has targets to) where
@@ -42,13 +42,13 @@ module _ (p : Position) (from to r : ℕ) (e : r ≡ standingRefusal p) where
 
     pub illegal-play : found ≡ false → NotLegal ≡ playOf p from to
     unfolding playOf
-    illegal-play h = sym (rw (eq-eqb (standingRefusal p) 0 (sym e ∙ z), told false h))
+    illegal-play h = sym (rw (eq-eqb (standingWith p) 0 (sym e ∙ z), told false h))
 
     pub legal-play : (q c : Position) → found ≡ true → q ≡ after p from to → c ≡ closedUp q
         → At c ≡ playOf p from to
     unfolding playOf
     legal-play q c h m k =
-        ap At (k ∙ ap closedUp m) ∙ sym (rw (eq-eqb (standingRefusal p) 0 (sym e ∙ z), told true h))
+        ap At (k ∙ ap closedUp m) ∙ sym (rw (eq-eqb (standingWith p) 0 (sym e ∙ z), told true h))
 
 -- ---- closing up, slot by slot
 

@@ -5,7 +5,7 @@ use mathlib.Core.List.{_++_}
 use Prim.Native.Nat.{ℕ}
 use lib.Dec.{T, eqb}
 use borrow.Author.Tests.{eq-eqb, eqb-true}
-use Rattle.finite.specs.Truth.{of-true, true-of, true-not-false}
+use Rattle.finite.specs.Truth.{of-true, true-of, true-not-false, refuted}
 use Rattle.finite.specs.Members.{_∈_}
 use Rattle.rules.specs.declared.Move.{Move}
 use Rattle.rules.specs.Rules.{Board, empty, legal, canMove, moved, moves}
@@ -16,8 +16,9 @@ use Rattle.position.specs.declared.Slot.{Slot}
 use Rattle.position.specs.declared.Slot.the-variants.{Absent, Present}
 use Rattle.position.specs.declared.Position.{Position}
 use Rattle.position.specs.Keyed.{slotMen, boardOf}
-use Rattle.position.specs.Refusals.{standingRefusal}
-use Rattle.position.specs.laws.Legality.{standing-facts, one-men}
+use Rattle.position.specs.Refusals.{badMenOf, standingWith}
+use Rattle.position.specs.laws.BothSizes.{standing-placed-with, placed-men-with}
+use Rattle.four_men.specs.laws.Standing.{standing-with-facts}
 use Rattle.movegen.specs.After.{after}
 use Rattle.movegen.specs.laws.Making.{after-moved}
 use Rattle.playing.specs.declared.Played.{Played}
@@ -58,51 +59,59 @@ positionIn p (Refused k) = p
 after-board : (p : Position) (from to : ℕ) → boardOf (closedUp (after p from to)) ≡ moved (boardOf p) from to
 after-board p from to = closed-board (after p from to) ∙ after-moved from to p
 
+-- there is a man
+some-man : (f s : Slot) → badMenOf f s ≡ false → empty (slotMen f ++ slotMen s) ≡ false
+some-man Absent s e = absurd (refuted e tt)
+some-man (Present m) s e = refl
+
+some-men : (p : Position) → standingWith p ≡ 0 → empty (boardOf p .men) ≡ false
+unfolding boardOf
+some-men p z = some-man (p .first) (p .second) (placed-men-with p (standing-placed-with p z))
+
 module _ (p : Position) (from to : ℕ) where
   -- a legal move of a position that stands
-  plays : standingRefusal p ≡ 0 → T (canMove (boardOf p) from to) → Plays p from to (closedUp (after p from to))
+  plays : standingWith p ≡ 0 → T (canMove (boardOf p) from to) → Plays p from to (closedUp (after p from to))
   plays z t =
-      let s = standing-facts p z in
-      let bare : empty (boardOf p .men) ≡ false = ap empty (one-men p (s .0)) in
+      let s = standing-with-facts p z in
       let e = after-board p from to in
       record {
         stood = z;
-        listed = in-moves (boardOf p) from to bare t;
+        listed = in-moves (boardOf p) from to (some-men p z) t;
         board = e;
-        legal-after = subst (λ (b : Board). T (legal b)) (sym e) (closed (boardOf p) from to (s .1) t);
+        legal-after = subst (λ (b : Board). T (legal b)) (sym e) (closed (boardOf p) from to (s .0) t);
       }
 
   -- the position that is given is the one after a legal move
   pub played-true : (q : Position) → playOf p from to ≡ At q → Plays p from to q
   unfolding playOf
   played-true q h =
-      go (eqb (standingRefusal p) 0) refl (canMove (boardOf p) from to) refl h
+      go (eqb (standingWith p) 0) refl (canMove (boardOf p) from to) refl h
     where
-      go : (a : Bool) → eqb (standingRefusal p) 0 ≡ a → (c : Bool) → canMove (boardOf p) from to ≡ c
-          → cond a (cond c (At (closedUp (after p from to))) NotLegal) (Refused (standingRefusal p)) ≡ At q
+      go : (a : Bool) → eqb (standingWith p) 0 ≡ a → (c : Bool) → canMove (boardOf p) from to ≡ c
+          → cond a (cond c (At (closedUp (after p from to))) NotLegal) (Refused (standingWith p)) ≡ At q
           → Plays p from to q
       go true e true f h =
-          subst (Plays p from to) (ap (positionIn p) h) (plays (eqb-true (standingRefusal p) 0 e) (of-true f))
+          subst (Plays p from to) (ap (positionIn p) h) (plays (eqb-true (standingWith p) 0 e) (of-true f))
       go true e false f h = absurd (true-not-false (ap isAt h) refl)
       go false e c f h = absurd (true-not-false (ap isAt h) refl)
 
   -- a refusal is the position's
   pub refused-played : (k : ℕ) → playOf p from to ≡ Refused k
-      → (k ≡ standingRefusal p) × (eqb (standingRefusal p) 0 ≡ false)
+      → (k ≡ standingWith p) × (eqb (standingWith p) 0 ≡ false)
   unfolding playOf
-  refused-played k h = go (eqb (standingRefusal p) 0) refl (canMove (boardOf p) from to) h
+  refused-played k h = go (eqb (standingWith p) 0) refl (canMove (boardOf p) from to) h
     where
-      go : (a : Bool) → eqb (standingRefusal p) 0 ≡ a → (c : Bool)
-          → cond a (cond c (At (closedUp (after p from to))) NotLegal) (Refused (standingRefusal p)) ≡ Refused k
-          → (k ≡ standingRefusal p) × (eqb (standingRefusal p) 0 ≡ false)
+      go : (a : Bool) → eqb (standingWith p) 0 ≡ a → (c : Bool)
+          → cond a (cond c (At (closedUp (after p from to))) NotLegal) (Refused (standingWith p)) ≡ Refused k
+          → (k ≡ standingWith p) × (eqb (standingWith p) 0 ≡ false)
       go true e true h = absurd (true-not-false (ap isRefused h) refl)
       go true e false h = absurd (true-not-false (ap isRefused h) refl)
       go false e c h = (sym (ap refusalIn h), e)
 
 -- every move of the list is played
-pub listed-played : (p : Position) (m : Move) → standingRefusal p ≡ 0 → m ∈ moves (boardOf p)
+pub listed-played : (p : Position) (m : Move) → standingWith p ≡ 0 → m ∈ moves (boardOf p)
     → playOf p (m .from) (m .to) ≡ At (closedUp (after p (m .from) (m .to)))
 unfolding playOf
 listed-played p m z h =
     let can = of-moves (boardOf p) m h .1 .can in
-    rw (eq-eqb (standingRefusal p) 0 z, true-of {b = canMove (boardOf p) (m .from) (m .to)} can)
+    rw (eq-eqb (standingWith p) 0 z, true-of {b = canMove (boardOf p) (m .from) (m .to)} can)

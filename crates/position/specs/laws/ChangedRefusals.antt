@@ -1,4 +1,5 @@
--- A position under a map, the colours exchanged or not, stands for the board so changed and meets the same refusal from 1 to 6.
+-- A position under a map, the colours exchanged or not, stands for the board so changed and meets the same refusal from
+-- 1 to 6.
 use mathlib.Core.Path.{_≡_, refl, sym, ap, ap₂, _∙_}
 use mathlib.Core.Bool.{Bool, true, false, cond, not, xor, _||_}
 use Prim.Native.Nat.{_-_, _<_}

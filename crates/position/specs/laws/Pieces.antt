@@ -1,4 +1,5 @@
--- The pieces of a position one by one, as code goes through them: a test over a board's pieces is a test of each of the four.
+-- The pieces of a position one by one, as code goes through them: a test over a board's pieces is a test of each of the
+-- four.
 use mathlib.Core.Path.{_≡_, sym, ap}
 use mathlib.Core.Bool.{Bool, false, _&&_, or-false, and-false}
 use mathlib.Core.Logic.{inl}

@@ -153,7 +153,7 @@ standing-placed p z = eqb-true (placingRefusal p) 0 (go (eqb (placingRefusal p) 
 
 -- ---- no refusal of a position is above 6
 
-five-most : (a b c d e : Bool) → chain a b c d e ≤ 5
+pub five-most : (a b c d e : Bool) → chain a b c d e ≤ 5
 five-most true b c d e = omega arith
 five-most false true c d e = omega arith
 five-most false false true d e = omega arith

@@ -15,12 +15,12 @@ use Rattle.rules.specs.declared.Move.{Move}
 use Rattle.rules.specs.Rules.{zeroMove, moves}
 use Rattle.position.specs.declared.Position.{Position}
 use Rattle.position.specs.Keyed.{boardOf}
-use Rattle.position.specs.Refusals.{standingRefusal}
+use Rattle.position.specs.Refusals.{standingWith}
 use Rattle.move_list.specs.declared.Listed.{Listed}
 use Rattle.move_list.specs.declared.Counted.the-variants.{Count, Refused}
 use Rattle.move_list.specs.Lists.{room, listOf}
 use Rattle.move_list.specs.Answers.{movesOf, listed, countAnswer}
-use Rattle.move_list.specs.laws.Served.{served-moves, served-room}
+use Rattle.move_list.specs.laws.Served.{served-moves, few-moves}
 use Rattle.move_list.specs.laws.ListLaws.{drop-replicate}
 use Rattle.slips.specs.Slip.{padded}
 use Rattle.adjudication.specs.declared.Reply.{Reply}
@@ -101,15 +101,15 @@ moves-written ms bytes cleared h k e =
 -- ---- the move list's answer
 
 -- the list's refusal and count make the count's word
-list-word : (p : Position) → standingRefusal p + length (movesOf p) * 256 ≡ countWord (countAnswer p)
+list-word : (p : Position) → standingWith p + length (movesOf p) * 256 ≡ countWord (countAnswer p)
 unfolding movesOf countAnswer
-list-word p = go (eqb (standingRefusal p) 0) refl
+list-word p = go (eqb (standingWith p) 0) refl
   where
-    go : (b : Bool) → eqb (standingRefusal p) 0 ≡ b
-        → standingRefusal p + length (cond b (moves (boardOf p)) []) * 256
-        ≡ countWord (cond b (Count (length (moves (boardOf p)))) (Refused (standingRefusal p)))
-    go true e = rw (eqb-true (standingRefusal p) 0 e) (zero-add (length (moves (boardOf p)) * 256))
-    go false e = add-zero (standingRefusal p)
+    go : (b : Bool) → eqb (standingWith p) 0 ≡ b
+        → standingWith p + length (cond b (moves (boardOf p)) []) * 256
+        ≡ countWord (cond b (Count (length (moves (boardOf p)))) (Refused (standingWith p)))
+    go true e = rw (eqb-true (standingWith p) 0 e) (zero-add (length (moves (boardOf p)) * 256))
+    go false e = add-zero (standingWith p)
 
 listed-word : (p : Position) (l : Listed) → l ≡ listed p → l .refusal + l .list .count * 256 ≡ countWord (countAnswer p)
 unfolding listed listOf
@@ -121,10 +121,10 @@ listed-moves p l e = ap (λ (x : Listed). take (x .list .count) (x .list .moves)
 
 pub listed-few : (p : Position) (l : Listed) → l ≡ listed p → l .list .count ≤ room
 unfolding listed listOf movesOf
-listed-few p l e = rw e (go (eqb (standingRefusal p) 0) refl)
+listed-few p l e = rw e (go (eqb (standingWith p) 0) refl)
   where
-    go : (b : Bool) → eqb (standingRefusal p) 0 ≡ b → length (cond b (moves (boardOf p)) []) ≤ room
-    go true z = let s = eqb-true (standingRefusal p) 0 z in rw (served-moves p s) (served-room p s)
+    go : (b : Bool) → eqb (standingWith p) 0 ≡ b → length (cond b (moves (boardOf p)) []) ≤ room
+    go true z = let s = eqb-true (standingWith p) 0 z in rw (served-moves p s) (few-moves p)
     go false z = omega arith
 
 module _ (p : Position) (bytes : List ℕ) where

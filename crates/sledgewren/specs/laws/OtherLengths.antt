@@ -10,19 +10,19 @@ use borrow.Author.Tests.{eq-eqb}
 use Rattle.rules.specs.Rules.{moves}
 use Rattle.position.specs.declared.Position.{Position}
 use Rattle.position.specs.Keyed.{boardOf}
-use Rattle.position.specs.Refusals.{standingRefusal}
+use Rattle.position.specs.Refusals.{standingWith}
 use Rattle.move_list.specs.declared.Counted.{Counted}
 use Rattle.move_list.specs.Answers.{countAnswer}
 use Rattle.adjudication.specs.laws.Short.{reply-short}
-use Rattle.position.specs.laws.PlacedLaws.{standing-most}
+use Rattle.position.specs.laws.BothSizes.{standing-with-most}
 use Rattle.sledgewren.specs.Words.{countWord, listSize, listingOf, replied, lineAnswer}
 
 not-255 : (p : Position) → countWord (countAnswer p) ≡ 255 → ⊥
 unfolding countAnswer
-not-255 p = go (eqb (standingRefusal p) 0) (standing-most p)
+not-255 p = go (eqb (standingWith p) 0) (standing-with-most p)
   where
-    go : (b : Bool) → standingRefusal p ≤ 6
-        → countWord (cond b (Counted.Count (length (moves (boardOf p)))) (Counted.Refused (standingRefusal p))) ≡ 255
+    go : (b : Bool) → standingWith p ≤ 6
+        → countWord (cond b (Counted.Count (length (moves (boardOf p)))) (Counted.Refused (standingWith p))) ≡ 255
         → ⊥
     go true h e = omega arith
     go false h e = omega arith

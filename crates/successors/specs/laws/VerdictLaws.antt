@@ -1,38 +1,61 @@
--- From the judgement of a byte to the verdict on it, and whether a depth is required.
-use mathlib.Core.Path.{_≡_, refl, sym, ap, _∙_}
-use mathlib.Core.Bool.{Bool, true, false, cond, _&&_}
-use mathlib.Core.List.{List, [], _∷_, map}
-use mathlib.Core.Option.{Option, none, some}
-use Prim.Native.Nat.{ℕ, _+_, _≤_}
+-- From what the three pieces' moves tell to the verdict on a byte, and whether a depth is required.
+use mathlib.Core.Path.{_≡_, refl, sym, ap, subst, _∙_}
+use mathlib.Core.Bool.{Bool, true, false, cond, not, _&&_}
+use mathlib.Core.Logic.{_⊎_, inl, inr, ⊎-elim}
+use mathlib.Core.List.{List, [], _∷_, map, List·Memᴰ·head}
+use mathlib.Core.Option.{some}
+use Prim.Native.Nat.{ℕ, _+_, _≤_, _<_}
 use native.Mathlib.Omega.{arith}
-use lib.Dec.{eqb, eqb→eq}
-use lib.ListN.{length}
-use borrow.Author.Tests.{eq-eqb, ne-eqb}
-use Rattle.finite.specs.Truth.{of-true, fails, refuted, true-not-false}
+use lib.Dec.{T, eqb, eqb→eq}
+use borrow.Author.Tests.{eq-eqb, ne-eqb, eqb-true, eqb-false}
+use Rattle.finite.specs.Truth.{and-left, and-right, and-both, true-of, of-true, fails, refuted, true-not-false, same-test}
+use Rattle.finite.specs.Members.{_∈_, any-in, any-out, map-in, map-out, first, none-in}
 use Rattle.theory.specs.Required.{Rule, best, required, requiredAt}
-use Rattle.theory.specs.laws.RuleLaws.{required-rule}
+use Rattle.theory.specs.Play.{suits}
+use Rattle.theory.specs.Judge.{refutes}
+use Rattle.theory.specs.laws.RuleLaws.{required-rule, required-pos}
 use Rattle.theory.specs.laws.Step.{required-moves}
-use Rattle.theory.specs.Judge.{judge}
-use Rattle.theory.specs.laws.Judge.{judge-accepts, judge-refuses, judge-nothing, judge-nothing-over}
+use Rattle.theory.specs.laws.Judge as judging
+use Rattle.board.specs.Sets.{lowestSquare, setOf}
 use Rattle.rules.specs.declared.Move.{Move}
-use Rattle.rules.specs.Rules.{Board, empty, inCheck, allMoves, moves, mated}
-use Rattle.rules.specs.Chess.{chess, played}
-use Rattle.position.specs.declared.Position.{Position}
-use Rattle.position.specs.Keyed.{boardOf, lone}
+use Rattle.rules.specs.Rules.{Board, empty, king, inCheck, moved, canMove, moveOn, moves, mated}
+use Rattle.rules.specs.laws.CanMove.{can-on}
+use Rattle.rules.specs.Chess.{chess, played, in-moves, of-moves}
 use Rattle.answers.specs.declared.BestMove.{BestMove}
-use Rattle.pairs.specs.Tables.{pairs}
-use Rattle.endings.specs.Ending.{byteOf}
 use Rattle.endings.specs.Answers.{adviceOf}
+use Rattle.movegen.specs.declared.Reach.{Reach}
+use Rattle.successors.specs.declared.Sifted.{Sifted}
+use Rattle.successors.specs.declared.Judged.{Judged}
 use Rattle.successors.specs.declared.Verdict.{Verdict}
-use Rattle.successors.specs.Successors.{byteBy, judgedFrom, suitedFrom, verdictOf, overWith}
-use Rattle.successors.specs.laws.ByteLaws.{lent-byte}
+use Rattle.successors.specs.Successors.{siftedFrom, joined, judgedFrom, suitedFrom, verdictOf, noTargets, overOf}
+use Rattle.successors.specs.laws.PlaceLaws.{StartsAt, starts}
+use Rattle.successors.specs.laws.SiftLaws.{told-refuted, told-suited}
+use Rattle.successors.specs.laws.ChoiceLaws.{zero-fails, fails-zero, suitingSet, suitsTo, shown}
+
+-- ---- three together
+
+joined-refuted : (u v w : Sifted) → joined u v w ≡ Judged.Refuted
+    → (u ≡ Sifted.Refuted) ⊎ ((v ≡ Sifted.Refuted) ⊎ (w ≡ Sifted.Refuted))
+joined-refuted Sifted.Refuted v w e = inl refl
+joined-refuted (Sifted.Suited a) Sifted.Refuted w e = inr (inl refl)
+joined-refuted (Sifted.Suited a) (Sifted.Suited b) Sifted.Refuted e = inr (inr refl)
+joined-refuted (Sifted.Suited a) (Sifted.Suited b) (Sifted.Suited c) e =
+    let z : _≡_ {A = ℕ} 0 1 = cc in absurd (omega arith)
+
+joined-found : (u v w : Sifted) (sets : Reach) → joined u v w ≡ Judged.Found sets
+    → (u ≡ Sifted.Suited (sets .king)) × (v ≡ Sifted.Suited (sets .first)) × (w ≡ Sifted.Suited (sets .second))
+joined-found Sifted.Refuted v w sets e = let z : _≡_ {A = ℕ} 0 1 = cc in absurd (omega arith)
+joined-found (Sifted.Suited a) Sifted.Refuted w sets e = let z : _≡_ {A = ℕ} 0 1 = cc in absurd (omega arith)
+joined-found (Sifted.Suited a) (Sifted.Suited b) Sifted.Refuted sets e =
+    let z : _≡_ {A = ℕ} 0 1 = cc in absurd (omega arith)
+joined-found (Sifted.Suited a) (Sifted.Suited b) (Sifted.Suited c) sets e =
+    let r : _≡_ {A = Reach} (record { king = a; first = b; second = c }) sets = cc in (
+      ap (λ (x : Reach). Sifted.Suited (x .king)) r,
+      ap (λ (x : Reach). Sifted.Suited (x .first)) r,
+      ap (λ (x : Reach). Sifted.Suited (x .second)) r,
+    )
 
 -- ---- the byte required
-
--- it is never 0
-required-pos : (mate : Bool) (bs : List ℕ) → required mate bs ≡ 0 → ⊥
-required-pos true bs e = unfold required in omega arith
-required-pos false bs e = unfold required in omega arith
 
 two-mate : (mate : Bool) (bs : List ℕ) → eqb (required mate bs) 2 ≡ mate
 two-mate true bs = unfold required in refl
@@ -49,9 +72,6 @@ module _ (byte : Board → ℕ) (b : Board) where
   abbrev after : Move → ℕ
   after m = byte (played b m)
 
-  abbrev judged : ℕ → Option (Option Move)
-  judged c = judgedFrom byte c b none (moves b)
-
   -- with no move: 2 in check, else 1
   required-over : moves b ≡ [] → requiredAt chess byte b ≡ cond (inCheck b (b .side)) 2 1
   unfolding mated
@@ -62,38 +82,59 @@ module _ (byte : Board → ℕ) (b : Board) where
       go false = unfold required best in refl
 
   -- with a move there is no mate
-  required-more : (moves b ≡ [] → ⊥) → requiredAt chess byte b ≡ required false (map after (moves b))
-  required-more n = required-moves chess byte b
-      ∙ ap (λ (m : Bool). required m (map after (moves b))) (fails (mated b) (λ t. n (chess .mate-ends b t)))
+  required-more : (m : Move) → m ∈ moves b → requiredAt chess byte b ≡ required false (map after (moves b))
+  required-more m i = required-moves chess byte b
+      ∙ ap (λ (x : Bool). required x (map after (moves b))) (fails (mated b) (λ t. none-in (chess .mate-ends b t) i))
 
-  no-moves : (c : ℕ) → moves b ≡ [] → judged c ≡ some none
-  unfolding judge
-  no-moves c e = ap (judge c after none) e
+  -- ---- what is told of all legal moves
 
-  -- ---- what the judgement says of a byte from 1 on
+  abbrev Refuting : ℕ → Type 0
+  Refuting c = (from : ℕ) × (to : ℕ) × T (canMove b from to) × T (refutes c (byte (moved b from to)))
 
-  met-required : (c : ℕ) (m : Move) → 1 ≤ c → judged c ≡ some (some m) → requiredAt chess byte b ≡ c
-  met-required c m h e =
-      required-more (λ z. some-none (sym (no-moves c z) ∙ e)) ∙ judge-accepts c after m (moves b) h e .0
-    where
-      some-none : _≡_ {A = Option (Option Move)} (some none) (some (some m)) → ⊥
-      some-none q = let z : _≡_ {A = ℕ} 0 1 = cc in omega arith
+  abbrev Suiting : ℕ → Type 0
+  Suiting c = (from : ℕ) × (to : ℕ) × T (canMove b from to) × T (suits c (byte (moved b from to)))
 
-  refuted-other : (c : ℕ) → 1 ≤ c → judged c ≡ none → requiredAt chess byte b ≡ c → ⊥
-  refuted-other c h e q = judge-refuses c after (moves b) h e (sym (required-more more) ∙ q)
-    where
-      more : moves b ≡ [] → ⊥
-      more z = let y = sym (no-moves c z) ∙ e in let x : _≡_ {A = ℕ} 0 1 = cc in omega arith
+  abbrev Clear : ℕ → ℕ → Type 0
+  Clear c s = (t : ℕ) → T (canMove b s t) → T (refutes c (byte (moved b s t))) → ⊥
 
-  unmet-over : (c : ℕ) → judged c ≡ some none → requiredAt chess byte b ≡ c → moves b ≡ []
-  unmet-over c e q = by-empty (λ n. judge-nothing-over c after (moves b) e (sym (required-more n) ∙ q))
-    where
-      by-empty : ((moves b ≡ [] → ⊥) → moves b ≡ []) → moves b ≡ []
-      by-empty f = go (moves b) refl
-        where
-          go : (l : List Move) → moves b ≡ l → moves b ≡ []
-          go [] z = z
-          go (m ∷ l) z = f (λ y. let x = sym z ∙ y in let w : _≡_ {A = ℕ} 0 1 = cc in omega arith)
+  abbrev Or : ℕ → ℕ → Type 0
+  Or c from = (suitingSet byte c b from ≡ 0) ⊎ Suiting c
+
+  module _ (m : empty (b .men) ≡ false) (c : ℕ) (h : 1 ≤ c) where
+    refuted-other : Refuting c → requiredAt chess byte b ≡ c → ⊥
+    refuted-other r q =
+        let i = in-moves b (r .0) (r .1) m (r .2) in
+        judging.refuted c (map after (moves b)) h (any-in (refutes c) (map-in after i) (r .3))
+        (sym (required-more (moveOn b (r .0) (r .1)) i) ∙ q)
+
+    met-required : (Refuting c → ⊥) → Suiting c → requiredAt chess byte b ≡ c
+    met-required clear s =
+        let i = in-moves b (s .0) (s .1) m (s .2) in
+        required-more (moveOn b (s .0) (s .1)) i
+        ∙ judging.judged c (map after (moves b)) h
+        (λ t. let o = any-out (refutes c) (map after (moves b)) t in
+        let p = map-out after (o .0) (moves b) (o .1) in
+        clear (
+          p .0 .from,
+          p .0 .to,
+          of-moves b (p .0) (p .1) .1 .can,
+          subst (λ (k : ℕ). T (refutes c k)) (p .2) (o .2),
+        ))
+        (any-in (suits c) (map-in after i) (s .3))
+
+    unmet-over : (Suiting c → ⊥) → requiredAt chess byte b ≡ c → moves b ≡ []
+    unmet-over none-suits q = go (moves b) refl
+      where
+        go : (l : List Move) → moves b ≡ l → moves b ≡ []
+        go [] e = e
+        go (x ∷ l) e =
+            let i : x ∈ moves b = subst (λ (k : List Move). x ∈ k) (sym e) (List·Memᴰ·head refl) in
+            let t = judging.suited c (map after (moves b)) (λ z. none-in z (map-in after i))
+            (sym (required-more x i) ∙ q) in
+            let o = any-out (suits c) (map after (moves b)) t in
+            let p = map-out after (o .0) (moves b) (o .1) in
+            absurd (none-suits
+            (p .0 .from, p .0 .to, of-moves b (p .0) (p .1) .1 .can, subst (λ (k : ℕ). T (suits c k)) (p .2) (o .2)))
 
   -- ---- the verdict
 
@@ -108,35 +149,40 @@ module _ (byte : Board → ℕ) (b : Board) where
     right e a q = sym (rw (eq-eqb c (requiredAt chess byte b) (sym e), ← q))
 
     pub verdict-zero : c ≡ 0 → Verdict.Wrong ≡ verdictOf byte c b
-    verdict-zero z = wrong (λ e. required-pos (mated b) _ (sym (required-moves chess byte b) ∙ e ∙ z))
+    verdict-zero z = wrong (λ e. let h = required-pos (mated b) (map after (moves b)) in
+        let q = required-moves chess byte b in omega arith)
 
-    pub verdict-refuted : (c ≡ 0 → ⊥) → judged c ≡ none → Verdict.Wrong ≡ verdictOf byte c b
-    verdict-refuted n e = wrong (refuted-other c (omega arith) e)
+    module _ (m : empty (b .men) ≡ false) (n : c ≡ 0 → ⊥) where
+      pub verdict-refuted : Refuting c → Verdict.Wrong ≡ verdictOf byte c b
+      verdict-refuted r = wrong (refuted-other m c (omega arith) r)
 
-    pub verdict-met : (c ≡ 0 → ⊥) → (m : Move) → judged c ≡ some (some m)
-        → Verdict.Right (BestMove.Play m) ≡ verdictOf byte c b
-    unfolding suitedFrom
-    verdict-met n m e =
-        right (met-required c m (omega arith) e) (BestMove.Play m)
-        (sym (ap adviceOf (judge-accepts c after m (moves b) (omega arith) e .1)))
+      pub verdict-met : (Refuting c → ⊥) → Suiting c → (v : Move) → suitedFrom byte c b ≡ some v
+          → Verdict.Right (BestMove.Play v) ≡ verdictOf byte c b
+      verdict-met clear s v e = right (met-required m c (omega arith) clear s) (BestMove.Play v) (sym (ap adviceOf e))
 
-    pub verdict-over : judged c ≡ some none → overWith c b ≡ true → Verdict.Right BestMove.NoMove ≡ verdictOf byte c b
-    unfolding suitedFrom overWith
-    verdict-over e o =
-        right (over (moves b) refl o) BestMove.NoMove (sym (ap adviceOf (judge-nothing c after (moves b) e)))
-      where
-        over : (l : List Move) → moves b ≡ l → (empty l && eqb c (cond (inCheck b (b .side)) 2 1)) ≡ true
-            → requiredAt chess byte b ≡ c
-        over [] z q = required-over z ∙ sym (eqb→eq c (cond (inCheck b (b .side)) 2 1) (of-true q))
-        over (m ∷ l) z q = absurd (refuted (sym q) tt)
+      -- none suits: by the end of the game
+      pub verdict-unmet : (reach : Reach) → noTargets reach ≡ empty (moves b) → (Suiting c → ⊥)
+          → overOf c reach b ≡ verdictOf byte c b
+      unfolding overOf
+      verdict-unmet reach e none-suits = rw e (go (moves b) refl)
+        where
+          over : moves b ≡ [] → (x : Bool) → eqb c (cond (inCheck b (b .side)) 2 1) ≡ x
+              → cond x (Verdict.Right BestMove.NoMove) Verdict.Wrong ≡ verdictOf byte c b
+          over z true q =
+              right (required-over z ∙ sym (eqb-true c (cond (inCheck b (b .side)) 2 1) q)) BestMove.NoMove
+              (unfold suitedFrom first in sym (rw z))
+          over z false q =
+              wrong (λ r. eqb-false c (cond (inCheck b (b .side)) 2 1) q (sym r ∙ required-over z))
 
-    pub verdict-open : judged c ≡ some none → overWith c b ≡ false → Verdict.Wrong ≡ verdictOf byte c b
-    unfolding overWith
-    verdict-open e o = wrong (λ q. let z = unmet-over c e q in true-not-false (over z (sym q ∙ required-over z)) o)
-      where
-        over : moves b ≡ [] → c ≡ cond (inCheck b (b .side)) 2 1
-            → (empty (moves b) && eqb c (cond (inCheck b (b .side)) 2 1)) ≡ true
-        over z q = rw z (eq-eqb c (cond (inCheck b (b .side)) 2 1) q)
+          go : (l : List Move) → moves b ≡ l
+              → cond (empty l)
+              (cond (eqb c (cond (inCheck b (b .side)) 2 1))
+              (Verdict.Right BestMove.NoMove) Verdict.Wrong) Verdict.Wrong
+              ≡ verdictOf byte c b
+          go [] z = over z (eqb c (cond (inCheck b (b .side)) 2 1)) refl
+          go (x ∷ l) z =
+              wrong (λ r. let y = sym z ∙ unmet-over m c (omega arith) none-suits r in
+              let w : _≡_ {A = ℕ} 0 1 = cc in omega arith)
 
     -- what a verdict tells
     told : (same : Bool) (v : Verdict) (a : BestMove) → v ≡ cond same (Verdict.Right a) Verdict.Wrong
@@ -159,69 +205,133 @@ module _ (byte : Board → ℕ) (b : Board) where
   pub depth-mate : (k : ℕ) → k ≡ 0 → mated b ≡ eqb (requiredAt chess byte b) (2 + k)
   depth-mate k e = rw e (sym (two-mate (mated b) _))
 
-  module _ (k : ℕ) (n : k ≡ 0 → ⊥) where
-    pub depth-met : (m : Move) → judged (2 + k) ≡ some (some m) → true ≡ eqb (requiredAt chess byte b) (2 + k)
-    depth-met m e = sym (eq-eqb (requiredAt chess byte b) (2 + k) (met-required (2 + k) m (omega arith) e))
+  module _ (m : empty (b .men) ≡ false) (k : ℕ) (n : k ≡ 0 → ⊥) where
+    pub depth-refuted : Refuting (2 + k) → false ≡ eqb (requiredAt chess byte b) (2 + k)
+    depth-refuted r = sym (ne-eqb (requiredAt chess byte b) (2 + k) (refuted-other m (2 + k) (omega arith) r))
 
-    pub depth-refuted : judged (2 + k) ≡ none → false ≡ eqb (requiredAt chess byte b) (2 + k)
-    depth-refuted e = sym (ne-eqb (requiredAt chess byte b) (2 + k) (refuted-other (2 + k) (omega arith) e))
+    depth-met : (Refuting (2 + k) → ⊥) → Suiting (2 + k) → true ≡ eqb (requiredAt chess byte b) (2 + k)
+    depth-met clear s = sym (eq-eqb (requiredAt chess byte b) (2 + k) (met-required m (2 + k) (omega arith) clear s))
 
-    pub depth-unmet : judged (2 + k) ≡ some none → false ≡ eqb (requiredAt chess byte b) (2 + k)
-    depth-unmet e =
+    depth-unmet : (Suiting (2 + k) → ⊥) → false ≡ eqb (requiredAt chess byte b) (2 + k)
+    depth-unmet none-suits =
         sym (ne-eqb (requiredAt chess byte b) (2 + k)
-        (λ q. small (inCheck b (b .side)) (sym (required-over (unmet-over (2 + k) e q)) ∙ q)))
+        (λ q. small (inCheck b (b .side))
+        (sym (required-over (unmet-over m (2 + k) (omega arith) none-suits q)) ∙ q)))
       where
         small : (check : Bool) → cond check 2 1 ≡ 2 + k → ⊥
         small true z = n (omega arith)
         small false z = omega arith
 
--- ---- of a position with men besides the kings, as the code asks it
+  -- ---- of three pieces from whose squares all moves start
 
--- no move is left exactly where none is counted
-counted : (l : List Move) (n : ℕ) → n ≡ length l → empty l ≡ eqb n 0
-counted [] n q = sym (eq-eqb n 0 q)
-counted (m ∷ l) n q = sym (ne-eqb n 0 (λ z. omega arith))
+  module _ (x y z : ℕ) (starts : (from to : ℕ) → T (canMove b from to) → StartsAt x y z from) where
+    pub found-refuting : (c : ℕ) → judgedFrom byte c b x y z ≡ Judged.Refuted → Refuting c
+    unfolding judgedFrom
+    found-refuting c e =
+        ⊎-elim (λ q. let r = told-refuted byte c b x q in (x, r .0, r .1, r .2))
+        (⊎-elim (λ q. let r = told-refuted byte c b y q in (y, r .0, r .1, r .2))
+        (λ q. let r = told-refuted byte c b z q in (z, r .0, r .1, r .2)))
+        (joined-refuted (siftedFrom byte c b x) (siftedFrom byte c b y) (siftedFrom byte c b z) e)
 
-module _ (b : Board) (n : ℕ) (m : empty (b .men) ≡ false) (e : n ≡ length (allMoves b)) where
-  none-counted : empty (moves b) ≡ eqb n 0
-  unfolding moves
-  none-counted = rw m (counted (allMoves b) n e)
+    pub record Sets (c : ℕ) (sets : Reach) : Type 0 where
+      pub of-king : sets .king ≡ suitingSet byte c b x
+      pub of-first : sets .first ≡ suitingSet byte c b y
+      pub of-second : sets .second ≡ suitingSet byte c b z
+      pub clear : Refuting c → ⊥
 
-  -- the end of a game with no move left
-  pub over-more : (c : ℕ) → (n ≡ 0 → ⊥) → false ≡ overWith c b
-  unfolding overWith
-  over-more c h = sym (rw (none-counted, ne-eqb n 0 h))
+    pub found-sets : (c : ℕ) (sets : Reach) → judgedFrom byte c b x y z ≡ Judged.Found sets → Sets c sets
+    unfolding judgedFrom
+    found-sets c sets e =
+        let j = joined-found (siftedFrom byte c b x) (siftedFrom byte c b y) (siftedFrom byte c b z) sets e in
+        let p = told-suited byte c b x (sets .king) (j .0) in
+        let q = told-suited byte c b y (sets .first) (j .1) in
+        let r = told-suited byte c b z (sets .second) (j .2) in
+        record {
+          of-king = p .0;
+          of-first = q .0;
+          of-second = r .0;
+          clear = λ w. at (w .0) (w .1) (w .2) (w .3) (starts (w .0) (w .1) (w .2)) (p .1) (q .1) (r .1);
+        }
+      where
+        at : (from to : ℕ) → T (canMove b from to) → T (refutes c (byte (moved b from to))) → StartsAt x y z from
+            → Clear c x → Clear c y → Clear c z → ⊥
+        at from to u v (inl e) f g h = subst (Clear c) (sym e) f to u v
+        at from to u v (inr (inl e)) f g h = subst (Clear c) (sym e) g to u v
+        at from to u v (inr (inr e)) f g h = subst (Clear c) (sym e) h to u v
 
-  pub over-end : (c : ℕ) (check : Bool) → n ≡ 0 → inCheck b (b .side) ≡ check → eqb c (cond check 2 1) ≡ overWith c b
-  unfolding overWith
-  over-end c check z k = sym (rw (none-counted, eq-eqb n 0 z, k))
+    suiting-or : (c from : ℕ) → Or c from
+    suiting-or c from =
+        ⊎-elim (λ o. inl (o .0)) (λ o. inr (from, lowestSquare (suitingSet byte c b from), o .1 .can, o .1 .suiting))
+        (shown byte c b from)
 
-  pub counted-mate : (check : Bool) → inCheck b (b .side) ≡ check → (check && eqb n 0) ≡ mated b
-  unfolding mated
-  counted-mate check k = sym (rw (k, none-counted))
+    -- three sets are empty exactly where nothing passes
+    module _ (p : ℕ → ℕ → Bool) (can : (from to : ℕ) → T (p from to) → T (canMove b from to)) (sets : Reach)
+        (ex : sets .king ≡ setOf (p x)) (ey : sets .first ≡ setOf (p y)) (ez : sets .second ≡ setOf (p z)) where
+      none-pass : noTargets sets ≡ true → (from to : ℕ) → T (p from to) → ⊥
+      none-pass e from to t =
+          let c = can from to t in
+          let o = can-on b from to c .1 in
+          let f = of-true e in
+          let k = eqb→eq (sets .king) 0 (and-left (eqb (sets .king) 0) _ f) in
+          let r = and-right (eqb (sets .king) 0) (eqb (sets .first) 0 && eqb (sets .second) 0) f in
+          let i = eqb→eq (sets .first) 0 (and-left (eqb (sets .first) 0) _ r) in
+          let j = eqb→eq (sets .second) 0 (and-right (eqb (sets .first) 0) (eqb (sets .second) 0) r) in
+          at (starts from to c) o (sym ex ∙ k) (sym ey ∙ i) (sym ez ∙ j)
+        where
+          at : StartsAt x y z from → to < 64 → setOf (p x) ≡ 0 → setOf (p y) ≡ 0 → setOf (p z) ≡ 0 → ⊥
+          at (inl e) o k i j = zero-fails (p x) k to o (subst (λ (s : ℕ). T (p s to)) e t)
+          at (inr (inl e)) o k i j = zero-fails (p y) i to o (subst (λ (s : ℕ). T (p s to)) e t)
+          at (inr (inr e)) o k i j = zero-fails (p z) j to o (subst (λ (s : ℕ). T (p s to)) e t)
 
-pub unchecked : (b : Board) → inCheck b (b .side) ≡ false → mated b ≡ false
-unfolding mated
-unchecked b e = rw e
+      all-empty : ((from to : ℕ) → T (p from to) → ⊥) → noTargets sets ≡ true
+      all-empty f =
+          rw (
+            eq-eqb (sets .king) 0 (ex ∙ fails-zero (p x) (λ u h. f x u)),
+            eq-eqb (sets .first) 0 (ey ∙ fails-zero (p y) (λ u h. f y u)),
+            eq-eqb (sets .second) 0 (ez ∙ fails-zero (p z) (λ u h. f z u)),
+          )
 
--- by the constant list, lent, the verdict is the table's
-pub lent-verdict : (list t : List ℕ) (c : ℕ) (b : Board) (v : Verdict) → list ≡ pairs
-    → v ≡ verdictOf (byteBy list t) c b → v ≡ verdictOf (byteOf t) c b
-lent-verdict list t c b v e h = h ∙ ap (λ (f : Board → ℕ). verdictOf f c b) (lent-byte list t e)
+    -- no piece has a target: no move is left
+    pub stuck : (m : empty (b .men) ≡ false) (reach : Reach) → reach .king ≡ setOf (canMove b x)
+        → reach .first ≡ setOf (canMove b y) → reach .second ≡ setOf (canMove b z)
+        → noTargets reach ≡ empty (moves b)
+    stuck m reach ex ey ez =
+        same-test (noTargets reach) (empty (moves b))
+        (λ t. go (moves b) refl (none-pass (canMove b) (λ f g u. u) reach ex ey ez (true-of t)))
+        (λ t. of-true (all-empty (canMove b) (λ f g u. u) reach ex ey ez
+        (λ f g u. gone (moves b) (moveOn b f g) t (in-moves b f g m u))))
+      where
+        go : (l : List Move) → moves b ≡ l → ((from to : ℕ) → T (canMove b from to) → ⊥) → T (empty l)
+        go [] e f = tt
+        go (v ∷ l) e f =
+            let i : v ∈ moves b = subst (λ (k : List Move). v ∈ k) (sym e) (List·Memᴰ·head refl) in
+            absurd (f (v .from) (v .to) (of-moves b v i .1 .can))
 
-pub lent-depth : (list t : List ℕ) (b : Board) (k : ℕ) (d : Bool) → list ≡ pairs
-    → d ≡ eqb (requiredAt chess (byteBy list t) b) k → d ≡ eqb (requiredAt chess (byteOf t) b) k
-lent-depth list t b k d e h = h ∙ ap (λ (f : Board → ℕ). eqb (requiredAt chess f b) k) (lent-byte list t e)
+        gone : (l : List Move) (v : Move) → T (empty l) → v ∈ l → ⊥
+        gone [] v t i = none-in refl i
+        gone (w ∷ l) v t i = t
 
--- ---- a lone man's position, made by code
-
-pub made-verdict : (p q : Position) (r : Bool) (c : ℕ) → p ≡ q → r ≡ overWith c (boardOf p) → r ≡ overWith c (boardOf q)
-made-verdict p q r c e h = h ∙ ap (λ (x : Position). overWith c (boardOf x)) e
-
-pub made-mate : (p q : Position) (r : Bool) → p ≡ q → r ≡ mated (boardOf p) → r ≡ mated (boardOf q)
-made-mate p q r e h = h ∙ ap (λ (x : Position). mated (boardOf x)) e
-
-pub made-men : (p : Position) (kind side white square black : ℕ) → p ≡ lone kind side white square black
-    → empty (boardOf p .men) ≡ false
-unfolding boardOf
-made-men p kind side white square black e = ap (λ (x : Position). empty (boardOf x .men)) e
+    pub depth-told : (m : empty (b .men) ≡ false) (k : ℕ) (n : k ≡ 0 → ⊥) (sets : Reach) → Sets (2 + k) sets
+        → not (noTargets sets) ≡ eqb (requiredAt chess byte b) (2 + k)
+    depth-told m k n sets w = go (noTargets sets) refl
+      where
+        go : (e : Bool) → noTargets sets ≡ e → not e ≡ eqb (requiredAt chess byte b) (2 + k)
+        go true e =
+            depth-unmet m k n
+            (λ s. none-pass (suitsTo byte (2 + k) b)
+            (λ f g t. and-left (canMove b f g) (suits (2 + k) (byte (moved b f g))) t) sets (w .of-king) (w .of-first)
+            (w .of-second) e (s .0) (s .1)
+            (and-both (canMove b (s .0) (s .1)) (suits (2 + k) (byte (moved b (s .0) (s .1)))) (s .2) (s .3)))
+        go false e = at (suiting-or (2 + k) x) (suiting-or (2 + k) y) (suiting-or (2 + k) z)
+          where
+            at : Or (2 + k) x → Or (2 + k) y → Or (2 + k) z → true ≡ eqb (requiredAt chess byte b) (2 + k)
+            at (inr s) v r = depth-met m k n (w .clear) s
+            at (inl i) (inr s) r = depth-met m k n (w .clear) s
+            at (inl i) (inl j) (inr s) = depth-met m k n (w .clear) s
+            at (inl i) (inl j) (inl l) =
+                absurd (true-not-false {b = noTargets sets}
+                (rw (
+                  eq-eqb (sets .king) 0 (w .of-king ∙ i),
+                  eq-eqb (sets .first) 0 (w .of-first ∙ j),
+                  eq-eqb (sets .second) 0 (w .of-second ∙ l),
+                )) e)

@@ -6,10 +6,10 @@ use Rattle.test_moves.proofs.show_list.Statement.{statement}
 use Rattle.test_moves.proofs.show_list.Tie as tie
 
 abbrev Inv-loop : tie.InvT-loop
-Inv-loop moves count i₀ t6 i = i ≤ 35
+Inv-loop moves count i₀ t6 i = i ≤ 62
 
 abbrev μ-loop : tie.MeasureT-loop
-μ-loop moves count i₀ t6 i = 35 - i
+μ-loop moves count i₀ t6 i = 62 - i
 
 loop-holds : tie.Need-loop-holds Inv-loop μ-loop
 loop-holds c = search needs

@@ -1,14 +1,13 @@
--- What the pass that judges a byte tells: whether the byte is the one required, and the first move that suits.
-use mathlib.Core.Path.{_≡_, refl, sym, ap, subst, _∙_}
-use mathlib.Core.Logic.{_⊎_, inl, inr, _↔_}
-use mathlib.Core.Bool.{Bool, true, false, not, _&&_, _||_, cond}
-use mathlib.Core.List.{List, [], _∷_, _++_, map}
-use mathlib.Core.Option.{Option, none, some}
+-- Whether a byte is the one required, by the successors' bytes that refute it and those that suit.
+use mathlib.Core.Path.{_≡_, refl, sym, subst, _∙_}
+use mathlib.Core.Logic.{_↔_}
+use mathlib.Core.Bool.{false, not, _&&_}
+use mathlib.Core.List.{List, []}
 use Prim.Native.Nat.{ℕ, zero, suc, _+_, _-_, _%_, _≤_}
 use native.Mathlib.Omega.{arith}
 use lib.Dec.{T, T-not, not-T, leb, eqb, leb→le, le→leb, eqb→eq, eqb-refl}
-use Rattle.finite.specs.Truth.{and-left, and-right, and-both, fails, true-not-false}
-use Rattle.finite.specs.Members.{_∈_, any, any-in, any-out, first, first-in, first-out, none-in, nil-or, map-in, map-out}
+use Rattle.finite.specs.Truth.{and-left, and-right, and-both, fails}
+use Rattle.finite.specs.Members.{_∈_, any, any-in, any-out, none-in}
 use Rattle.theory.specs.Required.{Loss, Rule, winning, required}
 use Rattle.theory.specs.laws.Better.{winning-is}
 use Rattle.theory.specs.laws.RuleLaws.{required-rule, rule-one}
@@ -16,7 +15,7 @@ use Rattle.theory.specs.Verdict.{spoils, requires}
 use Rattle.theory.specs.laws.Verdict.{verdict}
 use Rattle.theory.specs.Play.{suits}
 use Rattle.theory.specs.laws.Choice.{suits-draw, suits-less, draw-suits, less-suits}
-use Rattle.theory.specs.Judge.{refutes, firstOf, andThen, judge}
+use Rattle.theory.specs.Judge.{refutes}
 
 -- ---- what refutes and what suits, by the byte
 
@@ -120,111 +119,3 @@ suited b bs h e = go (rw e at (required-rule false bs))
     go (Rule.loses c m f d) = any-in (suits b) m (less-suits b c (omega (arith, f c m .0 .0)) (sym d))
     go (Rule.draws c m k f d) = any-in (suits b) m (draw-suits b c (omega arith) k)
     go (Rule.stalemate z d) = absurd (h z)
-
--- ---- the pass
-
-module _ {M : Type 0} where
-  -- nothing now leaves what was found
-  first-of-none : (x : Option M) → firstOf x none ≡ x
-  unfolding firstOf
-  first-of-none (some m) = refl
-  first-of-none none = refl
-
-  -- a move more, which suits or not, and what comes after it
-  first-of-more : (s : Bool) (m : M) (x y : Option M)
-      → firstOf (firstOf x (cond s (some m) none)) y ≡ firstOf x (cond s (some m) y)
-  unfolding firstOf
-  first-of-more s m (some k) y = refl
-  first-of-more true m none y = refl
-  first-of-more false m none y = refl
-
-module _ {M : Type 0} (b : ℕ) (f : M → ℕ) where
-  -- the pass and the two tests that it does at once
-  pub judge-is : (found : Option M) (ms : List M)
-      → judge b f found ms
-      ≡ cond (any (refutes b) (map f ms)) none (some (firstOf found (first (λ m. suits b (f m)) ms)))
-  unfolding judge any first
-  judge-is found [] = ap (λ (x : Option M). some x) (sym (first-of-none found))
-  judge-is found (m ∷ ms) =
-      go (refutes b (f m)) (suits b (f m)) (judge-is (firstOf found (cond (suits b (f m)) (some m) none)) ms)
-    where
-      go : (a s : Bool)
-          → judge b f (firstOf found (cond s (some m) none)) ms
-          ≡ cond (any (refutes b) (map f ms)) none
-          (some (firstOf (firstOf found (cond s (some m) none)) (first (λ k. suits b (f k)) ms)))
-          → cond a none (judge b f (firstOf found (cond s (some m) none)) ms)
-          ≡ cond (a || any (refutes b) (map f ms)) none
-          (some (firstOf found (cond s (some m) (first (λ k. suits b (f k)) ms))))
-      go true s e = refl
-      go false s e = e
-          ∙ ap (λ (x : Option M). cond (any (refutes b) (map f ms)) none (some x))
-          (first-of-more s m found (first (λ k. suits b (f k)) ms))
-
-  -- refuted tells that a test passed
-  told-none : (a : Bool) (x : Option M) → cond a none (some x) ≡ none → T a
-  told-none true x e = tt
-  told-none false x e = let z : true ≡ false = cc in absurd (true-not-false {b = true} refl z)
-
-  -- not refuted tells what is found, and that the test failed
-  told-some : (a : Bool) (x y : Option M) → cond a none (some x) ≡ some y → (x ≡ y) × (T a → ⊥)
-  told-some true x y e = let z : true ≡ false = cc in absurd (true-not-false {b = true} refl z)
-  told-some false x y e = (cc, λ t. t)
-
-  -- Refuted: some successor's byte refutes b.
-  pub judge-refuted : (ms : List M) → judge b f none ms ≡ none → T (any (refutes b) (map f ms))
-  unfolding firstOf
-  judge-refuted ms e =
-      told-none (any (refutes b) (map f ms)) (first (λ m. suits b (f m)) ms) (sym (judge-is none ms) ∙ e)
-
-  -- Not refuted: no successor's byte refutes b, and what is found is the first move that suits.
-  pub judge-found : (found : Option M) (ms : List M) → judge b f none ms ≡ some found
-      → (first (λ m. suits b (f m)) ms ≡ found) × (T (any (refutes b) (map f ms)) → ⊥)
-  unfolding firstOf
-  judge-found found ms e =
-      told-some (any (refutes b) (map f ms)) (first (λ m. suits b (f m)) ms) found (sym (judge-is none ms) ∙ e)
-
-  -- a part of the list at a time
-  pub judge-append : (found : Option M) (ms ns : List M)
-      → judge b f found (ms ++ ns) ≡ andThen (judge b f found ms) (λ g. judge b f g ns)
-  unfolding judge andThen
-  judge-append found [] ns = refl
-  judge-append found (m ∷ ms) ns =
-      go (refutes b (f m)) _ _ (judge-append (firstOf found (cond (suits b (f m)) (some m) none)) ms ns)
-    where
-      go : (a : Bool) (x y : Option (Option M)) → x ≡ andThen y (λ g. judge b f g ns)
-          → cond a none x ≡ andThen (cond a none y) (λ g. judge b f g ns)
-      go true x y e = refl
-      go false x y e = e
-
-  -- ---- for a caller
-
-  -- A move is found: b is the byte required, and the move is the first that suits.
-  pub judge-accepts : (m : M) (ms : List M) → 1 ≤ b → judge b f none ms ≡ some (some m)
-      → (required false (map f ms) ≡ b) × (first (λ k. suits b (f k)) ms ≡ some m)
-  judge-accepts m ms h e =
-      let r = judge-found (some m) ms e in
-      let o = first-out (λ (k : M). suits b (f k)) ms m (r .0) in
-      (judged b (map f ms) h (r .1) (any-in (suits b) (map-in f (o .0)) (o .1)), r .0)
-
-  -- Refuted: b is not the byte required.
-  pub judge-refuses : (ms : List M) → 1 ≤ b → judge b f none ms ≡ none → required false (map f ms) ≡ b → ⊥
-  judge-refuses ms h e = refuted b (map f ms) h (judge-refuted ms e)
-
-  -- Nothing is found: no move suits.
-  pub judge-nothing : (ms : List M) → judge b f none ms ≡ some none → first (λ k. suits b (f k)) ms ≡ none
-  judge-nothing ms e = judge-found none ms e .0
-
-  -- Nothing is found: b is required only where there is no move, as the draw of a stalemate is.
-  pub judge-nothing-over : (ms : List M) → judge b f none ms ≡ some none → required false (map f ms) ≡ b → ms ≡ []
-  judge-nothing-over ms e d = go (nil-or ms)
-    where
-      no-move : (y : M) → first (λ k. suits b (f k)) ms ≡ some y → ⊥
-      no-move y q = let n = judge-nothing ms e in let z : true ≡ false = cc in true-not-false {b = true} refl z
-
-      go : (ms ≡ []) ⊎ ((x : M) × (x ∈ ms)) → ms ≡ []
-      go (inl z) = z
-      go (inr x) =
-          let o = any-out (suits b) (map f ms) (suited b (map f ms) (λ z. none-in z (map-in f (x .1))) d) in
-          let p = map-out f (o .0) ms (o .1) in
-          let q = first-in (λ (k : M). suits b (f k)) (p .1) (subst (λ (c : ℕ). T (suits b c)) (p .2) (o .2)) in
-          absurd (no-move (q .0) (q .1))

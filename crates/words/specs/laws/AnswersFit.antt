@@ -1,51 +1,62 @@
--- The library's answers fit their words, so that each word is read back with nothing asked of the answer; only look-up reads the table, whose
--- members are bytes.
+-- The library's answers fit their words, so that each word is read back with nothing asked of the answer; only
+-- look-up and filling read lent tables, whose members are bytes.
 use mathlib.Core.Path.{_≡_, refl, sym, ap, subst}
 use mathlib.Core.Bool.{Bool, true, false, cond, not, _&&_}
-use mathlib.Core.Logic.{_⊎_, inl, inr}
-use mathlib.Core.List.{List}
+use mathlib.Core.List.{List, [], _∷_, _++_, List·Memᴰ·head, List·Memᴰ·tail}
 use mathlib.Core.Option.{Option, none, some}
-use Prim.Native.Nat.{ℕ, zero, suc, _-_, _%_, _≤_, _<_}
+use Prim.Native.Nat.{ℕ, zero, suc, _-_, _%_, _^_, _≤_, _<_}
 use native.Mathlib.Omega.{arith}
-use lib.Dec.{T, leb, eqb, ltb}
+use lib.Dec.{T, leb, eqb, ltb, ltb→lt}
 use lib.ListN.{length, getD}
-use borrow.Author.Tests.{le-leb, lt-leb, ne-eqb, leb-false, eqb-true, eqb-false, ltb-true}
-use Rattle.finite.specs.Truth.{le-or-lt}
-use Rattle.finite.specs.Members.{all, first-out}
+use borrow.Author.Tests.{leb-false, eqb-true, eqb-false, ltb-true}
+use Rattle.finite.specs.Truth.{and-left, and-right, of-true, refuted}
+use Rattle.finite.specs.Members.{all, first-out, none-in}
 use Rattle.finite.specs.Lowest.{lowest}
 use Rattle.theory.specs.Required.{requiredAt}
 use Rattle.theory.specs.Play.{suits, firstSuited}
-use Rattle.table_theory.specs.Tables.{wrongAt}
+use Rattle.table_theory.specs.Tables.{reads, wrongAt}
 use Rattle.symmetry.specs.Symmetry.{Symmetry, inverse}
 use Rattle.symmetry.specs.laws.SymmetryLaws.{mapped-on}
+use Rattle.rules.specs.declared.Piece.{Piece}
 use Rattle.rules.specs.declared.Move.{Move}
 use Rattle.rules.specs.Rules.{Board, empty, moves}
 use Rattle.rules.specs.laws.CanMove.{can-on}
 use Rattle.rules.specs.Chess.{chess, played, of-moves}
-use Rattle.numbering.specs.Number.{normalBy, normalised, numberOf}
+use Rattle.numbering.specs.declared.Material.{Material}
+use Rattle.numbering.specs.Men.{materialOf}
+use Rattle.numbering.specs.Material.{known, menOf, materialIn, sizeOf}
+use Rattle.numbering.specs.Keys.{spread, menAt, boardAt}
+use Rattle.numbering.specs.Number.{normalBy, normalised, numberOf, used}
+use Rattle.numbering.specs.laws.ClassLaws.{number-lt}
+use Rattle.position.specs.declared.Slot.{Slot}
+use Rattle.position.specs.declared.Slot.the-variants.{Absent, Present}
 use Rattle.position.specs.declared.Position.{Position}
-use Rattle.position.specs.Keyed.{boardOf, manSquare}
-use Rattle.position.specs.Refusals.{placingRefusal, standingRefusal}
-use Rattle.position.specs.laws.PlacedLaws.{WellPlaced, placed-facts, placing-most, standing-most}
+use Rattle.position.specs.Keyed.{slotMen, boardOf, manIn, manSquare, keyed}
+use Rattle.position.specs.Refusals.{badMenOf, placingWith, standingWith}
+use Rattle.position.specs.laws.BothSizes.{placed-men-with, placing-with-most, standing-with-most}
 use Rattle.index.specs.declared.NumberAnswer.{NumberAnswer}
 use Rattle.index.specs.declared.Placed.{Placed}
-use Rattle.index.specs.Answers.{numberAnswer, positionAt, unused, placedAt}
-use Rattle.index.specs.laws.NumberLaws.{number-below}
-use Rattle.index.specs.laws.BackLaws.{used-bears}
-use Rattle.move_list.specs.laws.Served.{served-moves, served-room}
+use Rattle.index.specs.Answers.{numberWith, placedWith}
+use Rattle.index.specs.laws.CompleteLaws.{PlacedOf, placed-facts-with}
+use Rattle.index.specs.laws.NormalPlaceLaws.{placed-has}
+use Rattle.move_list.specs.laws.Served.{served-moves, few-moves}
 use Rattle.move_list.specs.declared.Counted.{Counted}
 use Rattle.move_list.specs.Answers.{countAnswer}
 use Rattle.answers.specs.declared.BestMove.{BestMove}
 use Rattle.answers.specs.declared.Answer.{Answer}
 use Rattle.answers.specs.declared.Checked.{Checked}
 use Rattle.answers.specs.declared.Filled.{Filled}
-use Rattle.endings.specs.Ending.{tableSize, byteOf, ending}
-use Rattle.endings.specs.Answers.{Fill, fillOf, checkOf, adviceOf, mappedAdvice, answerOf, chosen, lookUpOf}
-use Rattle.endings.specs.FilledTrue.{FillTrue}
-use Rattle.endings.specs.laws.FilledTrue.{filled-true}
-use Rattle.fifty.specs.Marks.{isRefused, atCount, lookUpAt}
-use Rattle.words.specs.Words.{numberWord, placedWord, countWord, filledWord, checkedWord, markedWord}
-use Rattle.words.specs.Reading.{numberRead, placedRead, countRead, filledRead, checkedRead, markedRead, Byte, TableBytes, RefusalFits, NumberFits, PlacedFits, CountFits, FilledFits, CheckedFits, AdviceFits, AnswerFits, MarkedFits}
+use Rattle.endings.specs.Ending.{byteOf}
+use Rattle.endings.specs.Answers.{Fill, adviceOf, mappedAdvice, answerOf, chosen}
+use Rattle.four_men.specs.Lending.{Lent}
+use Rattle.four_men.specs.Reading.{full, lentTo, lentByte, numbered}
+use Rattle.four_men.specs.Answers.{lengthsFit, lentAccepted, checkWith, fillWith, lookUpWith}
+use Rattle.four_men.specs.Truth.{FillTrueOf, LentBytes}
+use Rattle.four_men.specs.laws.Filling.{filled-1, filled-7, filled-17, filled-true-with}
+use Rattle.four_men.specs.laws.Numbers.{used-bears-with}
+use Rattle.fifty.specs.Marks.{isRefused, atCount, lookUpAtWith}
+use Rattle.words.specs.Words.{numberWord, secondSquare, placedWord, countWord, filledWord, checkedWord, markedWord}
+use Rattle.words.specs.Reading.{numberRead, seated, placedRead, countRead, filledRead, checkedRead, markedRead, Byte, TableBytes, SmallBytes, RefusalFits, NumberFits, PositionFits, PlacedFits, CountFits, FilledFits, CheckedFits, AdviceFits, AnswerFits, MarkedFits}
 use Rattle.words.specs.laws.ReadingLaws.{number-read, placed-read, count-read, filled-read, checked-read, marked-read}
 
 -- ---- a position's refusals
@@ -59,117 +70,159 @@ refusal-fits n most e h k = let low = positive n (eqb-false n 0 e) in (low, omeg
 
 -- ---- number, position and count
 
-pub number-fits : (p : Position) → NumberFits (numberAnswer p)
-unfolding numberAnswer
-number-fits p = go (eqb (placingRefusal p) 0) refl
-  where
-    go : (b : Bool) → eqb (placingRefusal p) 0 ≡ b
-        → NumberFits (cond b (NumberAnswer.Number (numberOf (boardOf p))) (NumberAnswer.Refused (placingRefusal p)))
-    go true e = omega (arith, number-below p (eqb-true (placingRefusal p) 0 e))
-    go false e = refusal-fits (placingRefusal p) 5 e (placing-most p) (omega arith)
+-- two slots hold at most two men: at most 4,096 numbers for each pair of kings and side to move
+few-spread : (f s : Slot) → badMenOf f s ≡ false → spread (materialOf (slotMen f ++ slotMen s)) ≤ 4096
+unfolding spread materialOf
+few-spread Absent s e = absurd (refuted e tt)
+few-spread (Present a) Absent e = omega arith
+few-spread (Present a) (Present c) e = omega arith
 
--- the squares of a placed position are on the board
-on-board : (kind n : ℕ) → WellPlaced (positionAt kind n)
-    → (positionAt kind n .«white_king» < 64) × (positionAt kind n .«black_king» < 64)
-    × (manSquare (positionAt kind n) < 64)
-unfolding boardOf all positionAt
-on-board kind n w =
-    three (ltb (positionAt kind n .«white_king») 64) (ltb (positionAt kind n .«black_king») 64)
-    (ltb (manSquare (positionAt kind n)) 64) refl refl refl (w .squares)
-  where
-    three : (a b c : Bool) → ltb (positionAt kind n .«white_king») 64 ≡ a
-        → ltb (positionAt kind n .«black_king») 64 ≡ b → ltb (manSquare (positionAt kind n)) 64 ≡ c
-        → T (a && (b && (c && true)))
-        → (positionAt kind n .«white_king» < 64) × (positionAt kind n .«black_king» < 64)
-        × (manSquare (positionAt kind n) < 64)
-    three true true true e f g t = (ltb-true _ 64 e, ltb-true _ 64 f, ltb-true _ 64 g)
-    three true true false e f g t = absurd t
-    three true false c e f g t = absurd t
-    three false b c e f g t = absurd t
+number-few : (p : Position) → placingWith p ≡ 0 → numberOf (boardOf p) < 2 ^ 31
+unfolding boardOf
+number-few p z =
+    omega (
+      arith,
+      number-lt (boardOf p) (placed-has p (placed-facts-with p z)),
+      few-spread (p .first) (p .second) (placed-men-with p z),
+    )
 
-pub placed-fits : (kind n : ℕ) → PlacedFits kind (placedAt kind n)
-unfolding placedAt positionAt
-placed-fits kind n = go (leb 4 kind) refl (leb 59136 n) refl (unused (positionAt kind n)) refl
+pub number-fits : (p : Position) → NumberFits (numberWith p)
+unfolding numberWith
+number-fits p = go (eqb (placingWith p) 0) refl
   where
-    go : (a : Bool) → leb 4 kind ≡ a → (b : Bool) → leb 59136 n ≡ b → (c : Bool) → unused (positionAt kind n) ≡ c
-        → PlacedFits kind
-        (cond a (Placed.Refused 1)
-        (cond b (Placed.Refused 8) (cond c (Placed.Refused 9) (Placed.At (positionAt kind n)))))
-    go true e b f c g = (omega arith, omega arith)
-    go false e true f c g = (omega arith, omega arith)
-    go false e false f true g = (omega arith, omega arith)
-    go false e false f false g =
-        let r = used-bears kind n (leb-false 4 kind e) (leb-false 59136 n f) g in
-        let w = placed-facts (positionAt kind n) (r .placed) in
-        let q = on-board kind n w in
-        record {
-          own = refl;
-          side = omega (arith, w .side);
-          white = omega (arith, q .0);
-          square = omega (arith, q .2);
-          black = omega (arith, q .1);
-        }
+    go : (b : Bool) → eqb (placingWith p) 0 ≡ b
+        → NumberFits (cond b (NumberAnswer.Number (numberOf (boardOf p))) (NumberAnswer.Refused (placingWith p)))
+    go true e = number-few p (eqb-true (placingWith p) 0 e)
+    go false e = refusal-fits (placingWith p) 5 e (placing-with-most p) (omega arith)
 
-moves-few : (p : Position) → standingRefusal p ≡ 0 → length (moves (boardOf p)) ≤ 35
-moves-few p z = let e = ap length (served-moves p z) in omega (arith, e, served-room p z)
+-- squares on the board, and 64 for an absent man, are bytes
+abbrev on : Piece → Bool
+on m = ltb (m .square) 64
+
+slots-on : (f s : Slot) → T (all on (slotMen f ++ slotMen s)) → Byte (manIn f .square) × Byte (manIn s .square)
+unfolding all
+slots-on Absent Absent t = (omega arith, omega arith)
+slots-on Absent (Present c) t = (omega arith, omega (arith, ltb→lt (c .square) 64 (and-left (on c) true t)))
+slots-on (Present a) Absent t = (omega (arith, ltb→lt (a .square) 64 (and-left (on a) true t)), omega arith)
+slots-on (Present a) (Present c) t = (
+  omega (arith, ltb→lt (a .square) 64 (and-left (on a) (on c && true) t)),
+  omega (arith, ltb→lt (c .square) 64 (and-left (on c) true (and-right (on a) (on c && true) t))),
+)
+
+placed-squares : (m : Material) (p : Position) → PlacedOf p
+    → p ≡ seated m (p .side) (p .«white_king») (manSquare p) (p .«black_king») (secondSquare p) → PositionFits m p
+unfolding boardOf all
+placed-squares m p w e =
+    let men = slotMen (p .first) ++ slotMen (p .second) in
+    let a = ltb (p .«white_king») 64 in
+    let b = ltb (p .«black_king») 64 in
+    let s = slots-on (p .first) (p .second) (and-right b (all on men) (and-right a (b && all on men) (w .squares))) in
+    record {
+      own = e;
+      side = omega (arith, w .side);
+      white = omega (arith, ltb→lt (p .«white_king») 64 (and-left a (b && all on men) (w .squares)));
+      square = s .0;
+      black = omega (arith, ltb→lt (p .«black_king») 64 (and-left b (all on men) (and-right a (b && all on men) (w .squares))));
+      second = s .1;
+    }
+
+-- what stands at a number has the men of its ending
+own-men : (m : Material) (n : ℕ)
+    → (let p = keyed (boardAt (menOf m) n) in
+    p ≡ seated m (p .side) (p .«white_king») (manSquare p) (p .«black_king») (secondSquare p))
+unfolding boardAt menAt
+own-men (Material.One kind) n = refl
+own-men (Material.Two j k r) n = refl
+
+pub placed-fits : (m : Material) (n : ℕ) → PlacedFits m (placedWith m n)
+unfolding placedWith
+placed-fits m n = go (known m) refl (leb (sizeOf m) n) refl (used (boardAt (menOf m) n)) refl
+  where
+    go : (a : Bool) → known m ≡ a → (b : Bool) → leb (sizeOf m) n ≡ b → (c : Bool) → used (boardAt (menOf m) n) ≡ c
+        → PlacedFits m
+        (cond (not a) (Placed.Refused 1)
+        (cond b (Placed.Refused 8) (cond c (Placed.At (keyed (boardAt (menOf m) n))) (Placed.Refused 9))))
+    go false e b f c g = (omega arith, omega arith)
+    go true e true f c g = (omega arith, omega arith)
+    go true e false f false g = (omega arith, omega arith)
+    go true e false f true g =
+        let r = used-bears-with m (of-true e) n (leb-false (sizeOf m) n f) (of-true g) in
+        placed-squares m (keyed (boardAt (menOf m) n)) (placed-facts-with (keyed (boardAt (menOf m) n)) (r .placed))
+        (own-men m n)
+
+moves-few : (p : Position) → standingWith p ≡ 0 → length (moves (boardOf p)) ≤ 62
+moves-few p z = let e = ap length (served-moves p z) in omega (arith, e, few-moves p)
 
 pub count-fits : (p : Position) → CountFits (countAnswer p)
 unfolding countAnswer
-count-fits p = go (eqb (standingRefusal p) 0) refl
+count-fits p = go (eqb (standingWith p) 0) refl
   where
-    go : (b : Bool) → eqb (standingRefusal p) 0 ≡ b
-        → CountFits (cond b (Counted.Count (length (moves (boardOf p)))) (Counted.Refused (standingRefusal p)))
-    go true e = omega (arith, moves-few p (eqb-true (standingRefusal p) 0 e))
-    go false e = refusal-fits (standingRefusal p) 6 e (standing-most p) (omega arith)
+    go : (b : Bool) → eqb (standingWith p) 0 ≡ b
+        → CountFits (cond b (Counted.Count (length (moves (boardOf p)))) (Counted.Refused (standingWith p)))
+    go true e = omega (arith, moves-few p (eqb-true (standingWith p) 0 e))
+    go false e = refusal-fits (standingWith p) 6 e (standing-with-most p) (omega arith)
 
 -- ---- fill and check
 
-module _ (kind : ℕ) (t : List ℕ) where
-  fill-refused-1 : 4 ≤ kind → fillOf kind t .answer ≡ Filled.Refused 1
-  unfolding fillOf
-  fill-refused-1 h = rw (le-leb 4 kind h)
+-- what is lent is bytes
+lent-are : (m : Material) (l : Lent) → SmallBytes l → LentBytes m l
+lent-are (Material.One kind) l h t i n = absurd (none-in refl i)
+lent-are (Material.Two j k r) l h t (List·Memᴰ·head e) n = subst (λ (u : List ℕ). getD u n 0 < 256) (sym e) (h .0 n)
+lent-are (Material.Two j k r) l h t (List·Memᴰ·tail (List·Memᴰ·head e)) n =
+    subst (λ (u : List ℕ). getD u n 0 < 256) (sym e) (h .1 n)
 
-  fill-refused-7 : kind < 4 → (length t ≡ tableSize → ⊥) → fillOf kind t .answer ≡ Filled.Refused 7
-  unfolding fillOf
-  fill-refused-7 h k = rw (lt-leb 4 kind h, ne-eqb (length t) tableSize k)
+size-most : (m : Material) → sizeOf m ≤ 3784704
+size-most (Material.One kind) = omega arith
+size-most (Material.Two j k r) = omega arith
 
-  fill-true-fits : (f : Fill) → FillTrue kind f → FilledFits (f .answer)
-  fill-true-fits f (FillTrue.greatest n e w d m l) = subst FilledFits (sym e) (omega arith)
-  fill-true-fits f (FillTrue.none-decided e w d) = subst FilledFits (sym e) tt
-  fill-true-fits f (FillTrue.too-deep e z n h d) = subst FilledFits (sym e) (omega arith, omega arith)
+module _ (m : Material) (l : Lent) (t : List ℕ) where
+  fill-true-fits : (f : Fill) → FillTrueOf m f → FilledFits (f .answer)
+  fill-true-fits f (FillTrueOf.greatest n e w d x h) = subst FilledFits (sym e) (omega arith)
+  fill-true-fits f (FillTrueOf.none-decided e w d) = subst FilledFits (sym e) tt
+  fill-true-fits f (FillTrueOf.too-deep e z n h d) = subst FilledFits (sym e) (omega arith, omega arith)
 
-  pub filled-fits : FilledFits (fillOf kind t .answer)
-  filled-fits = go (le-or-lt 4 kind) (eqb (length t) tableSize) refl
+  refused-so : (k : ℕ) → RefusalFits k → fillWith m l t ≡ record { answer = Filled.Refused k; bytes = t }
+      → FilledFits (fillWith m l t .answer)
+  refused-so k h e = subst (λ (f : Fill). FilledFits (f .answer)) (sym e) h
+
+  pub filled-fits : SmallBytes l → FilledFits (fillWith m l t .answer)
+  filled-fits small = go (known m) refl (lengthsFit m l t) refl (lentAccepted m l) refl
     where
-      go : (4 ≤ kind) ⊎ (kind < 4) → (b : Bool) → eqb (length t) tableSize ≡ b → FilledFits (fillOf kind t .answer)
-      go (inl h) b e = subst FilledFits (sym (fill-refused-1 h)) (omega arith, omega arith)
-      go (inr h) true e = fill-true-fits (fillOf kind t) (filled-true kind t h (eqb-true (length t) tableSize e))
-      go (inr h) false e =
-          subst FilledFits (sym (fill-refused-7 h (eqb-false (length t) tableSize e))) (omega arith, omega arith)
+      go : (a : Bool) → known m ≡ a → (b : Bool) → lengthsFit m l t ≡ b → (c : Bool) → lentAccepted m l ≡ c
+          → FilledFits (fillWith m l t .answer)
+      go false e b f c g = refused-so 1 (omega arith, omega arith) (filled-1 m l t e)
+      go true e false f c g = refused-so 7 (omega arith, omega arith) (filled-7 m l t (of-true e) f)
+      go true e true f false g = refused-so 17 (omega arith, omega arith) (filled-17 m l t (of-true e) (of-true f) g)
+      go true e true f true g =
+          fill-true-fits (fillWith m l t)
+          (filled-true-with m l t (of-true e) (of-true f) (of-true g) (lent-are m l small))
 
-  pub checked-fits : CheckedFits (checkOf kind t)
-  unfolding checkOf
+  pub checked-fits : CheckedFits (checkWith m l t)
+  unfolding checkWith
   checked-fits =
-      go (leb 4 kind) (eqb (length t) tableSize) (lowest (wrongAt chess (ending kind) t) tableSize)
-      (ltb (lowest (wrongAt chess (ending kind) t) tableSize) tableSize) refl
+      go (known m) (lengthsFit m l t) (lentAccepted m l) (lowest (wrongAt chess (numbered m l) t) (sizeOf m))
+      (ltb (lowest (wrongAt chess (numbered m l) t) (sizeOf m)) (sizeOf m)) refl
     where
-      go : (a b : Bool) (low : ℕ) (c : Bool) → ltb low tableSize ≡ c
+      go : (a b d : Bool) (low : ℕ) (c : Bool) → ltb low (sizeOf m) ≡ c
           → CheckedFits
-          (cond a (Checked.Refused 1) (cond (not b) (Checked.Refused 7) (cond c (Checked.Wrong low) Checked.Accepted)))
-      go true b low c e = (omega arith, omega arith)
-      go false false low c e = (omega arith, omega arith)
-      go false true low true e = omega (arith, ltb-true low tableSize e)
-      go false true low false e = tt
+          (cond (not a) (Checked.Refused 1)
+          (cond (not b) (Checked.Refused 7)
+          (cond (not d) (Checked.Refused 17) (cond c (Checked.Wrong low) Checked.Accepted))))
+      go false b d low c e = (omega arith, omega arith)
+      go true false d low c e = (omega arith, omega arith)
+      go true true false low c e = (omega arith, omega arith)
+      go true true true low true e = omega (arith, ltb-true low (sizeOf m) e, size-most m)
+      go true true true low false e = tt
 
 -- ---- look-up
 
 -- the squares of a suited move are on the board
-suited-on : (t : List ℕ) (b : Board) (m : Move) → firstSuited chess (byteOf t) b ≡ some m
+suited-on : (bytes : Board → ℕ) (b : Board) (m : Move) → firstSuited chess bytes b ≡ some m
     → (m .from < 64) × (m .to < 64)
 unfolding firstSuited
-suited-on t b m e =
+suited-on bytes b m e =
     can-on b (m .from) (m .to)
-    (of-moves b m (first-out (λ v. suits (byteOf t b) (byteOf t (played b v))) (moves b) m e .0) .1 .can)
+    (of-moves b m (first-out (λ v. suits (bytes b) (bytes (played b v))) (moves b) m e .0) .1 .can)
 
 -- and stay there under a map
 advice-fits : (k : Symmetry) (o : Option Move) → ((m : Move) → o ≡ some m → (m .from < 64) × (m .to < 64))
@@ -178,10 +231,10 @@ advice-fits k none h = tt
 advice-fits k (some m) h =
     let r = h m refl in (omega (arith, mapped-on k (m .from) (r .0)), omega (arith, mapped-on k (m .to) (r .1)))
 
-chosen-fits : (t : List ℕ) (b : Board) → AdviceFits (chosen (byteOf t) b)
+chosen-fits : (bytes : Board → ℕ) (b : Board) → AdviceFits (chosen bytes b)
 unfolding chosen
-chosen-fits t b =
-    advice-fits (inverse (normalBy b)) (firstSuited chess (byteOf t) (normalised b)) (suited-on t (normalised b))
+chosen-fits bytes b =
+    advice-fits (inverse (normalBy b)) (firstSuited chess bytes (normalised b)) (suited-on bytes (normalised b))
 
 byte-fits : (t : List ℕ) (b : Board) → TableBytes t → Byte (byteOf t b)
 unfolding byteOf
@@ -190,6 +243,28 @@ byte-fits t b h = go (empty (b .men))
     go : (e : Bool) → Byte (cond e 1 (getD t (numberOf b) 0))
     go true = omega arith
     go false = h (numberOf b)
+
+-- what a capture leaves is read in a lent table
+lent-fits : (m : Material) (l : Lent) (b : Board) → SmallBytes l → Byte (lentByte m l b)
+lent-fits (Material.One kind) l b h = omega arith
+lent-fits (Material.Two j k r) l b h = byte-fits (lentTo j l (b .men)) b (go (b .men))
+  where
+    by : (e : Bool) → TableBytes (cond e (l .first) (l .second))
+    by true = h .0
+    by false = h .1
+
+    go : (men : List Piece) → TableBytes (lentTo j l men)
+    go [] = h .0
+    go (a ∷ men) = by (eqb (a .kind) j)
+
+reads-fit : (m : Material) (l : Lent) (t : List ℕ) (b : Board) → SmallBytes l → TableBytes t
+    → Byte (reads chess (numbered m l) t b)
+unfolding reads numbered
+reads-fit m l t b h g = go (full m (b .men))
+  where
+    go : (e : Bool) → Byte (cond e (getD t (numberOf b) 0) (lentByte m l b))
+    go true = g (numberOf b)
+    go false = lent-fits m l b h
 
 value-fits : (n : ℕ) (a : BestMove) → Byte n → AdviceFits a → AnswerFits (answerOf n a)
 unfolding answerOf
@@ -200,51 +275,61 @@ value-fits n a h k = go (leb n 1) (eqb (n % 2) 1)
     go false true = (omega arith, k)
     go false false = (omega arith, k)
 
-look-up-fits : (t : List ℕ) (p : Position) → TableBytes t → AnswerFits (lookUpOf t p)
-unfolding lookUpOf
-look-up-fits t p h =
-    go (eqb (standingRefusal p) 0) refl (eqb (length t) tableSize)
-    (eqb (byteOf t (boardOf p)) (requiredAt chess (byteOf t) (boardOf p)))
-    (answerOf (byteOf t (boardOf p)) (chosen (byteOf t) (boardOf p)))
-    (value-fits (byteOf t (boardOf p)) (chosen (byteOf t) (boardOf p)) (byte-fits t (boardOf p) h)
-    (chosen-fits t (boardOf p)))
-  where
-    go : (a : Bool) → eqb (standingRefusal p) 0 ≡ a → (b c : Bool) (x : Answer) → AnswerFits x
-        → AnswerFits
-        (cond (not a) (Answer.Refused (standingRefusal p))
-        (cond (not b) (Answer.Refused 7) (cond (not c) (Answer.Refused 11) x)))
-    go false e b c x k = refusal-fits (standingRefusal p) 6 e (standing-most p) (omega arith)
-    go true e false c x k = (omega arith, omega arith)
-    go true e true false x k = (omega arith, omega arith)
-    go true e true true x k = k
+module _ (l : Lent) (t : List ℕ) (p : Position) where
+  abbrev own : Material
+  own = materialIn (boardOf p .men)
+
+  abbrev bytes : Board → ℕ
+  bytes = reads chess (numbered own l) t
+
+  look-up-fits : SmallBytes l → TableBytes t → AnswerFits (lookUpWith l t p)
+  unfolding lookUpWith
+  look-up-fits h g =
+      go (eqb (standingWith p) 0) refl (lengthsFit own l t)
+      (eqb (bytes (boardOf p)) (requiredAt chess bytes (boardOf p)))
+      (answerOf (bytes (boardOf p)) (chosen bytes (boardOf p)))
+      (value-fits (bytes (boardOf p)) (chosen bytes (boardOf p)) (reads-fit own l t (boardOf p) h g)
+      (chosen-fits bytes (boardOf p)))
+    where
+      go : (a : Bool) → eqb (standingWith p) 0 ≡ a → (f c : Bool) (x : Answer) → AnswerFits x
+          → AnswerFits
+          (cond (not a) (Answer.Refused (standingWith p))
+          (cond (not f) (Answer.Refused 7) (cond (not c) (Answer.Refused 11) x)))
+      go false e f c x k = refusal-fits (standingWith p) 6 e (standing-with-most p) (omega arith)
+      go true e false c x k = (omega arith, omega arith)
+      go true e true false x k = (omega arith, omega arith)
+      go true e true true x k = k
 
 -- refusal 19 fits like the others
-pub counted-fits : (t : List ℕ) (c : ℕ) (p : Position) → TableBytes t → MarkedFits (lookUpAt t c p)
-unfolding lookUpAt atCount
-counted-fits t c p h = go (isRefused (lookUpOf t p)) (ltb 99 c)
+pub counted-fits : (l : Lent) (t : List ℕ) (c : ℕ) (p : Position) → SmallBytes l → TableBytes t
+    → MarkedFits (lookUpAtWith l t c p)
+unfolding lookUpAtWith atCount
+counted-fits l t c p h g = go (isRefused (lookUpWith l t p)) (ltb 99 c)
   where
-    go : (a b : Bool) → AnswerFits (cond a (lookUpOf t p) (cond b (Answer.Refused 19) (lookUpOf t p)))
-    go true b = look-up-fits t p h
+    go : (a b : Bool) → AnswerFits (cond a (lookUpWith l t p) (cond b (Answer.Refused 19) (lookUpWith l t p)))
+    go true b = look-up-fits l t p h g
     go false true = (omega arith, omega arith)
-    go false false = look-up-fits t p h
+    go false false = look-up-fits l t p h g
 
 -- ---- so each of the library's words is read back
 
-pub number-told : (p : Position) → numberRead (numberWord (numberAnswer p)) ≡ numberAnswer p
-number-told p = number-read (numberAnswer p) (number-fits p)
+pub number-told : (p : Position) → numberRead (numberWord (numberWith p)) ≡ numberWith p
+number-told p = number-read (numberWith p) (number-fits p)
 
-pub placed-told : (kind n : ℕ) → placedRead kind (placedWord (placedAt kind n)) ≡ placedAt kind n
-placed-told kind n = placed-read kind (placedAt kind n) (placed-fits kind n)
+pub placed-told : (m : Material) (n : ℕ) → placedRead m (placedWord (placedWith m n)) ≡ placedWith m n
+placed-told m n = placed-read m (placedWith m n) (placed-fits m n)
 
 pub count-told : (p : Position) → countRead (countWord (countAnswer p)) ≡ countAnswer p
 count-told p = count-read (countAnswer p) (count-fits p)
 
-pub filled-told : (kind : ℕ) (t : List ℕ) → filledRead (filledWord (fillOf kind t .answer)) ≡ fillOf kind t .answer
-filled-told kind t = filled-read (fillOf kind t .answer) (filled-fits kind t)
+pub filled-told : (m : Material) (l : Lent) (t : List ℕ) → SmallBytes l
+    → filledRead (filledWord (fillWith m l t .answer)) ≡ fillWith m l t .answer
+filled-told m l t h = filled-read (fillWith m l t .answer) (filled-fits m l t h)
 
-pub checked-told : (kind : ℕ) (t : List ℕ) → checkedRead (checkedWord (checkOf kind t)) ≡ checkOf kind t
-checked-told kind t = checked-read (checkOf kind t) (checked-fits kind t)
+pub checked-told : (m : Material) (l : Lent) (t : List ℕ)
+    → checkedRead (checkedWord (checkWith m l t)) ≡ checkWith m l t
+checked-told m l t = checked-read (checkWith m l t) (checked-fits m l t)
 
-pub look-up-told : (t : List ℕ) (c : ℕ) (p : Position) → TableBytes t
-    → markedRead (markedWord (lookUpAt t c p)) ≡ lookUpAt t c p
-look-up-told t c p h = marked-read (lookUpAt t c p) (counted-fits t c p h)
+pub look-up-told : (l : Lent) (t : List ℕ) (c : ℕ) (p : Position) → SmallBytes l → TableBytes t
+    → markedRead (markedWord (lookUpAtWith l t c p)) ≡ lookUpAtWith l t c p
+look-up-told l t c p h g = marked-read (lookUpAtWith l t c p) (counted-fits l t c p h g)

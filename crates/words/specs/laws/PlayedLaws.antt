@@ -1,11 +1,11 @@
 -- The word of a move played is read back, and what play answers fits it.
 use mathlib.Core.Path.{_≡_, refl, sym, subst}
-use mathlib.Core.Bool.{Bool, true, false, _&&_}
+use mathlib.Core.Bool.{Bool, true, _&&_}
 use mathlib.Core.List.{_++_}
 use Prim.Native.Nat.{ℕ, _+_, _*_, _^_, _<_}
 use native.Mathlib.Nat.{mod-eq-of-lt}
 use native.Mathlib.Omega.{arith}
-use lib.Dec.{T, eqb, ltb, ltb→lt}
+use lib.Dec.{T, ltb, ltb→lt}
 use borrow.Author.Tests.{ne-eqb}
 use Rattle.finite.specs.Truth.{and-left, and-right}
 use Rattle.finite.specs.Members.{all}
@@ -16,14 +16,14 @@ use Rattle.position.specs.declared.Slot.{Slot}
 use Rattle.position.specs.declared.Slot.the-variants.{Absent, Present}
 use Rattle.position.specs.declared.Position.{Position}
 use Rattle.position.specs.Keyed.{slotMen, boardOf}
-use Rattle.position.specs.Refusals.{standingRefusal}
-use Rattle.position.specs.laws.PlacedLaws.{standing-most}
+use Rattle.position.specs.Refusals.{standingWith}
+use Rattle.position.specs.laws.BothSizes.{standing-with-most}
 use Rattle.playing.specs.declared.Played.{Played}
 use Rattle.playing.specs.Playing.{playOf}
 use Rattle.playing.specs.laws.PlayTrue.{played-true, refused-played}
 use Rattle.words.specs.Reading.{bits, Byte, RefusalFits, ReadBack, OneWord}
 use Rattle.words.specs.Men.{shortMan, shortRead, ShortFits}
-use Rattle.words.specs.Played.{playedWord, positionAfter, playedRead, AfterFits, PlayedFits}
+use Rattle.words.specs.Played.{playedWord, playedRead, AfterFits, PlayedFits}
 use Rattle.words.specs.laws.ReadingLaws.{field, one-word}
 use Rattle.words.specs.laws.AnswersFit.{refusal-fits}
 
@@ -156,7 +156,7 @@ played-fits p from to = go (playOf p from to) refl
     go Played.NotLegal e = tt
     go (Played.Refused k) e =
         let r = refused-played p from to k e in
-        subst RefusalFits (sym (r .0)) (refusal-fits (standingRefusal p) 6 (r .1) (standing-most p) (omega arith))
+        subst RefusalFits (sym (r .0)) (refusal-fits (standingWith p) 6 (r .1) (standing-with-most p) (omega arith))
 
 -- so every field read from the word of a move played is the field of its answer
 pub played-told : (p : Position) (from to : ℕ) → playedRead (playedWord (playOf p from to)) ≡ playOf p from to

@@ -11,12 +11,13 @@ use Rattle.answers.specs.declared.BestMove.{BestMove}
 use Rattle.answers.specs.declared.Answer.{Answer}
 use Rattle.answers.specs.declared.Checked.{Checked}
 use Rattle.answers.specs.declared.Filled.{Filled}
+use Rattle.numbering.specs.declared.Material.{Material}
 use Rattle.position.specs.Keyed.{manSquare}
 use Rattle.index.specs.declared.NumberAnswer.{NumberAnswer}
 use Rattle.index.specs.declared.Placed.{Placed}
 use Rattle.move_list.specs.declared.Counted.{Counted}
 use Rattle.endings.specs.GamePromise.{given, moveOfAnswer}
-use Rattle.words.specs.Words.{numberWord, placedWord, countWord, filledWord, checkedWord, flagOf, adviceWord, answerWord, markedWord}
+use Rattle.words.specs.Words.{numberWord, secondSquare, placedWord, countWord, filledWord, checkedWord, flagOf, adviceWord, answerWord, markedWord}
 use Rattle.words.specs.Reading.{bits, unlessRefused, numberRead, placedRead, countRead, filledRead, checkedRead, adviceRead, valueRead, markedRead, Byte, RefusalFits, NumberFits, PlacedFits, CountFits, FilledFits, CheckedFits, AdviceFits, AnswerFits, MarkedFits, ReadBack, OneWord}
 
 -- ---- one field of any word
@@ -68,34 +69,38 @@ numbers-apart = one-word NumberFits numberWord numberRead number-read
 
 -- ---- position
 
-record PlaceBits (side white square black word : ℕ) : Type 0 where
+record PlaceBits (side white first black second word : ℕ) : Type 0 where
   none : bits 0 8 word ≡ 0
   side-read : bits 8 8 word ≡ side
   white-read : bits 16 8 word ≡ white
-  square-read : bits 24 8 word ≡ square
+  first-read : bits 24 8 word ≡ first
   black-read : bits 32 8 word ≡ black
+  second-read : bits 40 8 word ≡ second
 
-place-bits : (s w q b : ℕ) → Byte s → Byte w → Byte q → Byte b
-    → PlaceBits s w q b (s * 2 ^ 8 + w * 2 ^ 16 + q * 2 ^ 24 + b * 2 ^ 32)
-place-bits s w q b hs hw hq hb =
-    let word : ℕ = s * 2 ^ 8 + w * 2 ^ 16 + q * 2 ^ 24 + b * 2 ^ 32 in
+place-bits : (s w f b g : ℕ) → Byte s → Byte w → Byte f → Byte b → Byte g
+    → PlaceBits s w f b g (s * 2 ^ 8 + w * 2 ^ 16 + f * 2 ^ 24 + b * 2 ^ 32 + g * 2 ^ 40)
+place-bits s w f b g hs hw hf hb hg =
+    let word : ℕ = s * 2 ^ 8 + w * 2 ^ 16 + f * 2 ^ 24 + b * 2 ^ 32 + g * 2 ^ 40 in
     record {
-      none = field 0 8 0 0 (s + w * 2 ^ 8 + q * 2 ^ 16 + b * 2 ^ 24) word (omega arith) (omega arith) (omega arith);
-      side-read = field 8 8 0 s (w + q * 2 ^ 8 + b * 2 ^ 16) word (omega arith) (omega arith) hs;
-      white-read = field 16 8 (s * 2 ^ 8) w (q + b * 2 ^ 8) word (omega arith) (omega arith) hw;
-      square-read = field 24 8 (s * 2 ^ 8 + w * 2 ^ 16) q b word (omega arith) (omega arith) hq;
-      black-read = field 32 8 (s * 2 ^ 8 + w * 2 ^ 16 + q * 2 ^ 24) b 0 word (omega arith) (omega arith) hb;
+      none = field 0 8 0 0 (s + w * 2 ^ 8 + f * 2 ^ 16 + b * 2 ^ 24 + g * 2 ^ 32) word (omega arith) (omega arith)
+          (omega arith);
+      side-read = field 8 8 0 s (w + f * 2 ^ 8 + b * 2 ^ 16 + g * 2 ^ 24) word (omega arith) (omega arith) hs;
+      white-read = field 16 8 (s * 2 ^ 8) w (f + b * 2 ^ 8 + g * 2 ^ 16) word (omega arith) (omega arith) hw;
+      first-read = field 24 8 (s * 2 ^ 8 + w * 2 ^ 16) f (b + g * 2 ^ 8) word (omega arith) (omega arith) hf;
+      black-read = field 32 8 (s * 2 ^ 8 + w * 2 ^ 16 + f * 2 ^ 24) b g word (omega arith) (omega arith) hb;
+      second-read =
+          field 40 8 (s * 2 ^ 8 + w * 2 ^ 16 + f * 2 ^ 24 + b * 2 ^ 32) g 0 word (omega arith) (omega arith) hg;
     }
 
-pub placed-read : (kind : ℕ) → ReadBack (PlacedFits kind) placedWord (placedRead kind)
-placed-read kind (Placed.At p) h =
-    let b = place-bits (p .side) (p .«white_king») (manSquare p) (p .«black_king») (h .side) (h .white) (h .square)
-    (h .black) in
-    rw (b .none, b .side-read, b .white-read, b .square-read, b .black-read) (ap Placed.At (sym (h .own)))
-placed-read kind (Placed.Refused k) h = refusal-read _ Placed.Refused k h
+pub placed-read : (m : Material) → ReadBack (PlacedFits m) placedWord (placedRead m)
+placed-read m (Placed.At p) h =
+    let b = place-bits (p .side) (p .«white_king») (manSquare p) (p .«black_king») (secondSquare p) (h .side) (h .white)
+    (h .square) (h .black) (h .second) in
+    rw (b .none, b .side-read, b .white-read, b .first-read, b .black-read, b .second-read) (ap Placed.At (sym (h .own)))
+placed-read m (Placed.Refused k) h = refusal-read _ Placed.Refused k h
 
-pub places-apart : (kind : ℕ) → OneWord (PlacedFits kind) placedWord
-places-apart kind = one-word (PlacedFits kind) placedWord (placedRead kind) (placed-read kind)
+pub places-apart : (m : Material) → OneWord (PlacedFits m) placedWord
+places-apart m = one-word (PlacedFits m) placedWord (placedRead m) (placed-read m)
 
 -- ---- count
 

@@ -1,32 +1,32 @@
 //! The board in text and as a picture.
 
-use sledgewren::{Move, Position, Side, Square};
+use sledgewren::{Keyed, Man, Move, Side, Square};
 
 use crate::words;
 
 /// The letter of what stands on a square; capitals are White's.
-pub fn on(position: Position, square: Square) -> Option<char> {
-    if square == position.white_king {
-        Some(words::king(Side::White))
-    } else if square == position.black_king {
-        Some(words::king(Side::Black))
-    } else if square == position.man_square {
-        Some(position.man.letter_of(position.owner))
-    } else {
-        None
+pub fn on(board: Keyed, square: Square) -> Option<char> {
+    if square.code() == board.white_king {
+        return Some(words::king(Side::White));
     }
+    if square.code() == board.black_king {
+        return Some(words::king(Side::Black));
+    }
+    let man = board.men.into_iter().flatten().find(|man| man.square == square.code())?;
+    Some(Man::from_code(man.kind)?.letter_of(Side::from_code(man.colour)?))
 }
 
 const FILES: &str = "    a b c d e f g h\n";
 
 /// Eight ranks with their names, the eighth on top.
-pub fn text(position: Position) -> String {
+pub fn text(keyed: impl Into<Keyed>) -> String {
+    let keyed = keyed.into();
     let mut board = String::from(FILES);
     for rank in (0..8).rev() {
         board += &format!("  {}", rank + 1);
         for file in 0..8 {
             let square = Square::from_code(8 * rank + file);
-            let letter = square.and_then(|square| on(position, square)).unwrap_or('.');
+            let letter = square.and_then(|square| on(keyed, square)).unwrap_or('.');
             board += &format!(" {letter}");
         }
         board += &format!(" {}\n", rank + 1);
@@ -95,12 +95,12 @@ fn arrow(chosen: Move) -> String {
 }
 
 /// The board with the move as an arrow, and a line of words under it.
-pub fn svg(position: Position, best: Option<Move>, words: &str) -> String {
+pub fn svg(keyed: Keyed, name: &str, best: Option<Move>, words: &str) -> String {
     let (wide, tall) = (2 * BORDER + 8 * SIDE, 2 * BORDER + 8 * SIDE + 28);
     let mut text = format!(
         "<svg xmlns=\"http://www.w3.org/2000/svg\" viewBox=\"0 0 {wide} {tall}\" width=\"{wide}\" \
          height=\"{tall}\" font-family=\"Helvetica, Arial, sans-serif\" text-anchor=\"middle\">\n\
-         <title>{position}: {words}</title>\n\
+         <title>{name}: {words}</title>\n\
          <defs><marker id=\"head\" markerWidth=\"4\" markerHeight=\"4\" refX=\"2.4\" refY=\"2\" \
          orient=\"auto\"><path d=\"M0,0 L4,2 L0,4 z\" fill=\"#2e7d32\"/></marker></defs>\n\
          <rect width=\"{wide}\" height=\"{tall}\" fill=\"#ffffff\"/>\n"
@@ -108,7 +108,7 @@ pub fn svg(position: Position, best: Option<Move>, words: &str) -> String {
     text += &squares();
     text += &names();
     for square in Square::all() {
-        let Some(letter) = on(position, square) else { continue };
+        let Some(letter) = on(keyed, square) else { continue };
         let ((x, y), figure) = (middle(square), figure(letter));
         let y = y + 14;
         text += &format!("<text x=\"{x}\" y=\"{y}\" font-size=\"40\">{figure}</text>\n");

@@ -1,13 +1,22 @@
 //! A position from FEN or from a line of the desk.
 
-use sledgewren::{entry, Desk, Keyed, KeyedMan, Man, Position, Refusal, Side, Square};
+use sledgewren::{Desk, Keyed, KeyedMan, Man, Position, Refusal, Side, Square};
 
 use crate::failure::Failure;
 
-/// A position that was read, and FEN's halfmove clock: the plies since the last capture.
+/// A position that was read, with one man or two, and FEN's halfmove clock: the plies since the
+/// last capture.
 pub struct Read {
-    pub position: Position,
+    pub keyed: Keyed,
     pub clock: Option<u32>,
+}
+
+impl Read {
+    /// With one man; two are refused 1.
+    pub fn one(&self) -> Result<Position, Failure> {
+        let two = || refused(Refusal::BadMan, "there are two men, and this serves one");
+        Position::keyed(self.keyed).ok_or_else(two)
+    }
 }
 
 fn refused(refusal: Refusal, words: &str) -> Failure {
@@ -19,7 +28,7 @@ pub fn read(text: &str) -> Result<Read, Failure> {
     if text.contains('/') {
         from_fen(text)
     } else {
-        Ok(Read { position: from_line(text)?, clock: None })
+        Ok(Read { keyed: from_line(text)?.into(), clock: None })
     }
 }
 
@@ -101,23 +110,25 @@ fn man_of(letter: char) -> Option<(Man, Side)> {
     Man::ALL.into_iter().find(|man| man.letter_of(owner) == letter).map(|man| (man, owner))
 }
 
-/// The library's own refusal of no man, or of two men.
-fn other_count(side: Side, kings: [Square; 2], men: &[(char, Square)]) -> Failure {
-    let listed: Vec<String> = men.iter().map(|(letter, at)| format!("{letter}{at}")).collect();
-    let words = if men.is_empty() {
-        "there is none".to_string()
-    } else {
-        format!("there are {}: {}", men.len(), listed.join(" "))
+/// One man or two; no man and more than two have no table.
+fn keyed_men(men: &[(char, Square)]) -> Result<[Option<KeyedMan>; 2], Failure> {
+    let keyed = |&(letter, at): &(char, Square)| match man_of(letter) {
+        Some((man, owner)) => {
+            Ok(KeyedMan { kind: man.code(), colour: owner.code(), square: at.code() })
+        }
+        None => Err(refused(Refusal::BadMan, &format!("there is a pawn on {at}"))),
     };
-    let keyed_man = |place: usize| {
-        let (letter, at) = *men.get(place)?;
-        let (man, owner) = man_of(letter)?;
-        Some(KeyedMan { kind: man.code(), colour: owner.code(), square: at.code() })
-    };
-    let [white_king, black_king] = kings.map(Square::code);
-    let men = [keyed_man(0), keyed_man(1)];
-    let keyed = Keyed { side: side.code(), white_king, black_king, men };
-    refused(entry::number(keyed).err().unwrap_or(Refusal::BadMan), &words)
+    match men {
+        [one] => Ok([Some(keyed(one)?), None]),
+        [one, two] => Ok([Some(keyed(one)?), Some(keyed(two)?)]),
+        [] => Err(refused(Refusal::BadMan, "there is none")),
+        _ => {
+            let listed: Vec<String> =
+                men.iter().map(|(letter, at)| format!("{letter}{at}")).collect();
+            let words = format!("there are {}: {}", men.len(), listed.join(" "));
+            Err(refused(Refusal::BadMan, &words))
+        }
+    }
 }
 
 /// Castling and en passant would change what may be played, so they are refused. The halfmove
@@ -158,23 +169,20 @@ fn from_fen(text: &str) -> Result<Read, Failure> {
     let (white_king, black_king) = (king(&found, 'K', "white")?, king(&found, 'k', "black")?);
     let men: Vec<(char, Square)> =
         found.into_iter().filter(|(piece, _)| !matches!(piece, 'K' | 'k')).collect();
-    let [(letter, man_square)] = men[..] else {
-        return Err(other_count(side, [white_king, black_king], &men));
-    };
-    let (man, owner) = man_of(letter)
-        .ok_or_else(|| refused(Refusal::BadMan, &format!("there is a pawn on {man_square}")))?;
+    let men = keyed_men(&men)?;
     let clock = extras(rest)?;
-    Ok(Read { position: Position { man, owner, side, white_king, man_square, black_king }, clock })
+    let [white_king, black_king] = [white_king, black_king].map(Square::code);
+    Ok(Read { keyed: Keyed { side: side.code(), white_king, black_king, men }, clock })
 }
 
 /// The position as FEN, with no clocks run.
-pub fn written(position: Position) -> String {
+pub fn written(keyed: Keyed) -> String {
     let mut text = String::new();
     for rank in (0..8).rev() {
         let mut empty = 0;
         for file in 0..8 {
             let square = Square::from_code(8 * rank + file);
-            match square.and_then(|square| crate::board::on(position, square)) {
+            match square.and_then(|square| crate::board::on(keyed, square)) {
                 Some(letter) => {
                     if empty > 0 {
                         text += &empty.to_string();
@@ -192,7 +200,8 @@ pub fn written(position: Position) -> String {
             text.push('/');
         }
     }
-    format!("{text} {} - - 0 1", position.side.letter())
+    let side = Side::from_code(keyed.side).map_or('-', Side::letter);
+    format!("{text} {side} - - 0 1")
 }
 
 #[cfg(test)]
@@ -203,8 +212,8 @@ mod tests {
     fn fen_comes_back() {
         for line in ["Q w b3 h2 a1", "q b a1 h2 b3", "N w h8 a8 d4", "r b e4 e5 a1"] {
             let position: Position = line.parse().unwrap();
-            let read = from_fen(&written(position)).ok().unwrap();
-            assert_eq!((read.position, read.clock), (position, Some(0)));
+            let read = from_fen(&written(position.into())).ok().unwrap();
+            assert_eq!((Position::keyed(read.keyed), read.clock), (Some(position), Some(0)));
         }
     }
 }

@@ -8,7 +8,7 @@ use std::process;
 use crate::failure::{Done, Failure};
 
 /// A byte more than the longest file that is of use: what is longer need not be read to be refused.
-const MOST: u64 = 236_596 + 1;
+const MOST: u64 = sledgewren::LARGE_TABLE_BYTES as u64 + 1;
 
 fn start(path: &str) -> io::Result<Vec<u8>> {
     let mut bytes = Vec::new();

@@ -1,35 +1,83 @@
 //! Playing on: a move as players write it, and the line of best play.
 
-use sledgewren::{entry, Accepted, Move, Played, Position, Refusal, Side};
+use sledgewren::{entry, Accepted, Answer, FourMen, Keyed, Man, Marked, Move, Refusal, Side};
+
+/// The tables that a position is looked up in.
+pub enum Tables<'a> {
+    One(&'a Accepted),
+    Two(&'a FourMen<'a>),
+}
+
+impl Tables<'_> {
+    pub fn look_up(&self, keyed: impl Into<Keyed>) -> Result<Answer, Refusal> {
+        self.look_up_at(keyed, 0).map(|marked| marked.answer)
+    }
+
+    pub fn look_up_at(&self, keyed: impl Into<Keyed>, plies: u32) -> Result<Marked, Refusal> {
+        match self {
+            Tables::One(table) => table.table().look_up_at(keyed, plies),
+            Tables::Two(tables) => tables.look_up_at(keyed, plies),
+        }
+    }
+}
 
 /// Is the side to move in check? The library refuses 6 exactly where the side not to move is, so
 /// the question is put with the sides exchanged.
-fn is_check(position: Position) -> bool {
-    let exchanged = Position { side: position.side.other(), ..position };
+fn is_check(keyed: Keyed) -> bool {
+    let exchanged = Keyed { side: 1 - keyed.side, ..keyed };
     entry::count(exchanged) == Err(Refusal::OtherInCheck)
 }
 
-/// Standard algebraic notation: `Qg1#`, `Kxb2`. With one man a letter and a square tell moves
-/// apart.
-pub fn san(position: Position, chosen: Move) -> Result<String, Refusal> {
-    let letter = if chosen.from == position.man_square { position.man.letter() } else { 'K' };
-    let takes = if chosen.takes { "x" } else { "" };
-    let mark = match position.play(chosen)? {
-        Played::At(next) if is_check(next) && next.count()? == 0 => "#",
-        Played::At(next) if is_check(next) => "+",
-        _ => "",
-    };
-    Ok(format!("{letter}{takes}{}{mark}", chosen.to))
+/// The letter of the piece on a move's from-square.
+fn letter(keyed: Keyed, chosen: Move) -> char {
+    let man = keyed.men.into_iter().flatten().find(|man| man.square == chosen.from.code());
+    man.and_then(|man| Man::from_code(man.kind)).map_or('K', Man::letter)
 }
 
-/// The moves that the table gives to both sides, up to mate.
-pub fn line(table: &Accepted, mut position: Position) -> Result<Vec<String>, Refusal> {
-    let mut moves = Vec::new();
+/// What tells a move from another one of a like man to the same square: its file, its rank or
+/// both.
+fn origin(keyed: Keyed, chosen: Move) -> Result<String, Refusal> {
+    let moves = entry::moves(keyed)?;
+    let others: Vec<&Move> = moves
+        .iter()
+        .filter(|other| other.to == chosen.to && other.from != chosen.from)
+        .filter(|other| letter(keyed, **other) == letter(keyed, chosen))
+        .collect();
+    let from = chosen.from.to_string();
+    if others.is_empty() {
+        return Ok(String::new());
+    }
+    if others.iter().all(|other| other.from.file() != chosen.from.file()) {
+        return Ok(from[..1].to_string());
+    }
+    if others.iter().all(|other| other.from.rank() != chosen.from.rank()) {
+        return Ok(from[1..].to_string());
+    }
+    Ok(from)
+}
+
+/// Standard algebraic notation: `Qg1#`, `Kxb2`, `Rad1`.
+pub fn san(keyed: impl Into<Keyed>, chosen: Move) -> Result<String, Refusal> {
+    let keyed = keyed.into();
+    let (letter, origin) = (letter(keyed, chosen), origin(keyed, chosen)?);
+    let takes = if chosen.takes { "x" } else { "" };
+    let next = entry::play(keyed, chosen.from.code(), chosen.to.code())?;
+    let mark = match next.filter(|next| next.men[0].is_some() && is_check(*next)) {
+        Some(next) if entry::count(next)? == 0 => "#",
+        Some(_) => "+",
+        None => "",
+    };
+    Ok(format!("{letter}{origin}{takes}{}{mark}", chosen.to))
+}
+
+/// The moves that the tables give to both sides, up to mate.
+pub fn line(tables: &Tables, keyed: impl Into<Keyed>) -> Result<Vec<String>, Refusal> {
+    let (mut keyed, mut moves) = (keyed.into(), Vec::new());
     // A depth is at most 253, and each of these moves takes one ply off it.
-    while let Some(best) = table.look_up(position)?.best() {
-        moves.push(san(position, best)?);
-        match position.play(best)? {
-            Played::At(next) if moves.len() < 254 => position = next,
+    while let Some(best) = tables.look_up(keyed)?.best() {
+        moves.push(san(keyed, best)?);
+        match entry::play(keyed, best.from.code(), best.to.code())? {
+            Some(next) if moves.len() < 254 && next.men[0].is_some() => keyed = next,
             _ => break,
         }
     }

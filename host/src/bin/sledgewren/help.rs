@@ -9,16 +9,16 @@ struct Page {
     examples: &'static [&'static str],
 }
 
-const ABOUT: &str = "rules on chess positions of two kings and one man, and makes their tables";
+const ABOUT: &str = "rules on chess positions of two kings and one man or two, and makes tables";
 
 const INTRODUCTION: &[&str] = &[
-    "A position is two kings and one queen, rook, bishop or knight of either side. It is given in \
-     FEN, or as a line of the desk: the man (Q R B N, Black's q r b n), the side to move (w b), \
+    "A position is two kings and one queen, rook, bishop or knight of either side, or two of them. \
+     It is given in FEN, or with one man as a line of the desk: the man (Q R B N, Black's q r b n), the side to move (w b), \
      the white king, the man and the black king, as Q w b3 h2 a1; or the man, # and a number with \
      its check digits, as Q # 0204962.",
     "Every value, move and verdict is the proved library's.",
-    "A MAN is Q, R, B or N, or queen, rook, bishop or knight. A table serves the man of either \
-     side.",
+    "A MAN is Q, R, B or N, or queen, rook, bishop or knight. An ENDING is a man, or is named by \
+     its pieces, as KQK, KQRK (both of one side) or KQKR (one each). A table serves both colours.",
 ];
 
 const STATUSES: &[&str] = &[
@@ -31,16 +31,19 @@ const STATUSES: &[&str] = &[
 const PAGES: &[Page] = &[
     Page {
         name: "rule",
-        usage: "sledgewren rule [--svg FILE] FEN|LINE",
+        usage: "sledgewren rule [--svg FILE] [--table FILE] FEN|LINE",
         about: "judges a position",
         text: &[
             "Prints the board, the value with its moves and plies, the best move in standard \
              notation and in the desk's form, the line of best play to mate, the second opinion \
              of a search without tables (up to 6 plies), the desk's slip and the number.",
+            "With two men there is no second opinion, slip or typed number. Their table is filled, \
+             which takes some twenty seconds and is told on standard error, or read from --table \
+             FILE and checked.",
             "--svg FILE draws the board, with the move as an arrow.",
             "FEN's castling rights and en-passant square are refused: the tables know neither. Its \
              halfmove clock is the plies since the last capture: it is told whether a win or a \
-             loss comes before a claim by the fifty-move rule. A second man, a pawn or no man at \
+             loss comes before a claim by the fifty-move rule. A third man, a pawn or no man at \
              all is refused.",
         ],
         examples: &[
@@ -50,18 +53,18 @@ const PAGES: &[Page] = &[
     },
     Page {
         name: "fill",
-        usage: "sledgewren fill MAN FILE",
-        about: "makes a man's table",
+        usage: "sledgewren fill ENDING FILE",
+        about: "makes an ending's table",
         text: &[
-            "Fills the table, has it checked and writes 59,136 bytes. Progress goes to standard \
+            "Fills the table, has it checked and writes its 59,136 bytes, 3,784,704 with two men. Progress goes to standard \
              error: a bar at a terminal, plain lines elsewhere. The file is written beside its \
              place and renamed, so that FILE has its old bytes or all of the new ones.",
         ],
-        examples: &["sledgewren fill queen queen.table"],
+        examples: &["sledgewren fill queen queen.table", "sledgewren fill KBNK kbnk.table"],
     },
     Page {
         name: "check",
-        usage: "sledgewren check MAN FILE",
+        usage: "sledgewren check ENDING FILE",
         about: "judges a table, whoever made it",
         text: &[
             "FILE is a table, or a set that holds the man's table. The check accepts the true \

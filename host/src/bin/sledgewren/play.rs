@@ -56,7 +56,7 @@ fn asked(
 /// The word at the end, or none while the game goes on.
 fn end(table: &Accepted, position: Position) -> Result<Option<String>, Failure> {
     let answer = table.look_up(position)?;
-    Ok(answer.best().is_none().then(|| words::value(position, answer)))
+    Ok(answer.best().is_none().then(|| words::value(position.side, answer)))
 }
 
 fn game(
@@ -75,7 +75,7 @@ fn game(
         let chosen =
             if position.side == player { asked(position, input, out)? } else { answer.best() };
         let Some(chosen) = chosen else {
-            let words = words::value(position, answer);
+            let words = words::value(position.side, answer);
             return Ok(writeln!(out, "\nleft at {position}: {words}")?);
         };
         let san = game::san(position, chosen)?;
@@ -102,7 +102,7 @@ pub fn run(words: &[String], out: &mut dyn Write) -> Done {
     let text = if rest.is_empty() { DEFAULT.to_string() } else { rest.join(" ") };
     let side = side.map(|side| side.parse::<Side>()).transpose();
     let side = side.map_err(|wrong| Failure::Usage(format!("{wrong}")))?;
-    let position = fen::read(&text)?.position;
+    let position = fen::read(&text)?.one()?;
     position.count()?;
     let table = Accepted::filled(position.man)?;
     let player = side.unwrap_or(position.side);

@@ -2,13 +2,13 @@
 
 use std::io::Write;
 
-use sledgewren::{
-    second_opinion, Accepted, Answer, Opinion, Position, Refusal, Side, Value, MOST_PLIES,
-};
+use sledgewren::{entry, Position, Refusal, Side, Value, MOST_PLIES};
+use sledgewren::{second_opinion, Accepted, Answer, Ending, Keyed, Opinion};
 
 use crate::failure::{Done, Failure};
 use crate::fen::{self, Read};
-use crate::{board, files, game, words};
+use crate::game::{self, Tables};
+use crate::{board, files, tables, words};
 
 /// The second opinion beside the table's answer. That they agree is proved; if they did not, the
 /// linked library would not be the proved one.
@@ -26,8 +26,8 @@ fn opinion(position: Position, answer: Answer) -> Result<String, Failure> {
 }
 
 /// What FEN's halfmove clock means for the answer.
-fn fifty(table: &Accepted, position: Position, clock: u32) -> Result<String, Failure> {
-    match table.look_up_at(position, clock) {
+fn fifty(tables: &Tables, keyed: Keyed, clock: u32) -> Result<String, Failure> {
+    match tables.look_up_at(keyed, clock) {
         Ok(marked) if marked.answer.depth().is_none() => Ok("a draw, whatever the count".into()),
         Ok(marked) => Ok(format!("{marked} ({clock})")),
         Err(Refusal::TooManyQuiet) => Ok(format!("{}: {clock}", Refusal::TooManyQuiet)),
@@ -35,28 +35,24 @@ fn fifty(table: &Accepted, position: Position, clock: u32) -> Result<String, Fai
     }
 }
 
-/// `FILE` of `--svg`, and the position's text.
-fn arguments(arguments: &[String]) -> Result<(Option<String>, String), Failure> {
-    let (svg, rest) = words::option(arguments, "--svg")?;
+/// What was asked: the position's text, the picture's file, and a file with its table.
+struct Asked {
+    text: String,
+    svg: Option<String>,
+    table: Option<String>,
+}
+
+fn arguments(arguments: &[String]) -> Result<Asked, Failure> {
+    let (svg, rest) = words::first_option(arguments, "--svg")?;
+    let (table, rest) = words::option(&rest, "--table")?;
     if rest.is_empty() {
         return Err(Failure::Usage("give a position, as FEN or as a line of the desk".into()));
     }
-    Ok((svg, rest.join(" ")))
+    Ok(Asked { text: rest.join(" "), svg, table })
 }
 
-fn told(out: &mut dyn Write, read: &Read, table: &Accepted, answer: Answer) -> Done {
-    let position = read.position;
-    writeln!(out, "{}", board::text(position))?;
-    writeln!(out, "position: {position}, {} to move", position.side)?;
-    writeln!(out, "FEN:      {}", fen::written(position))?;
-    writeln!(out, "value:    {}", words::value(position, answer))?;
-    if let Some(best) = answer.best() {
-        writeln!(out, "best:     {} ({best})", game::san(position, best)?)?;
-    }
-    if answer.depth().is_some_and(|depth| depth > 0) {
-        let moves = game::line(table, position)?;
-        writeln!(out, "line:     {}", game::numbered(position.side, &moves))?;
-    }
+/// What is told of one man alone: the search, the desk's slip and the number as it is typed.
+fn alone(out: &mut dyn Write, position: Position, answer: Answer) -> Done {
     writeln!(out, "search:   {}", opinion(position, answer)?)?;
     writeln!(out, "slip:     {answer}")?;
     let typed = position.typed()?;
@@ -64,23 +60,67 @@ fn told(out: &mut dyn Write, read: &Read, table: &Accepted, answer: Answer) -> D
         Side::White => "",
         Side::Black => ", which the exchange of colours keeps",
     };
-    writeln!(out, "number:   {}, typed {}{whose}", typed.number(), typed.line(position.man))?;
+    Ok(writeln!(out, "number:   {}, typed {}{whose}", typed.number(), typed.line(position.man))?)
+}
+
+fn told(out: &mut dyn Write, read: &Read, side: Side, tables: &Tables, answer: Answer) -> Done {
+    let keyed = read.keyed;
+    let one = Position::keyed(keyed);
+    writeln!(out, "{}", board::text(keyed))?;
+    match one {
+        Some(position) => writeln!(out, "position: {position}, {side} to move")?,
+        None => writeln!(out, "position: {side} to move")?,
+    }
+    writeln!(out, "FEN:      {}", fen::written(keyed))?;
+    writeln!(out, "value:    {}", words::value(side, answer))?;
+    if let Some(best) = answer.best() {
+        writeln!(out, "best:     {} ({best})", game::san(keyed, best)?)?;
+    }
+    if answer.depth().is_some_and(|depth| depth > 0) {
+        let moves = game::line(tables, keyed)?;
+        writeln!(out, "line:     {}", game::numbered(side, &moves))?;
+    }
+    match (one, Ending::of(keyed)) {
+        (Some(position), _) => alone(out, position, answer)?,
+        (None, Some(ending)) => writeln!(out, "number:   {} of {ending}", entry::number(keyed)?)?,
+        (None, None) => {}
+    }
     if let Some(clock) = read.clock {
-        writeln!(out, "fifty:    {}", fifty(table, position, clock)?)?;
+        writeln!(out, "fifty:    {}", fifty(tables, keyed, clock)?)?;
     }
     Ok(())
 }
 
-pub fn run(words: &[String], out: &mut dyn Write) -> Done {
-    let (svg, text) = arguments(words)?;
-    let read = fen::read(&text)?;
-    // Refusals 4, 5 and 6 before a table is filled.
-    read.position.count()?;
-    let table = Accepted::filled(read.position.man)?;
-    let answer = table.look_up(read.position)?;
-    if let Some(path) = svg {
-        let words = words::value(read.position, answer);
-        files::replace(&path, board::svg(read.position, answer.best(), &words).as_bytes())?;
+fn ruled(out: &mut dyn Write, read: &Read, asked: &Asked, tables: &Tables) -> Done {
+    let answer = tables.look_up(read.keyed)?;
+    let side = Side::from_code(read.keyed.side).unwrap_or(Side::White);
+    if let Some(path) = &asked.svg {
+        let one = Position::keyed(read.keyed).map(|position| position.to_string());
+        let name = one.unwrap_or_else(|| fen::written(read.keyed));
+        let words = words::value(side, answer);
+        files::replace(path, board::svg(read.keyed, &name, answer.best(), &words).as_bytes())?;
     }
-    told(out, &read, &table, answer)
+    told(out, read, side, tables, answer)
+}
+
+pub fn run(words: &[String], out: &mut dyn Write) -> Done {
+    let asked = arguments(words)?;
+    let read = fen::read(&asked.text)?;
+    // Refusals 4, 5 and 6 before a table is filled.
+    entry::count(read.keyed)?;
+    let ending = Ending::of(read.keyed).ok_or(Refusal::BadMan)?;
+    let file = asked.table.as_deref();
+    let Some(second) = ending.second() else {
+        let table = match file {
+            Some(path) => tables::accepted(ending.first(), path)?,
+            None => Accepted::filled(ending.first())?,
+        };
+        return ruled(out, &read, &asked, &Tables::One(&table));
+    };
+    let (first, second) = (Accepted::filled(ending.first())?, Accepted::filled(second)?);
+    let four = match file {
+        Some(path) => tables::accepted_two(ending, &first, &second, path)?,
+        None => tables::filled_two(ending, &first, &second)?.0,
+    };
+    ruled(out, &read, &asked, &Tables::Two(&four))
 }

@@ -2,11 +2,12 @@
 
 use std::io::Write;
 
-use sledgewren::{entry, Checked, Choice, Man, Pocket, Position, Set, Table};
-use sledgewren::{POCKET_BYTES, TABLE_BYTES};
+use sledgewren::entry::{self, Lent};
+use sledgewren::{Accepted, Checked, Choice, Ending, FourMen, Man, Pocket, Position, Set, Table};
+use sledgewren::{LARGE_TABLE_BYTES, POCKET_BYTES, TABLE_BYTES};
 
 use crate::failure::{Done, Failure};
-use crate::words::{man, plain};
+use crate::words::{ending, man, plain};
 use crate::{files, progress};
 
 /// So many words and no options.
@@ -17,7 +18,7 @@ fn exactly<const N: usize>(words: &[String], wanted: &str) -> Result<[String; N]
 
 /// A table that was just filled is judged too before it is written: nothing wrong gets a name.
 fn judged(man: Man, table: &[u8]) -> Done {
-    match entry::check(man, table)? {
+    match entry::check(man, Lent::NONE, table)? {
         Checked::Accepted => Ok(()),
         Checked::Wrong(number) => Err(Failure::Refused(wrong(man, number))),
     }
@@ -29,19 +30,70 @@ fn wrong(man: Man, number: u32) -> String {
     format!("not the {man}'s table: the lowest wrong number is {number}, {place}")
 }
 
+/// A table of two men over those of one, filled with its progress shown and then judged; and the
+/// words for the end.
+pub fn filled_two<'a>(
+    ending: Ending,
+    first: &'a Accepted,
+    second: &'a Accepted,
+) -> Result<(FourMen<'a>, String), Failure> {
+    let mut bytes = vec![0; LARGE_TABLE_BYTES].into_boxed_slice();
+    let lent = Lent { first: first.table().bytes(), second: second.table().bytes() };
+    let end = progress::fill(ending, lent, &mut bytes)?;
+    match FourMen::accept(ending, first, second, bytes) {
+        Ok(four) => Ok((four, end)),
+        Err(not) => Err(Failure::Refused(format!("{ending}: {not}"))),
+    }
+}
+
+/// A file's bytes as the table of an ending with two men.
+pub fn accepted_two<'a>(
+    ending: Ending,
+    first: &'a Accepted,
+    second: &'a Accepted,
+    path: &str,
+) -> Result<FourMen<'a>, Failure> {
+    let bytes = files::read(path)?;
+    if bytes.len() != LARGE_TABLE_BYTES {
+        let known = format!("a table of {ending} has {LARGE_TABLE_BYTES}");
+        return Err(Failure::Refused(format!("{}; {known}", length(path, &bytes))));
+    }
+    FourMen::accept(ending, first, second, bytes.into()).map_err(|not| match not.why {
+        Ok(number) => {
+            let words = format!("not the table of {ending}: the lowest wrong number is {number}");
+            Failure::Refused(format!("{path}: {words}"))
+        }
+        Err(refusal) => refusal.into(),
+    })
+}
+
+/// The tables of one man that an ending with two leads into.
+fn small(ending: Ending) -> Result<[Accepted; 2], Failure> {
+    let second = ending.second().unwrap_or(ending.first());
+    Ok([Accepted::filled(ending.first())?, Accepted::filled(second)?])
+}
+
 pub fn fill(words: &[String], out: &mut dyn Write) -> Done {
-    let [name, path] = exactly(words, "a man and a file")?;
-    let man = man(&name)?;
-    let mut table = vec![0; TABLE_BYTES];
-    let end = progress::fill(man, &mut table)?;
-    judged(man, &table)?;
-    files::replace(&path, &table)?;
-    Ok(writeln!(out, "{end}; {path}: {TABLE_BYTES} bytes, accepted")?)
+    let [name, path] = exactly(words, "an ending and a file")?;
+    let ending = ending(&name)?;
+    let end = if ending.second().is_some() {
+        let [first, second] = small(ending)?;
+        let (four, end) = filled_two(ending, &first, &second)?;
+        files::replace(&path, four.bytes())?;
+        end
+    } else {
+        let mut table = vec![0; TABLE_BYTES];
+        let end = progress::fill(ending, Lent::NONE, &mut table)?;
+        judged(ending.first(), &table)?;
+        files::replace(&path, &table)?;
+        end
+    };
+    Ok(writeln!(out, "{end}; {path}: {} bytes, accepted", ending.table_bytes())?)
 }
 
 /// `x.table has 12 bytes`.
 fn length(path: &str, bytes: &[u8]) -> String {
-    let most = Choice::ALL.set_bytes();
+    let most = LARGE_TABLE_BYTES;
     if bytes.len() > most {
         format!("{path} has more than {most} bytes")
     } else {
@@ -65,15 +117,21 @@ fn table_in(man: Man, path: &str) -> Result<Table, Failure> {
     }
 }
 
-fn accepted(man: Man, path: &str) -> Result<sledgewren::Accepted, Failure> {
+pub fn accepted(man: Man, path: &str) -> Result<Accepted, Failure> {
     table_in(man, path)?
         .accept(man)
         .map_err(|not| Failure::Refused(format!("{path}: {}", wrong(man, not.number))))
 }
 
 pub fn check(words: &[String], out: &mut dyn Write) -> Done {
-    let [name, path] = exactly(words, "a man and a file")?;
-    let man = man(&name)?;
+    let [name, path] = exactly(words, "an ending and a file")?;
+    let ending = ending(&name)?;
+    if ending.second().is_some() {
+        let [first, second] = small(ending)?;
+        accepted_two(ending, &first, &second, &path)?;
+        return Ok(writeln!(out, "{path}: accepted, the true table of {ending}")?);
+    }
+    let man = ending.first();
     accepted(man, &path)?;
     Ok(writeln!(out, "{path}: accepted, the {man}'s true table")?)
 }
@@ -117,7 +175,7 @@ pub fn set(words: &[String], out: &mut dyn Write) -> Done {
     let mut ends = Vec::new();
     for man in choice.men() {
         let place = entry::set_find(&bytes, man)?;
-        ends.push(progress::fill(man, &mut bytes[place.clone()])?);
+        ends.push(progress::fill(man, Lent::NONE, &mut bytes[place.clone()])?);
         judged(man, &bytes[place])?;
     }
     files::replace(path, &bytes)?;

@@ -1,6 +1,6 @@
 //! Words for values, and a command's words.
 
-use sledgewren::{Answer, Man, Position, Side, Value};
+use sledgewren::{Answer, Ending, Man, Side, Value};
 
 use crate::failure::Failure;
 
@@ -15,8 +15,8 @@ pub fn moves_and_plies(plies: u8) -> String {
 }
 
 /// What the answer says of a position.
-pub fn value(position: Position, answer: Answer) -> String {
-    let (side, other) = (position.side, position.side.other());
+pub fn value(side: Side, answer: Answer) -> String {
+    let other = side.other();
     match answer.value() {
         Value::Win(depth) => format!("{side} wins: mate in {}", moves_and_plies(depth)),
         Value::Loss(0) => format!("checkmate: {other} has won"),
@@ -44,8 +44,17 @@ pub fn plain(words: &[String]) -> Result<Vec<String>, Failure> {
     }
 }
 
-/// `--NAME VALUE` taken out of the words, and the others.
+/// `--NAME VALUE` taken out of the words, and the others, which have no options.
 pub fn option(words: &[String], name: &str) -> Result<(Option<String>, Vec<String>), Failure> {
+    let (found, rest) = first_option(words, name)?;
+    Ok((found, plain(&rest)?))
+}
+
+/// The same where other options may be left.
+pub fn first_option(
+    words: &[String],
+    name: &str,
+) -> Result<(Option<String>, Vec<String>), Failure> {
     let (mut found, mut rest) = (None, Vec::new());
     let mut words = words.iter();
     while let Some(word) = words.next() {
@@ -55,13 +64,19 @@ pub fn option(words: &[String], name: &str) -> Result<(Option<String>, Vec<Strin
             if found.replace(value.clone()).is_some() {
                 return Err(Failure::Usage(format!("{name} is given twice")));
             }
-        } else if word.starts_with("--") {
-            return Err(Failure::Usage(format!("there is no option {word}")));
         } else {
             rest.push(word.clone());
         }
     }
     Ok((found, rest))
+}
+
+/// An ending by its name, as KQK or KQKR, or one man by his letter or name.
+pub fn ending(word: &str) -> Result<Ending, Failure> {
+    match word.parse::<Ending>() {
+        Ok(ending) => Ok(ending),
+        Err(_) => Ok(Ending::one(man(word)?)),
+    }
 }
 
 /// A man by his letter or name.

@@ -1,8 +1,6 @@
 -- `checking::is_right` meets its contract: a legal position's byte by its successors, any other 0.
-use mathlib.Core.Path.{sym, _∙_}
 use borrow.Author.Needs.{needs}
-use Rattle.successors.specs.laws.NumberLaws.{stands-there, nothing-there, at-lone}
-use Rattle.checking.specs.laws.Laws.{zero-right, position-right}
+use Rattle.checking.specs.laws.Laws.{legal-there, none-there, zero-right, position-right}
 use Rattle.checking.proofs.numbers.is_right.Statement.{statement}
 use Rattle.checking.proofs.numbers.is_right.Tie as tie
 
@@ -13,24 +11,24 @@ enum-known-standing : tie.Need-enum-known-standing
 enum-known-standing c = search needs
 
 is-required-requires : tie.Need-is-required-requires
-is-required-requires c κs = (
-  c .before .before .before .before .before .pre,
-  at-lone _ _ _
-      (stands-there _ _ _ (sym (c .before .standing .given .1) ∙ c .before .before .before .legal-at .ensures) .1),
-)
+is-required-requires c κs =
+    let x = c .before .before .before .before .before .before .before .pre in
+    legal-there _ _ _ _ x (c .before .before .before .legal-at .ensures) (c .before .standing .given .1) .1
 
 enum-told : tie.Need-enum-told
 enum-told c = search needs
 
 returns : tie.Need-returns
-returns c = let s =
-    stands-there _ _ _
-    (sym (c .before .before .standing .given .1) ∙ c .before .before .before .before .legal-at .ensures) in
-    position-right _ _ _ _ _ _ (s .1) (s .0) (c .is-required .ensures)
+returns c =
+    let x = c .before .before .before .before .before .before .before .before .pre in
+    let s = legal-there _ _ _ _ x (c .before .before .before .before .legal-at .ensures)
+    (c .before .before .standing .given .1) in
+    position-right _ _ _ _ _ _ _ (s .2) (s .0) (c .is-required .ensures)
 
 returns-2 : tie.Need-returns-2
 returns-2 c =
-    zero-right _ _ _ _ (nothing-there _ _ (sym (c .enum-told .given .1) ∙ c .before .before .legal-at .ensures))
+    let x = c .before .before .before .before .before .before .pre in
+    zero-right _ _ _ _ _ (none-there _ _ _ x (c .before .before .legal-at .ensures) (c .enum-told .given .1))
 
 pub is-right-spec : {M : Type 1} → statement M
 is-right-spec =

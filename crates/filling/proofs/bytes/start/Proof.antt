@@ -6,25 +6,38 @@ use lib.ListN.{length, length-set}
 use Rattle.finite.specs.Mapped.{Upto, upto-none, upto-more, upto-all}
 use Rattle.table_theory.specs.Tables.{startByte}
 use Rattle.rules.specs.Chess.{chess}
-use Rattle.endings.specs.Ending.{ending}
+use Rattle.position.specs.Posed.{materialFor}
+use Rattle.four_men.specs.Reading.{numbered}
+use Rattle.four_men.specs.Steps.{nothing}
+use Rattle.filling.specs.laws.Code.{size-most}
 use Rattle.filling.proofs.bytes.start.Statement.{statement}
 use Rattle.filling.proofs.bytes.start.Tie as tie
 
 abbrev Inv-loop : tie.InvT-loop
-Inv-loop kind table₀ n₀ table n = (n ≤ length table) × Upto (startByte chess (ending kind)) table₀ table n
+Inv-loop m table₀ n₀ table n = (n ≤ length table)
+    × Upto (startByte chess (numbered (materialFor m) nothing)) table₀ table n
 
 abbrev μ-loop : tie.MeasureT-loop
-μ-loop kind table₀ n₀ table n = length table - n
+μ-loop m table₀ n₀ table n = length table - n
 
 loop-holds : tie.Need-loop-holds Inv-loop μ-loop
 loop-holds c = (omega arith, upto-none _ _)
 
 cast-first-byte : tie.Need-cast-first-byte Inv-loop μ-loop
 cast-first-byte c = let u = c .before .loop .inv .1 in
-    omega (arith, c .loop-test .taken, u .same-length, c .before .before .before .pre)
+    omega (
+      arith,
+      c .loop-test .taken,
+      u .same-length,
+      c .before .before .before .pre .2,
+      size-most (materialFor (c .before .before .before .args .m)),
+    )
 
 first-byte-requires : tie.Need-first-byte-requires Inv-loop μ-loop
-first-byte-requires c κs = tt
+first-byte-requires c κs =
+    let u = c .before .loop .inv .1 in
+    let p = c .before .before .before .pre in
+    (p .0, p .1, omega (arith, c .loop-test .taken, u .same-length, p .2))
 
 slice-write-table : tie.Need-slice-write-table Inv-loop μ-loop
 slice-write-table c = search needs

@@ -1,6 +1,6 @@
 -- `index::exchange_of` meets its contract: each return by the tests that led there.
 use borrow.Author.Tests.{lt-ltb, le-ltb, eq-eqb, ne-eqb}
-use Rattle.index.specs.Frames.{exchangeOf}
+use Rattle.index.specs.Least.{exchangeOf}
 use Rattle.index.proofs.framing.exchange_of.Statement.{statement}
 use Rattle.index.proofs.framing.exchange_of.Tie as tie
 

@@ -10,6 +10,7 @@ use Rattle.rules.specs.Rules.{movesFrom, allMoves}
 use Rattle.position.specs.Keyed.{boardOf}
 use Rattle.move_list.specs.Lists.{room, listOf}
 use Rattle.move_list.specs.ListLaws.{appended}
+use Rattle.move_list.specs.laws.Served.{few-moves}
 use Rattle.move_list.specs.laws.ListLaws.{appended-first, appended-none, by-movers, turn-length, turn-moves, turn-count}
 use mathlib.Core.Bool.{not, _&&_}
 use lib.Dec.{eqb}
@@ -40,7 +41,7 @@ unfolding listOf boardOf
 loop-holds c =
     let p = c .before .before .before .args .p in
     let d = by-movers (boardOf p) (c .own .result) (c .own .ensures) in
-    let few = c .before .before .before .pre in
+    let few = few-moves p in
     rw (c .before .no-moves .ensures, ← d) (c .own .ok, omega arith, appended-first (allMoves (boardOf p)) few)
 
 lowest-requires : tie.Need-lowest-requires Inv-loop μ-loop

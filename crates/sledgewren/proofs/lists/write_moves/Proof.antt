@@ -5,6 +5,7 @@ use Prim.Native.Nat.{_*_, _-_, _≤_}
 use native.Mathlib.Omega.{arith}
 use lib.ListN.{length, take, drop, length-set, length-map}
 use lib.Seq.{sets, length-take-le}
+use Rattle.move_list.specs.Lists.{room}
 use Rattle.sledgewren.specs.Words.{moveBytes, listSize}
 use Rattle.sledgewren.specs.laws.Laws.{move-turn, moves-end, moves-written}
 use Rattle.sledgewren.proofs.lists.write_moves.Statement.{statement}
@@ -12,7 +13,7 @@ use Rattle.sledgewren.proofs.lists.write_moves.Tie as tie
 
 abbrev Inv-loop : tie.InvT-loop
 Inv-loop bytes₀ moves count i₀ bytes i =
-    (i ≤ count) × (count ≤ 35) × (length bytes ≡ listSize) × (length moves ≡ 35)
+    (i ≤ count) × (count ≤ room) × (length bytes ≡ listSize) × (length moves ≡ room)
     × (sets bytes (4 * i) (flatMap moveBytes (drop i (take count moves)))
     ≡ sets bytes₀ 0 (flatMap moveBytes (take count moves)))
 

@@ -1,71 +1,58 @@
--- `successors::byte_after` meets its contract: the man taken, a king moved, or the man.
+-- `successors::byte_after` meets its contract: by the frame, or by the place.
 use mathlib.Core.Path.{sym, _∙_}
 use borrow.Author.Needs.{needs}
-use Rattle.successors.specs.laws.ByteLaws.{taken, after-moved, kings-kept}
+use Rattle.successors.specs.laws.ByteLaws.{byte-moved, byte-framed}
 use Rattle.successors.proofs.after.byte_after.Statement.{statement}
 use Rattle.successors.proofs.after.byte_after.Tie as tie
 
+square-after-requires : tie.Need-square-after-requires
+square-after-requires c κs = search needs
+
+square-after-requires-2 : tie.Need-square-after-requires-2
+square-after-requires-2 c κs = search needs
+
+is-framed-requires : tie.Need-is-framed-requires
+is-framed-requires c κs = search needs
+
+alike-requires : tie.Need-alike-requires
+alike-requires c κs = search needs
+
+number-on-requires : tie.Need-number-on-requires
+number-on-requires c κs = search needs
+
+read-at-requires : tie.Need-read-at-requires
+read-at-requires c κs = search needs
+
 returns : tie.Need-returns
-returns c = λ kind. taken _ _ kind _ _ _ _ _ _ (c .if1 .taken)
+returns c =
+    let k = c .before in
+    let i = k .before .before .before in
+    let y = i .before .before in
+    λ w t e. byte-framed _ _ w _ _ _ _ _ _ _ _ _ _ t e (y .before .square-after .ensures) (y .square-after2 .ensures)
+    (sym (i .before .is-framed .ensures) ∙ i .if1 .taken) (k .number-on .ensures ∙ rw (k .before .alike .ensures))
+    (c .read-at .ensures)
 
-carried-requires : tie.Need-carried-requires
-carried-requires c κs = search needs
-
-king-moves-requires : tie.Need-king-moves-requires
-king-moves-requires c κs = search needs
-
-carried-requires-2 : tie.Need-carried-requires-2
-carried-requires-2 c κs = search needs
-
-carried-requires-3 : tie.Need-carried-requires-3
-carried-requires-3 c κs = search needs
-
-other-requires : tie.Need-other-requires
-other-requires c κs = search needs
-
-frame-of-requires : tie.Need-frame-of-requires
-frame-of-requires c κs = search needs
+place-after-requires : tie.Need-place-after-requires
+place-after-requires c κs = search needs
 
 byte-in-requires : tie.Need-byte-in-requires
 byte-in-requires c κs = search needs
 
 returns-2 : tie.Need-returns-2
 returns-2 c =
-    let d = c .before .before .before .before .before in
-    λ kind. after-moved _ _ kind _ _ _ _ _ _ _ _ _ (d .before .before .before .if1 .left)
-    (c .before .frame-of .ensures
-    ∙ rw (
-      c .before .before .other .ensures,
-      c .before .before .before .carried3 .ensures,
-      c .before .before .before .before .carried2 .ensures,
-    ))
-    (d .before .before .carried .ensures)
-    (c .byte-in .ensures)
-
-byte-in-requires-2 : tie.Need-byte-in-requires-2
-byte-in-requires-2 c κs = search needs
-
-returns-3 : tie.Need-returns-3
-returns-3 c =
-    let d = c .before in
-    λ kind. after-moved _ _ kind _ _ _ _ _ _ _ _ _ (d .before .before .before .if1 .left)
-    (kings-kept _ _ _ _ _ _ _ (sym (d .before .king-moves .ensures) ∙ d .if2 .left)
-    (d .before .before .before .before .before .pre (sym (d .before .king-moves .ensures) ∙ d .if2 .left)))
-    (d .before .before .carried .ensures)
-    (c .byte-in2 .ensures)
+    λ w t e. byte-moved _ _ w _ _ _ _ _ _ _ t (c .before .place-after .ensures) (c .byte-in .ensures)
 
 pub byte-after-spec : {M : Type 1} → statement M
 byte-after-spec =
     tie.close
     (tie.spec
+    square-after-requires
+    square-after-requires-2
+    is-framed-requires
+    alike-requires
+    number-on-requires
+    read-at-requires
     returns
-    carried-requires
-    king-moves-requires
-    carried-requires-2
-    carried-requires-3
-    other-requires
-    frame-of-requires
+    place-after-requires
     byte-in-requires
-    returns-2
-    byte-in-requires-2
-    returns-3)
+    returns-2)

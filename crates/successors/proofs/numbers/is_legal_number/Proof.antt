@@ -1,7 +1,7 @@
 -- `successors::is_legal_number` meets its contract.
-use mathlib.Core.Path.{sym, _∙_}
-use Rattle.successors.specs.laws.NumberLaws.{stands-there, nothing-there}
 use borrow.Author.Needs.{needs}
+use mathlib.Core.Path.{sym}
+use Rattle.successors.specs.laws.NumberLaws.{told-legal, told-nothing}
 use Rattle.successors.proofs.numbers.is_legal_number.Statement.{statement}
 use Rattle.successors.proofs.numbers.is_legal_number.Tie as tie
 
@@ -15,10 +15,11 @@ enum-told-2 : tie.Need-enum-told-2
 enum-told-2 c = search needs
 
 returns : tie.Need-returns
-returns c = sym (stands-there _ _ _ (sym (c .enum-told .given .1) ∙ c .before .before .legal-at .ensures) .0)
+returns c =
+    λ k l h. sym (told-legal _ _ _ _ (c .enum-told .given .1) (c .before .before .legal-at .ensures k l h) .0)
 
 returns-2 : tie.Need-returns-2
-returns-2 c = sym (nothing-there _ _ (sym (c .enum-told2 .given .1) ∙ c .before .before .legal-at .ensures))
+returns-2 c = λ k l h. sym (told-nothing _ _ _ (c .enum-told2 .given .1) (c .before .before .legal-at .ensures k l h))
 
 pub is-legal-number-spec : {M : Type 1} → statement M
 is-legal-number-spec = tie.close (tie.spec legal-at-requires enum-told enum-told-2 returns returns-2)

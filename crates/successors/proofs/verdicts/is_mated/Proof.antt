@@ -1,28 +1,29 @@
 -- `successors::is_mated` meets its contract.
-use mathlib.Core.Path.{sym, _∙_}
-use mathlib.Core.Bool.{true}
-use borrow.Author.Tests.{not-true, not-false}
-use Rattle.position.specs.Keyed.{boardOf}
-use Rattle.successors.specs.laws.VerdictLaws.{unchecked, counted-mate}
 use borrow.Author.Needs.{needs}
+use mathlib.Core.Path.{sym, _∙_}
+use borrow.Author.Tests.{not-true, not-false}
+use Rattle.successors.specs.laws.PlaceVerdicts.{place-quiet, place-mated, to-reaches}
 use Rattle.successors.proofs.verdicts.is_mated.Statement.{statement}
 use Rattle.successors.proofs.verdicts.is_mated.Tie as tie
 
-in-check-requires : tie.Need-in-check-requires
-in-check-requires c κs = search needs
+checked-requires : tie.Need-checked-requires
+checked-requires c κs = search needs
 
 returns : tie.Need-returns
-unfolding boardOf
-returns c = sym (unchecked _ (sym (c .before .in-check .ensures) ∙ not-true _ (c .if1 .taken)))
+returns c = λ w. place-quiet _ _ (sym (c .before .checked .ensures w) ∙ not-true _ (c .if1 .taken))
 
-count-of-requires : tie.Need-count-of-requires
-count-of-requires c κs = search needs
+reach-of-requires : tie.Need-reach-of-requires
+reach-of-requires c κs = search needs
+
+is-empty-requires : tie.Need-is-empty-requires
+is-empty-requires c κs = search needs
 
 returns-2 : tie.Need-returns-2
-unfolding boardOf
 returns-2 c =
-    counted-mate _ _ (c .before .before .before .pre) (c .count-of .ensures) true
-    (sym (c .before .before .in-check .ensures) ∙ not-false _ (c .before .if1 .left))
+    let i = c .before .before in
+    λ w. place-mated _ _ w _ _ (to-reaches _ _ _ (c .before .reach-of .ensures w)) (c .is-empty .ensures)
+    (sym (i .before .checked .ensures w) ∙ not-false _ (i .if1 .left))
 
 pub is-mated-spec : {M : Type 1} → statement M
-is-mated-spec = tie.close (tie.spec in-check-requires returns count-of-requires returns-2)
+is-mated-spec =
+    tie.close (tie.spec checked-requires returns reach-of-requires is-empty-requires returns-2)

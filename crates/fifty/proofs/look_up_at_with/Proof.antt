@@ -1,0 +1,18 @@
+-- `fifty::look_up_at_with` meets its contract.
+use Rattle.fifty.specs.Marks.{lookUpAtWith}
+use Rattle.fifty.specs.laws.MarkLaws.{marked-found}
+use Rattle.fifty.proofs.look_up_at_with.Statement.{statement}
+use Rattle.fifty.proofs.look_up_at_with.Tie as tie
+
+look-up-with-requires : tie.Need-look-up-with-requires
+look-up-with-requires c κs = tt
+
+marked-at-requires : tie.Need-marked-at-requires
+marked-at-requires c κs = tt
+
+returns : tie.Need-returns
+unfolding lookUpAtWith
+returns c = marked-found _ _ _ _ (c .before .look-up-with .ensures) (c .marked-at .ensures)
+
+pub look-up-at-with-spec : {M : Type 1} → statement M
+look-up-at-with-spec = tie.close (tie.spec look-up-with-requires marked-at-requires returns)

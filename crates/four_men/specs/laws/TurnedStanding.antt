@@ -1,0 +1,193 @@
+-- A position turned, its men in either slot and the colours exchanged or not, stands for the board so changed and meets
+-- the same refusal from 1 to 6.
+use mathlib.Core.Path.{_≡_, refl, sym, ap, ap₂, _∙_}
+use mathlib.Core.Bool.{Bool, true, false, cond, not, _&&_, _||_}
+use mathlib.Core.List.{_++_}
+use Prim.Native.Nat.{ℕ, _-_, _<_}
+use native.Mathlib.Omega.{arith}
+use lib.Dec.{leb, ltb, eqb}
+use borrow.Author.Tests.{leb-false}
+use Rattle.finite.specs.Truth.{refuted}
+use Rattle.finite.specs.Members.{all}
+use Rattle.symmetry.specs.Symmetry.{Symmetry}
+use Rattle.symmetry.specs.laws.SymmetryLaws.{ltb-mapped}
+use Rattle.rules.specs.Rules.{Board, pieces, apart, touching, inCheck}
+use Rattle.rules.specs.Changed.{swapped, changed}
+use Rattle.rules.specs.Reordered.{crossed, reordered}
+use Rattle.rules.specs.laws.Changed.{ltb-swapped, across, board-eq}
+use Rattle.rules.specs.laws.ChangedRules.{all-map, all-pieces, apart-changed, touching-changed, check-changed}
+use Rattle.rules.specs.laws.ReorderedLaws.{all-crossed, apart-crossed, check-reordered}
+use Rattle.numbering.specs.Men.{exchangeable}
+use Rattle.numbering.specs.Change.{Change, changedBy}
+use Rattle.position.specs.declared.Slot.{Slot}
+use Rattle.position.specs.declared.Slot.the-variants.{Absent, Present}
+use Rattle.position.specs.declared.Position.{Position}
+use Rattle.position.specs.Keyed.{slotMen, boardOf}
+use Rattle.position.specs.Maps.{mappedSlot, mappedPosition, changedPosition}
+use Rattle.position.specs.Owned.{recolouredSlot, recoloured}
+use Rattle.position.specs.Refusals.{badMenOf, badSide, badSquare, sharedSquare, placingWith, standingWith}
+use Rattle.position.specs.laws.SlotLaws.{leb-not}
+use Rattle.position.specs.laws.ChangedRefusals.{change-board}
+use Rattle.four_men.specs.MoveTurned.{firstSlot, secondSlot, inSlots, turnedPosition}
+
+-- ---- the board
+
+slots-board : (e : Bool) (p : Position) → boardOf (inSlots e p) ≡ reordered e (boardOf p)
+unfolding boardOf inSlots
+slots-board e p = board-eq refl refl refl (go e (p .first) (p .second))
+  where
+    go : (e : Bool) (f s : Slot)
+        → slotMen (firstSlot e f s) ++ slotMen (secondSlot e f s) ≡ crossed e (slotMen f ++ slotMen s)
+    go false f s = unfold crossed in refl
+    go true Absent Absent = unfold crossed in refl
+    go true Absent (Present c) = unfold crossed in refl
+    go true (Present a) Absent = unfold crossed in refl
+    go true (Present a) (Present c) = unfold crossed in refl
+
+pub turned-board : (s : Change) (p : Position) → boardOf (turnedPosition s p) ≡ changedBy s (boardOf p)
+unfolding turnedPosition changedBy
+turned-board s p =
+    let x = s .colours && exchangeable (boardOf p .men) in
+    change-board (s .symmetry) x (inSlots (s .order) p) ∙ ap (changed (s .symmetry) x) (slots-board (s .order) p)
+
+-- ---- 1: the men
+
+mapped-men : (m : Symmetry) (f s : Slot) → badMenOf (mappedSlot m f) (mappedSlot m s) ≡ badMenOf f s
+mapped-men m Absent s = refl
+mapped-men m (Present a) Absent = refl
+mapped-men m (Present a) (Present c) = refl
+
+recoloured-men : (f s : Slot) → badMenOf (recolouredSlot f) (recolouredSlot s) ≡ badMenOf f s
+recoloured-men Absent s = refl
+recoloured-men (Present a) Absent = refl
+recoloured-men (Present a) (Present c) = refl
+
+changed-men : (m : Symmetry) (x : Bool) (p : Position)
+    → badMenOf (changedPosition m x p .first) (changedPosition m x p .second) ≡ badMenOf (p .first) (p .second)
+unfolding mappedPosition recoloured
+changed-men m true p =
+    mapped-men m (recolouredSlot (p .first)) (recolouredSlot (p .second)) ∙ recoloured-men (p .first) (p .second)
+changed-men m false p = mapped-men m (p .first) (p .second)
+
+crossed-men : (e : Bool) (p : Position)
+    → badMenOf (inSlots e p .first) (inSlots e p .second) ≡ badMenOf (p .first) (p .second)
+unfolding inSlots
+crossed-men e p = go e (p .first) (p .second)
+  where
+    swap : (a b : Bool) → (a || b) ≡ (b || a)
+    swap true true = refl
+    swap true false = refl
+    swap false true = refl
+    swap false false = refl
+
+    go : (e : Bool) (f s : Slot) → badMenOf (firstSlot e f s) (secondSlot e f s) ≡ badMenOf f s
+    go false f s = refl
+    go true Absent s = refl
+    go true (Present a) Absent = refl
+    go true (Present a) (Present c) = swap (leb 4 (c .kind)) (leb 4 (a .kind))
+
+turned-men : (s : Change) (p : Position)
+    → badMenOf (turnedPosition s p .first) (turnedPosition s p .second) ≡ badMenOf (p .first) (p .second)
+unfolding turnedPosition
+turned-men s p =
+    changed-men (s .symmetry) (s .colours && exchangeable (boardOf p .men)) (inSlots (s .order) p)
+    ∙ crossed-men (s .order) p
+
+-- ---- 2 to 6, by the board
+
+abbrev foreign : Board → Bool
+foreign b = leb 2 (b .side) || not (all (λ m. ltb (m .colour) 2) (b .men))
+
+abbrev off : Board → Bool
+off b = not (all (λ m. ltb (m .square) 64) (pieces b))
+
+abbrev shared : Board → Bool
+shared b = not (apart (pieces b))
+
+abbrev checked : Board → Bool
+checked b = inCheck b (1 - b .side)
+
+abbrev chain : Bool → Bool → Bool → Bool → Bool → ℕ
+chain a b c d e = cond a 1 (cond b 2 (cond c 3 (cond d 4 (cond e 5 0))))
+
+abbrev orSix : Bool → ℕ → ℕ
+orSix x n = cond (eqb n 0) (cond x 6 0) n
+
+standing-by : (p : Position) → standingWith p
+    ≡ orSix (checked (boardOf p)) (chain (badMenOf (p .first) (p .second)) (foreign (boardOf p)) (off (boardOf p))
+    (shared (boardOf p)) (touching (boardOf p)))
+unfolding standingWith placingWith badSide badSquare sharedSquare boardOf
+standing-by p = refl
+
+module _ (s : Change) (b : Board) where
+  abbrev x : Bool
+  x = s .colours && exchangeable (b .men)
+
+  abbrev r : Board
+  r = reordered (s .order) b
+
+  foreign-turned : foreign (changedBy s b) ≡ foreign b
+  unfolding changedBy changed
+  foreign-turned =
+      ap₂ (λ (u v : Bool). u || not v)
+      (leb-not 2 (swapped x (b .side)) ∙ ap not (ltb-swapped x (b .side)) ∙ sym (leb-not 2 (b .side)))
+      (all-map (s .symmetry) x (λ a. ltb (a .colour) 2) (λ a. ltb (a .colour) 2) (λ a. ltb-swapped x (a .colour))
+      (r .men) ∙ all-crossed (λ a. ltb (a .colour) 2) (s .order) (b .men))
+
+  off-turned : off (changedBy s b) ≡ off b
+  unfolding changedBy all
+  off-turned =
+      ap not
+      (all-pieces (s .symmetry) x r (λ a. ltb (a .square) 64) (λ a. ltb (a .square) 64)
+      (λ a. ltb-mapped (s .symmetry) (a .square))
+      ∙ ap (λ (z : Bool). ltb (b .white) 64 && (ltb (b .black) 64 && z))
+      (all-crossed (λ a. ltb (a .square) 64) (s .order) (b .men)))
+
+  shared-turned : shared (changedBy s b) ≡ shared b
+  unfolding changedBy
+  shared-turned = ap not (apart-changed (s .symmetry) x r ∙ apart-crossed (s .order) b)
+
+  touching-turned : touching (changedBy s b) ≡ touching b
+  unfolding changedBy
+  touching-turned = touching-changed (s .symmetry) x r ∙ (unfold touching in refl)
+
+  checked-turned : b .side < 2 → checked (changedBy s b) ≡ checked b
+  unfolding changedBy changed
+  checked-turned h =
+      ap (inCheck (changed (s .symmetry) x r)) (across x (b .side) h)
+      ∙ check-changed (s .symmetry) x r (1 - b .side) (omega arith)
+      ∙ check-reordered (s .order) b (1 - b .side)
+
+-- the side is one of the two where 1 to 5 do not refuse
+side-of : (a u c d e : Bool) (n : ℕ) → eqb (chain a (leb 2 n || u) c d e) 0 ≡ true → n < 2
+side-of a u c d e n q = go a (leb 2 n) refl q
+  where
+    go : (a v : Bool) → leb 2 n ≡ v → eqb (chain a (v || u) c d e) 0 ≡ true → n < 2
+    go true v h q = absurd (refuted (sym q) tt)
+    go false true h q = absurd (refuted (sym q) tt)
+    go false false h q = leb-false 2 n h
+
+pub standing-turned : (s : Change) (p : Position) → standingWith (turnedPosition s p) ≡ standingWith p
+standing-turned s p =
+    standing-by (turnedPosition s p)
+    ∙ ap₂ (λ (z : Bool) (c : Board). orSix (checked c) (chain z (foreign c) (off c) (shared c) (touching c)))
+    (turned-men s p) (turned-board s p)
+    ∙ rw (foreign-turned s b, off-turned s b, shared-turned s b, touching-turned s b) six ∙ sym (standing-by p)
+  where
+    b : Board
+    b = boardOf p
+
+    n : ℕ
+    n = chain (badMenOf (p .first) (p .second)) (foreign b) (off b) (shared b) (touching b)
+
+    six : orSix (checked (changedBy s b)) n ≡ orSix (checked b) n
+    six = go (eqb n 0) refl
+      where
+        go : (z : Bool) → eqb n 0 ≡ z
+            → cond z (cond (checked (changedBy s b)) 6 0) n ≡ cond z (cond (checked b) 6 0) n
+        go true q =
+            ap (λ (u : Bool). cond u 6 0)
+            (checked-turned s b
+            (side-of (badMenOf (p .first) (p .second)) (not (all (λ m. ltb (m .colour) 2) (b .men))) (off b) (shared b)
+            (touching b) (b .side) q))
+        go false q = refl

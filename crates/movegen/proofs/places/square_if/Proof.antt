@@ -1,0 +1,13 @@
+-- `movegen::square_if` meets its contract.
+use borrow.Author.Tests.{eq-eqb, ne-eqb}
+use Rattle.movegen.proofs.places.square_if.Statement.{statement}
+use Rattle.movegen.proofs.places.square_if.Tie as tie
+
+returns : tie.Need-returns
+returns c = simp (eq-eqb _ _ (c .if1 .taken))
+
+returns-2 : tie.Need-returns-2
+returns-2 c = simp (ne-eqb _ _ (c .if1 .left))
+
+pub square-if-spec : {M : Type 1} → statement M
+square-if-spec = tie.close (tie.spec returns returns-2)

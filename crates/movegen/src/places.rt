@@ -1,0 +1,100 @@
+// An ending's men on a place, with no position made: what stands where, who attacks, and the place after a move.
+use super::making::carried;
+use board::attacks;
+use board::one;
+use board::targets;
+use position::Men;
+use position::Place;
+use position::other;
+ghost use mathlib.Core.Path.{_≡_};
+ghost use mathlib.Core.Bool.{cond, false};
+ghost use Prim.Native.Nat.{ℕ, _<_};
+ghost use lib.Dec.{eqb};
+ghost use Rattle.board.specs.Sets.{has, setOf};
+ghost use Rattle.rules.specs.Rules.{occupied, stands, touching, inCheck};
+ghost use Rattle.position.specs.Posed.{boardIn, Complete};
+ghost use Rattle.movegen.specs.Places.{menStrike, squareAfter, placeAfter};
+
+// The square of a side's king.
+pub fn king_at(q: Place, side: u8) -> u8
+    ensures { λ r. ⌜ r ≡ cond (eqb side 0) (q .white) (q .black) ⌝ }
+{
+    if side == 0 { q.white } else { q.black }
+}
+
+// The square of a man, if he is of this side; off the board otherwise.
+fn square_if(owner: u8, side: u8, square: u8) -> u8
+    ensures { λ r. ⌜ r ≡ cond (eqb owner side) square 64 ⌝ }
+{
+    if owner == side { square } else { 64 }
+}
+
+// The occupied squares.
+pub fn occupied_at(q: Place) -> u64
+    ensures { λ r. ⌜ ((m : Men) → r ≡ setOf (occupied (boardIn m q))) ⌝ }
+{
+    one(q.white) | (one(q.black) | (one(q.first) | one(q.second)))
+}
+
+// The squares of a side's pieces.
+pub fn own_at(m: Men, q: Place, side: u8) -> u64
+    ensures { λ r. ⌜ (side < 2 → r ≡ setOf (stands (boardIn m q) side)) ⌝ }
+{
+    one(king_at(q, side))
+        | (one(square_if(0, side, q.first)) | one(square_if(m.colour, side, q.second)))
+}
+
+// Whether a man of this colour attacks t.
+pub fn men_strike(m: Men, q: Place, occ: u64, colour: u8, t: u8) -> bool
+    ensures { λ r. ⌜ r ≡ menStrike m q (has occ) colour t ⌝ }
+{
+    if attacks(occ, m.first, square_if(0, colour, q.first), t) {
+        return true;
+    }
+    attacks(occ, m.second, square_if(m.colour, colour, q.second), t)
+}
+
+// The squares that the men of this colour attack.
+pub fn strike_set(m: Men, q: Place, occ: u64, colour: u8) -> u64
+    ensures { λ r. ⌜ ((t : ℕ) → t < 64 → has r t ≡ menStrike m q (has occ) colour t) ⌝ }
+{
+    targets(occ, m.first, square_if(0, colour, q.first))
+        | targets(occ, m.second, square_if(m.colour, colour, q.second))
+}
+
+// Whether this side is in check, where the kings do not touch: a king gives none.
+pub fn men_check(m: Men, q: Place, side: u8) -> bool
+    ensures { λ r. ⌜ (touching (boardIn m q) ≡ false → r ≡ inCheck (boardIn m q) side) ⌝ }
+{
+    men_strike(m, q, occupied_at(q), other(side), king_at(q, side))
+}
+
+// Whether this side is in check.
+pub fn checked(m: Men, q: Place, side: u8) -> bool
+    ensures { λ r. ⌜ (Complete m q → r ≡ inCheck (boardIn m q) side) ⌝ }
+{
+    men_check(m, q, side)
+}
+
+// Where a man on s stands after a move: off the board if he is taken.
+pub fn square_after(from: u8, to: u8, s: u8) -> u8
+    ensures { λ r. ⌜ r ≡ squareAfter from to s ⌝ }
+{
+    if s == to {
+        return 64;
+    }
+    carried(from, to, s)
+}
+
+// The place after a move.
+pub fn place_after(q: Place, from: u8, to: u8) -> Place
+    ensures { λ r. ⌜ r ≡ placeAfter q from to ⌝ }
+{
+    Place {
+        side: other(q.side),
+        white: carried(from, to, q.white),
+        black: carried(from, to, q.black),
+        first: square_after(from, to, q.first),
+        second: square_after(from, to, q.second),
+    }
+}

@@ -1,0 +1,26 @@
+-- `position::placing_with` meets its contract: each return by the test that led there.
+use mathlib.Core.Path.{sym, _∙_}
+use Rattle.position.specs.Refusals.{placingWith}
+use borrow.Author.Needs.{needs}
+use Rattle.position.proofs.refusals.placing_with.Statement.{statement}
+use Rattle.position.proofs.refusals.placing_with.Tie as tie
+
+bad-men-of-requires : tie.Need-bad-men-of-requires
+bad-men-of-requires c κs = search needs
+
+returns : tie.Need-returns
+unfolding placingWith
+returns c = sym (rw (sym (c .before .bad-men-of .ensures) ∙ c .if1 .taken))
+
+later-refusal-requires : tie.Need-later-refusal-requires
+later-refusal-requires c κs = search needs
+
+returns-2 : tie.Need-returns-2
+unfolding placingWith
+returns-2 c =
+    c .later-refusal .ensures
+    ∙ sym (rw (sym (c .before .before .bad-men-of .ensures) ∙ c .before .if1 .left))
+
+pub placing-with-spec : {M : Type 1} → statement M
+placing-with-spec =
+    tie.close (tie.spec bad-men-of-requires returns later-refusal-requires returns-2)

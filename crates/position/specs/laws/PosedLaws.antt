@@ -1,0 +1,92 @@
+-- An ending's men on a place that 1 to 5 do not refuse, byte by byte.
+use mathlib.Core.Path.{_≡_, refl, _∙_}
+use mathlib.Core.Bool.{Bool, true, false, cond, _||_}
+use Prim.Native.Nat.{ℕ, _<_}
+use native.Mathlib.Omega.{arith}
+use lib.Dec.{leb, eqb}
+use borrow.Author.Tests.{leb-true, leb-false, eqb-false}
+use Rattle.finite.specs.Truth.{refuted}
+use Rattle.finite.specs.Members.{all}
+use Rattle.rules.specs.Rules.{pieceOf}
+use Rattle.numbering.specs.laws.ChangeLaws.{coloured}
+use Rattle.position.specs.declared.Slot.{Slot}
+use Rattle.position.specs.declared.Slot.the-variants.{Absent, Present}
+use Rattle.position.specs.declared.Men.{Men}
+use Rattle.position.specs.declared.Place.{Place}
+use Rattle.position.specs.Keyed.{boardOf}
+use Rattle.position.specs.Refusals.{badMenOf, badSide, badSquare, sharedSquare, kingsTouch, placingWith, slotOff, slotOn, slotsShare}
+use Rattle.position.specs.Spread.{Spread}
+use Rattle.position.specs.Posed.{slotAt, posed, Complete}
+use Rattle.position.specs.laws.SlotLaws.{off-by-slots, shared-by-slots}
+use Rattle.position.specs.laws.PlacedLaws.{five, either}
+
+neither : (a b : Bool) → (a || b) ≡ false → (a ≡ false) × (b ≡ false)
+neither true b e = absurd (refuted e tt)
+neither false b e = (refl, e)
+
+-- the first slot holds a man
+there : (kind colour square : ℕ) (s : Slot) → badMenOf (slotAt kind colour square) s ≡ false → square < 64
+there kind colour square s e = go (leb 64 square) refl e
+  where
+    go : (x : Bool) → leb 64 square ≡ x → badMenOf (cond x Absent (Present (pieceOf kind colour square))) s ≡ false
+        → square < 64
+    go true h e = absurd (refuted e tt)
+    go false h e = leb-false 64 square h
+
+-- nobody in the slot stands on this square
+elsewhere : (at kind colour square : ℕ) → at < 64 → slotOn at (slotAt kind colour square) ≡ false → at ≡ square → ⊥
+elsewhere at kind colour square l e = go (leb 64 square) refl e
+  where
+    go : (x : Bool) → leb 64 square ≡ x → slotOn at (cond x Absent (Present (pieceOf kind colour square))) ≡ false
+        → at ≡ square → ⊥
+    go true h e = λ p. absurd (omega (arith, leb-true 64 square h))
+    go false h e = eqb-false at square e
+
+-- nor does the man of another slot
+unshared : (k c s : ℕ) (l : Slot) → s < 64 → slotsShare (slotAt k c s) l ≡ false → slotOn s l ≡ false
+unshared k c s l h e = go (leb 64 s) refl e
+  where
+    go : (x : Bool) → leb 64 s ≡ x → slotsShare (cond x Absent (Present (pieceOf k c s))) l ≡ false
+        → slotOn s l ≡ false
+    go true i e = absurd (omega (arith, leb-true 64 s i))
+    go false i e = e
+
+pub placed-spread : (m : Men) (q : Place) → placingWith (posed m q) ≡ 0 → Spread m q
+unfolding placingWith badSide posed boardOf
+placed-spread m q z =
+    let p = posed m q in
+    let f = slotAt (m .first) 0 (q .first) in
+    let s = slotAt (m .second) (m .colour) (q .second) in
+    let t = five (badMenOf f s) (badSide p) (badSquare p) (sharedSquare p) (kingsTouch p) z in
+    let off = off-by-slots p ∙ t .2 in
+    let o = neither (leb 64 (q .white)) (leb 64 (q .black) || (slotOff f || slotOff s)) off in
+    let wl = leb-false 64 (q .white) (o .0) in
+    let bl = leb-false 64 (q .black) (neither (leb 64 (q .black)) (slotOff f || slotOff s) (o .1) .0) in
+    let fl = there (m .first) 0 (q .first) s (t .0) in
+    let wf = slotOn (q .white) f in
+    let ws = slotOn (q .white) s in
+    let bf = slotOn (q .black) f in
+    let bs = slotOn (q .black) s in
+    let shared = shared-by-slots p ∙ t .3 in
+    let x = neither (eqb (q .white) (q .black)) ((wf || ws) || ((bf || bs) || slotsShare f s)) shared in
+    let y = neither (wf || ws) ((bf || bs) || slotsShare f s) (x .1) in
+    let v = neither wf ws (y .0) in
+    let n = neither (bf || bs) (slotsShare f s) (y .1) in
+    let u = neither bf bs (n .0) in
+    record {
+      side = leb-false 2 (q .side) (either (leb 2 (q .side)) (all coloured (boardOf p .men)) (t .1) .0);
+      white = wl;
+      black = bl;
+      first = fl;
+      white-black = eqb-false (q .white) (q .black) (x .0);
+      white-first = elsewhere (q .white) (m .first) 0 (q .first) wl (v .0);
+      white-second = elsewhere (q .white) (m .second) (m .colour) (q .second) wl (v .1);
+      black-first = elsewhere (q .black) (m .first) 0 (q .first) bl (u .0);
+      black-second = elsewhere (q .black) (m .second) (m .colour) (q .second) bl (u .1);
+      first-second = elsewhere (q .first) (m .second) (m .colour) (q .second) fl
+          (unshared (m .first) 0 (q .first) s fl (n .1));
+      kings = t .4;
+    }
+
+pub complete-spread : {m : Men} {q : Place} → Complete m q → Spread m q
+complete-spread {m} {q} c = placed-spread m q (c .placed)

@@ -1,0 +1,159 @@
+-- The verdict on a byte of a complete place, and whether a depth is required there.
+use mathlib.Core.Path.{_≡_, refl, sym, ap, subst⁻¹, _∙_}
+use mathlib.Core.Bool.{Bool, true, false, cond, not}
+use mathlib.Core.List.{List}
+use Prim.Native.Nat.{ℕ, _+_, _≤_, _<_}
+use lib.Dec.{eqb}
+use borrow.Author.Tests.{eq-eqb, ne-eqb}
+use Rattle.finite.specs.Members.{first}
+use Rattle.theory.specs.Required.{requiredAt}
+use Rattle.theory.specs.laws.Judge as judging
+use Rattle.board.specs.Sets.{setOf}
+use Rattle.rules.specs.declared.Move.{Move}
+use Rattle.rules.specs.Rules.{Board, empty, king, inCheck, canMove, taking, moveOf, moveOn, moves, mated}
+use Rattle.rules.specs.Chess.{chess}
+use Rattle.position.specs.declared.Men.{Men}
+use Rattle.position.specs.declared.Place.{Place}
+use Rattle.position.specs.Keyed.{boardOf}
+use Rattle.position.specs.Posed.{posed, boardIn, Complete}
+use Rattle.answers.specs.declared.BestMove.{BestMove}
+use Rattle.movegen.specs.declared.Reach.{Reach}
+use Rattle.successors.specs.declared.Judged.{Judged}
+use Rattle.successors.specs.declared.Verdict.{Verdict}
+use Rattle.successors.specs.declared.Seen.{Seen}
+use Rattle.successors.specs.Successors.{bytesIn, kingAt, Reaches, judgedFrom, seenIn, verdictOf, noTargets, overOf}
+use Rattle.successors.specs.laws.PlaceLaws.{whole, manned, starts}
+use Rattle.successors.specs.laws.ChoiceLaws.{Shown, Least, least-seen, seen-shown, seen-first, none-seen}
+use Rattle.successors.specs.laws.VerdictLaws.{stuck, Sets, found-refuting, found-sets, verdict-refuted, verdict-met, verdict-unmet, depth-refuted, depth-told}
+
+-- ---- as code asks
+
+pub end-check : (x : Bool) → x ≡ true → _≡_ {A = ℕ} 2 (cond x 2 1)
+end-check x e = sym (rw e)
+
+pub end-quiet : (x : Bool) → x ≡ false → _≡_ {A = ℕ} 1 (cond x 2 1)
+end-quiet x e = sym (rw e)
+
+module _ (c : ℕ) (r : Reach) (b : Board) where
+  pub over-more : noTargets r ≡ false → Verdict.Wrong ≡ overOf c r b
+  unfolding overOf
+  over-more e = sym (rw e)
+
+  module _ (s e : ℕ) (h : b .side ≡ s) (z : noTargets r ≡ true) (k : e ≡ cond (inCheck b s) 2 1) where
+    by-end : overOf c r b ≡ cond (eqb c e) (Verdict.Right BestMove.NoMove) Verdict.Wrong
+    unfolding overOf
+    by-end =
+        ap (λ (x : Bool). cond x
+        (cond (eqb c (cond (inCheck b (b .side)) 2 1)) (Verdict.Right BestMove.NoMove) Verdict.Wrong) Verdict.Wrong) z
+        ∙ ap (λ (n : ℕ). cond (eqb c n) (Verdict.Right BestMove.NoMove) Verdict.Wrong)
+        (ap (λ (t : ℕ). cond (inCheck b t) 2 1) h ∙ sym k)
+
+    pub over-end : c ≡ e → Verdict.Right BestMove.NoMove ≡ overOf c r b
+    over-end q = sym (by-end ∙ rw (eq-eqb c e q))
+
+    pub over-open : (c ≡ e → ⊥) → Verdict.Wrong ≡ overOf c r b
+    over-open n = sym (by-end ∙ rw (ne-eqb c e n))
+
+-- ---- of a complete place
+
+module _ (m : Men) (q : Place) where
+  pub place-side : boardIn m q .side ≡ q .side
+  unfolding boardOf posed
+  place-side = refl
+
+  pub to-reaches : (r : Reach) → (r .king ≡ setOf (canMove (boardIn m q) (king (boardIn m q) (q .side))))
+      × (r .first ≡ setOf (canMove (boardIn m q) (q .first))) × (r .second ≡ setOf (canMove (boardIn m q) (q .second)))
+      → Reaches m q r
+  unfolding boardOf posed
+  to-reaches r t = record { king = t .0; first = t .1; second = t .2 }
+
+  pub place-quiet : inCheck (boardIn m q) (q .side) ≡ false → false ≡ mated (boardIn m q)
+  unfolding mated boardOf posed
+  place-quiet e = sym (rw e)
+
+  module _ (w : Complete m q) where
+    pub has-man : empty (boardIn m q .men) ≡ false
+    has-man = manned m q (whole m q w .first)
+
+    pub place-stuck : (r : Reach) → Reaches m q r → noTargets r ≡ empty (moves (boardIn m q))
+    place-stuck r t =
+        stuck (λ b. 0) (boardIn m q) (kingAt q) (q .first) (q .second) (starts m q) has-man r (t .king) (t .first)
+        (t .second)
+
+    pub place-mated : (r : Reach) (x : Bool) → Reaches m q r → x ≡ noTargets r
+        → inCheck (boardIn m q) (q .side) ≡ true → x ≡ mated (boardIn m q)
+    unfolding mated boardOf posed
+    place-mated r x t e h = e ∙ place-stuck r t ∙ sym (rw h)
+
+    -- the verdict on a byte, by what is judged
+    module _ (first second table : List ℕ) (c : ℕ) where
+      abbrev bytes : Board → ℕ
+      bytes = bytesIn m first second table
+
+      abbrev judged : Judged
+      judged = judgedFrom bytes c (boardIn m q) (kingAt q) (q .first) (q .second)
+
+      pub place-refuted : (c ≡ 0 → ⊥) → judged ≡ Judged.Refuted → Verdict.Wrong ≡ verdictOf bytes c (boardIn m q)
+      place-refuted n e =
+          verdict-refuted bytes (boardIn m q) c has-man n
+          (found-refuting bytes (boardIn m q) (kingAt q) (q .first) (q .second) (starts m q) c e)
+
+      module _ (n : c ≡ 0 → ⊥) (sets : Reach) (e : judged ≡ Judged.Found sets) (s : Seen)
+          (i : s ≡ seenIn (kingAt q) (q .first) (q .second) sets) where
+        f : Sets bytes (boardIn m q) (kingAt q) (q .first) (q .second) (starts m q) c sets
+        f = found-sets bytes (boardIn m q) (kingAt q) (q .first) (q .second) (starts m q) c sets e
+
+        l : Least bytes c (boardIn m q) (kingAt q) (q .first) (q .second) sets (f .of-king) (f .of-first)
+            (f .of-second) s
+        l = subst⁻¹
+            (Least bytes c (boardIn m q) (kingAt q) (q .first) (q .second) sets (f .of-king) (f .of-first)
+            (f .of-second))
+            i
+            (least-seen bytes c (boardIn m q) (kingAt q) (q .first) (q .second) sets (f .of-king) (f .of-first)
+            (f .of-second))
+
+        shows : s .from < 64 → Shown bytes c (boardIn m q) (s .from) (s .to)
+        shows h = seen-shown bytes c (boardIn m q) (kingAt q) (q .first) (q .second) sets (f .of-king) (f .of-first)
+            (f .of-second) s l h
+
+        pub seen-on : s .from < 64 → s .to < 64
+        seen-on h = shows h .on .1
+
+        pub place-met : s .from < 64 → (takes : Bool) (v : Move) → takes ≡ taking (boardIn m q) (s .to)
+            → v ≡ moveOf (s .from) (s .to) takes
+            → Verdict.Right (BestMove.Play v) ≡ verdictOf bytes c (boardIn m q)
+        place-met h takes v t u =
+            ap (λ (x : Move). Verdict.Right (BestMove.Play x)) (u ∙ ap (moveOf (s .from) (s .to)) t)
+            ∙ verdict-met bytes (boardIn m q) c has-man n (f .clear)
+            (s .from, s .to, shows h .can, shows h .suiting) (moveOn (boardIn m q) (s .from) (s .to))
+            (seen-first bytes c (boardIn m q) (kingAt q) (q .first) (q .second) sets (f .of-king) (f .of-first)
+            (f .of-second) (starts m q) s l h has-man)
+
+        pub place-unmet : 64 ≤ s .from → (r : Reach) → Reaches m q r
+            → overOf c r (boardIn m q) ≡ verdictOf bytes c (boardIn m q)
+        place-unmet h r t =
+            verdict-unmet bytes (boardIn m q) c has-man n r (place-stuck r t)
+            (λ v. none-seen bytes c (boardIn m q) (kingAt q) (q .first) (q .second) sets (f .of-king) (f .of-first)
+            (f .of-second) (starts m q) s l h (v .0) (v .1) (v .2) (v .3))
+
+    -- whether depth k is required
+    module _ (first second table : List ℕ) (k : ℕ) (n : k ≡ 0 → ⊥) where
+      pub place-spoilt :
+          judgedFrom (bytesIn m first second table) (2 + k) (boardIn m q) (kingAt q) (q .first) (q .second)
+          ≡ Judged.Refuted
+          → false ≡ eqb (requiredAt chess (bytesIn m first second table) (boardIn m q)) (2 + k)
+      place-spoilt e =
+          depth-refuted (bytesIn m first second table) (boardIn m q) has-man k n
+          (found-refuting (bytesIn m first second table) (boardIn m q) (kingAt q) (q .first) (q .second) (starts m q)
+          (2 + k) e)
+
+      pub place-depth : (sets : Reach)
+          → judgedFrom (bytesIn m first second table) (2 + k) (boardIn m q) (kingAt q) (q .first) (q .second)
+          ≡ Judged.Found sets
+          → not (noTargets sets) ≡ eqb (requiredAt chess (bytesIn m first second table) (boardIn m q)) (2 + k)
+      place-depth sets e =
+          depth-told (bytesIn m first second table) (boardIn m q) (kingAt q) (q .first) (q .second) (starts m q) has-man
+          k n sets
+          (found-sets (bytesIn m first second table) (boardIn m q) (kingAt q) (q .first) (q .second) (starts m q)
+          (2 + k)
+          sets e)
