@@ -4,11 +4,12 @@ use mathlib.Core.Bool.{cond}
 use mathlib.Core.List.{List}
 use Prim.Native.Nat.{ℕ, _+_, _<_, _≤_}
 use lib.Dec.{eqb}
-use lib.ListN.{getD}
+use lib.ListN.{length, getD}
 use Rattle.finite.specs.Members.{_∈_}
 use Rattle.position.specs.declared.Men.{Men}
+use Rattle.position.specs.Posed.{materialFor}
 use Rattle.numbering.specs.declared.Material.{Material}
-use Rattle.four_men.specs.Lending.{Lent, borrowed}
+use Rattle.four_men.specs.Lending.{Lent, lent, borrowed}
 
 -- the byte stands at no number from `from` on, below `to`
 pub record Absent (t : List ℕ) (byte from to : ℕ) : Type 0 where
@@ -20,6 +21,10 @@ pub record Quiet (m : Material) (l : Lent) (k : ℕ) (t : List ℕ) (from to low
   pub later : 0 < k
   pub absent : Absent t (1 + k) from to
   pub lent : (u : List ℕ) → u ∈ borrowed m l → Absent u (1 + k) low high
+
+-- no lent table holds depth k - 1
+abbrev pub NoneLent : Men → List ℕ → List ℕ → ℕ → Type 0
+NoneLent m first second k = (u : List ℕ) → u ∈ borrowed (materialFor m) (lent first second) → Absent u (1 + k) 0 (length u)
 
 -- Where a man left alone has his number in his table: with men of one side he is White's, and the other side is to
 -- move; of rivals anywhere.

@@ -22,7 +22,7 @@ ghost use Rattle.four_men.specs.Reading.{holdsDepth};
 ghost use Rattle.filling.specs.Admitted.{over, Admitted};
 ghost use Rattle.filling.specs.FillPromise.{Fills, FillPromiseWith};
 
-fn fill_men(m: Men, first: &[u8], second: &[u8], table: &mut [u8]) -> Filled
+fn fill_men(back: bool, m: Men, first: &[u8], second: &[u8], table: &mut [u8]) -> Filled
     requires { ⌜ Admitted m (now first) (now second) (now table) ⌝ }
     ensures { λ r. ⌜ Fills (filledUntil chess (over m (now (first .entry)) (now (second .entry))) (holdsDepth (borrowed (materialFor m) (lent (now (first .entry)) (now (second .entry))))) (now (table .entry))) r (now (table .exit)) ⌝ }
 {
@@ -31,7 +31,7 @@ fn fill_men(m: Men, first: &[u8], second: &[u8], table: &mut [u8]) -> Filled
     let mut k: u8 = 0;
     let mut last: u8 = 0;
     loop {
-        let step = step_at(m, k, last, deepest, first, second, &mut *table);
+        let step = step_at(back, m, k, last, deepest, first, second, &mut *table);
         let said = step.said;
         let progress = step.progress;
         match said {
@@ -44,10 +44,8 @@ fn fill_men(m: Men, first: &[u8], second: &[u8], table: &mut [u8]) -> Filled
     }
 }
 
-// Writes the true table and gives the greatest depth, or says that no position is decided. Captures are read in the
-// lent tables, of the first man's kind and of the second's. Refusals 1, 7 and 17 leave the table as it was, 10 all
-// zero.
-pub fn fill_with(m: Material, first: &[u8], second: &[u8], table: &mut [u8]) -> Filled
+// The fill by passes over all numbers, or back from those just settled.
+fn fill_by(back: bool, m: Material, first: &[u8], second: &[u8], table: &mut [u8]) -> Filled
     ensures { λ r. ⌜ FillPromiseWith m (lent (now (first .entry)) (now (second .entry))) (now (table .entry)) r (now (table .exit)) ⌝ }
 {
     if !is_known(m) {
@@ -59,7 +57,22 @@ pub fn fill_with(m: Material, first: &[u8], second: &[u8], table: &mut [u8]) -> 
     if !lent_accepted(m, first, second) {
         return Filled::Refused(NOT_ACCEPTED);
     }
-    fill_men(men_of(m), first, second, &mut *table)
+    fill_men(back, men_of(m), first, second, &mut *table)
+}
+
+// Writes the true table and gives the greatest depth, or says that no position is decided. Captures are read in the lent tables, of the first man's kind
+// and of the second's. Refusals 1, 7 and 17 leave the table as it was, 10 all zero.
+pub fn fill_with(m: Material, first: &[u8], second: &[u8], table: &mut [u8]) -> Filled
+    ensures { λ r. ⌜ FillPromiseWith m (lent (now (first .entry)) (now (second .entry))) (now (table .entry)) r (now (table .exit)) ⌝ }
+{
+    fill_by(false, m, first, second, &mut *table)
+}
+
+// The second fill, quicker: it works back from the positions just settled. Table, greatest depth and refusals are the first fill's.
+pub fn fill_back(m: Material, first: &[u8], second: &[u8], table: &mut [u8]) -> Filled
+    ensures { λ r. ⌜ FillPromiseWith m (lent (now (first .entry)) (now (second .entry))) (now (table .entry)) r (now (table .exit)) ⌝ }
+{
+    fill_by(true, m, first, second, &mut *table)
 }
 
 // With one man, who borrows nothing. Refusals 1 and 7 leave the table as it was, 10 all zero.

@@ -12,7 +12,7 @@ ghost use Rattle.filling.specs.Admitted.{Admitted};
 ghost use Rattle.filling.specs.Quiet.{Absent, Quiet, lowOf, highOf};
 
 // Whether the byte stands from `from` on, below `to`.
-fn stands(byte: u8, from: usize, to: usize, table: &[u8]) -> bool
+pub fn stands(byte: u8, from: usize, to: usize, table: &[u8]) -> bool
     requires { ⌜ to ≤ length (now table) ⌝ }
     ensures { λ r. ⌜ (r ≡ false → Absent (now (table .entry)) byte from to) ⌝ }
 {

@@ -1,5 +1,6 @@
 // Filling a table by passes over the numbers that are not settled yet, at once or in steps; one man or two, captures
 // read in lent tables.
+mod back;
 mod bytes;
 mod deepest;
 mod fill_table;
@@ -10,6 +11,7 @@ mod taking;
 
 pub use bytes::clear;
 pub use fill_table::fill;
+pub use fill_table::fill_back;
 pub use fill_table::fill_with;
 pub use steps::Step;
 pub use steps::Stepped;

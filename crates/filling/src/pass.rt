@@ -37,7 +37,15 @@ pub fn settles(m: Men, k: u8, n: usize, first: &[u8], second: &[u8], table: &[u8
 }
 
 // Settles the number if pass k does, which is asked only where it may; 1 if it did, and else 0.
-fn settle(may: bool, m: Men, k: u8, n: usize, first: &[u8], second: &[u8], table: &mut [u8]) -> u32
+pub fn settle(
+    may: bool,
+    m: Men,
+    k: u8,
+    n: usize,
+    first: &[u8],
+    second: &[u8],
+    table: &mut [u8],
+) -> u32
     requires { ⌜ (n < length (now table)) × (k < 254) × Admitted m (now first) (now second) (now table) × (may ≡ false → settlesOf chess (over m (now first) (now second)) k (now table) n ≡ false) ⌝ }
     ensures { λ r. ⌜ Settle chess (over m (now (first .entry)) (now (second .entry))) k (now (table .entry)) n r (now (table .exit)) ⌝ }
 {

@@ -1,6 +1,6 @@
 // One step of the fill: the pass for a depth, and what it hands back.
+use super::back::pass_by;
 use super::bytes::clear;
-use super::pass::pass;
 use super::pass::some_settles;
 use answers::Filled;
 use position::Men;
@@ -73,6 +73,7 @@ pub fn progress_at(stage: u8, k: u8, last: u8) -> Progress
 
 // The step for a depth that a byte holds.
 fn step_below(
+    back: bool,
     m: Men,
     k: u8,
     last: u8,
@@ -85,7 +86,7 @@ fn step_below(
     ensures { λ r. ⌜ Hands (stepOver (over m (now (first .entry)) (now (second .entry))) deepest k last (now (table .entry))) r (now (table .exit)) ⌝ }
 {
     let before = last_before(k, last, deepest);
-    let settled = pass(m, k, first, second, &mut *table);
+    let settled = pass_by(back, m, k, first, second, &mut *table);
     if settled != 0 {
         let on = progress_at(GOING, k + 1, k + 1);
         return Step {
@@ -130,8 +131,9 @@ fn last_step(m: Men, last: u8, deepest: u8, first: &[u8], second: &[u8], table: 
     }
 }
 
-// The step for depth k, on any bytes; `deepest` is the greatest byte lent.
+// The step for depth k, on any bytes, working back or not; `deepest` is the greatest byte lent.
 pub fn step_at(
+    back: bool,
     m: Men,
     k: u8,
     last: u8,
@@ -144,7 +146,7 @@ pub fn step_at(
     ensures { λ r. ⌜ Hands (stepOver (over m (now (first .entry)) (now (second .entry))) deepest k last (now (table .entry))) r (now (table .exit)) ⌝ }
 {
     if k < DEPTHS {
-        return step_below(m, k, last, deepest, first, second, &mut *table);
+        return step_below(back, m, k, last, deepest, first, second, &mut *table);
     }
     last_step(m, last, deepest, first, second, &mut *table)
 }

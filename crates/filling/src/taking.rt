@@ -76,7 +76,16 @@ fn step_from(m: Men, progress: Progress, first: &[u8], second: &[u8], table: &mu
     if stage == GOING {
         let k = next_depth(progress.next);
         let deepest = deepest_lent(m, first, second);
-        return step_at(m, k, progress.last, deepest, first, second, &mut *table);
+        return step_at(
+            false,
+            m,
+            k,
+            progress.last,
+            deepest,
+            first,
+            second,
+            &mut *table,
+        );
     }
     if stage == DONE {
         let end = ended(progress.last);

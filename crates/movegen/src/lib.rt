@@ -7,6 +7,7 @@ mod targets;
 pub use making::make;
 pub use places::checked;
 pub use places::king_at;
+pub use places::occupied_at;
 pub use places::place_after;
 pub use places::square_after;
 pub use reaching::reach_of;

@@ -41,16 +41,21 @@ use Rattle.filling.specs.laws.Code.{long}
 use Rattle.filling.specs.laws.Halves.{side-below, side-above, below-side, above-side, number-side-with, standard-next, white-left}
 
 -- the men of one side: what is left of them is White's
-abbrev OneSide : Material → Type 0
+abbrev pub OneSide : Material → Type 0
 OneSide (Material.One kind) = Unit {0}
 OneSide (Material.Two j k r) = r ≡ false
+
+-- depth k - 1 stands in a lent table, at a number that a successor may have
+abbrev pub Lower : Material → Lent → ℕ → ℕ → Type 0
+Lower m l k side =
+    (u : List ℕ) × (u ∈ borrowed m l) × (i : ℕ) × (i < tableSize) × (OneSide m → i / 64 / 462 ≡ 1 - side)
+    × (getD u i 0 ≡ 1 + k)
 
 module _ (m : Material) (l : Lent) (k : ℕ) (t : List ℕ) (side : ℕ) where
   -- where depth k - 1 stands, for a board with this side to move
   data Cause : Type 0 where
     own : (i : ℕ) → i < sizeOf m → boardAt (menOf m) i .side ≡ 1 - side → getD t i 0 ≡ 1 + k → Cause
-    lower : (u : List ℕ) → u ∈ borrowed m l → (i : ℕ) → i < tableSize → (OneSide m → i / 64 / 462 ≡ 1 - side)
-        → getD u i 0 ≡ 1 + k → Cause
+    lower : Lower m l k side → Cause
 
 -- the table lent for a kind is one of the two
 lent-in : (j k kind : ℕ) (r : Bool) (l : Lent) → lentFor j l kind ∈ borrowed (Material.Two j k r) l
@@ -61,7 +66,7 @@ lent-in j k kind r l = go (eqb kind j)
     go false = List·Memᴰ·tail (List·Memᴰ·head refl)
 
 -- a successor with a man taken: bare kings hold no depth, a man left alone is read in his table
-module _ (l : Lent) (d : ℕ) (t : List ℕ) (n : ℕ) (q : Board) (legality : T (legal q)) (some : 0 < d) where
+module _ (l : Lent) (d : ℕ) (n : ℕ) (q : Board) (legality : T (legal q)) (some : 0 < d) where
   bare : (u : List ℕ) → q .men ≡ [] → byteOf u q ≡ 1 + d → ⊥
   unfolding byteOf
   bare u e r =
@@ -74,12 +79,16 @@ module _ (l : Lent) (d : ℕ) (t : List ℕ) (n : ℕ) (q : Board) (legality : T
 
   alone : (j k kind : ℕ) (r : Bool) → q ∈ next chess (boardAt (menOf (Material.Two j k r)) n) → Lone kind q
       → byteOf (lentTo j l (q .men)) q ≡ 1 + d
-      → Cause (Material.Two j k r) l d t (boardAt (menOf (Material.Two j k r)) n .side)
+      → Lower (Material.Two j k r) l d (boardAt (menOf (Material.Two j k r)) n .side)
   alone j k kind r i w e =
-      let f : lentTo j l (q .men) ≡ lentFor j l kind = ap (lentTo j l) (w .1 .1) in
-      Cause.lower (lentFor j l kind) (lent-in j k kind r l) (numberOf q) (number-of-ending kind q legality w .0)
-      (λ o. half o i)
-      (sym (read (lentFor j l kind) kind w) ∙ ap (λ (u : List ℕ). byteOf u q) (sym f) ∙ e)
+      let f : lentTo j l (q .men) ≡ lentFor j l kind = ap (lentTo j l) (w .1 .1) in (
+        lentFor j l kind,
+        lent-in j k kind r l,
+        numberOf q,
+        number-of-ending kind q legality w .0,
+        (λ o. half o i),
+        sym (read (lentFor j l kind) kind w) ∙ ap (λ (u : List ℕ). byteOf u q) (sym f) ∙ e,
+      )
     where
       half : r ≡ false → q ∈ next chess (boardAt (menOf (Material.Two j k r)) n)
           → numberOf q / 64 / 462 ≡ 1 - boardAt (menOf (Material.Two j k r)) n .side
@@ -90,8 +99,8 @@ module _ (l : Lent) (d : ℕ) (t : List ℕ) (n : ℕ) (q : Board) (legality : T
           number-side kind q legality (subst (λ (c : ℕ). LoneOf kind c q) z (w .1)) .1
           ∙ side-next (boardAt (menOf (Material.Two j k r)) n) q i
 
-  fewer : (m : Material) → q ∈ next chess (boardAt (menOf m) n) → Fewer m q → lentByte m l q ≡ 1 + d
-      → Cause m l d t (boardAt (menOf m) n .side)
+  pub fewer : (m : Material) → q ∈ next chess (boardAt (menOf m) n) → Fewer m q → lentByte m l q ≡ 1 + d
+      → Lower m l d (boardAt (menOf m) n .side)
   fewer (Material.One kind) i f e = absurd (omega arith)
   fewer (Material.Two j k r) i (inl f) e = absurd (bare (lentTo j l (q .men)) f e)
   fewer (Material.Two j k r) i (inr (inl f)) e = alone j k j r i f e
@@ -125,8 +134,9 @@ module _ (m : Material) (w : T (known m)) (l : Lent) (k : ℕ) (t : List ℕ) (n
           (number-side-with m w q (numbers m w q d f) (standard-next m n q i w f) ∙ side-next board q i)
           (sym (reads-inside chess (numbered m l) t q f) ∙ r)
       go q d i r (inr o) =
-          fewer l k t n q (d .legality) some m i (fewer-of m q d (false-of o))
-          (sym (reads-outside chess (numbered m l) t q (false-of o)) ∙ r)
+          Cause.lower
+          (fewer l k n q (d .legality) some m i (fewer-of m q d (false-of o))
+          (sym (reads-outside chess (numbered m l) t q (false-of o)) ∙ r))
 
 -- ---- the numbers lent that a side's successors may have
 
@@ -170,8 +180,9 @@ module _ (men : Men) (l : Lent) (k : ℕ) (t : List ℕ) where
         none : Cause m l k t (boardAt (menOf m) n .side) → ⊥
         none (Cause.own i b e r) =
             q .absent .none i (above-side m i (e ∙ ap (λ (x : ℕ). 1 - x) (side-below m n low))) b r
-        none (Cause.lower u g i b e r) =
-            q .lent u g .none i (in-upper men i (λ o. e o ∙ ap (λ (x : ℕ). 1 - x) (side-below m n low))) b r
+        none (Cause.lower x) =
+            q .lent (x .0) (x .1) .none (x .2)
+            (in-upper men (x .2) (λ o. x .4 o ∙ ap (λ (x : ℕ). 1 - x) (side-below m n low))) (x .3) (x .5)
 
     quiet-black : sizeOf m / 2 ≤ n → BlackQuiet → settles chess (numbered m l) k t n ≡ false
     quiet-black high q =
@@ -180,9 +191,9 @@ module _ (men : Men) (l : Lent) (k : ℕ) (t : List ℕ) where
         none : Cause m l k t (boardAt (menOf m) n .side) → ⊥
         none (Cause.own i b e r) =
             q .absent .none i (omega arith) (below-side m i (e ∙ ap (λ (x : ℕ). 1 - x) (side-above m n h high))) r
-        none (Cause.lower u g i b e r) =
-            q .lent u g .none i (omega arith)
-            (in-lower men i b (λ o. e o ∙ ap (λ (x : ℕ). 1 - x) (side-above m n h high))) r
+        none (Cause.lower x) =
+            q .lent (x .0) (x .1) .none (x .2) (omega arith)
+            (in-lower men (x .2) (x .3) (λ o. x .4 o ∙ ap (λ (x : ℕ). 1 - x) (side-above m n h high))) (x .5)
 
     -- in place: the half's answer, asked of the table at the pass's start
     pub quiet-in-place : (u : List ℕ) (white black may : Bool) → (white ≡ false → WhiteQuiet)

@@ -20,7 +20,7 @@ use Rattle.successors.specs.declared.Standing.{Standing}
 use Rattle.successors.specs.Successors.{StandingAt}
 
 -- a complete place is legal exactly where the side not to move is not in check
-complete-legal : (m : Men) (q : Place) → Complete m q
+pub complete-legal : (m : Men) (q : Place) → Complete m q
     → legal (boardIn m q) ≡ not (inCheck (boardIn m q) (1 - q .side))
 complete-legal m q c =
     ap (λ (x : Bool). not x && legal (boardOf (posed m q))) (sym bad) ∙ legal-standing-with (posed m q) ∙ stands

@@ -17,13 +17,13 @@ use Rattle.filling.proofs.fill_table.fill_men.Statement.{statement}
 use Rattle.filling.proofs.fill_table.fill_men.Tie as tie
 
 abbrev Inv-loop : tie.InvT-loop
-Inv-loop m first second table₀ deepest k₀ last₀ table k last = (k ≤ 254) × (length table ≡ length table₀)
+Inv-loop back m first second table₀ deepest k₀ last₀ table k last = (k ≤ 254) × (length table ≡ length table₀)
     × (lastOf k last deepest ≡ last)
     × (passesUntil chess (over m first second) (deeperThan deepest) (254 - k) k (ended last) table
     ≡ passesUntil chess (over m first second) (deeperThan deepest) 254 0 undecided table₀)
 
 abbrev μ-loop : tie.MeasureT-loop
-μ-loop m first second table₀ deepest k₀ last₀ table k last = 254 - k
+μ-loop back m first second table₀ deepest k₀ last₀ table k last = 254 - k
 
 deepest-lent-requires : tie.Need-deepest-lent-requires Inv-loop μ-loop
 deepest-lent-requires c κs = tt
@@ -50,7 +50,7 @@ enum-known-said c = search needs
 same-length : tie.Need-same-length Inv-loop μ-loop
 same-length c =
     let s = c .before .before .before .before .before .before .before .before .before .before .before .before .before .before .before .before .before in
-    c .before .before .before .before .before .before .step-at .kept .1 .1 .1 .1 .1 .1 .0 ∙ c .before .before .before .before .before .before .before .before .loop .inv .1
+    c .before .before .before .before .before .before .step-at .kept .1 .1 .1 .1 .1 .1 .1 .0 ∙ c .before .before .before .before .before .before .before .before .loop .inv .1
     ∙ start-long (s .args .m) (s .args .first .now) (s .args .second .now) _ _ (c .before .before .before .before .before .before .before .before .before .before .before .start .ensures)
 
 returns : tie.Need-returns Inv-loop μ-loop
@@ -84,7 +84,7 @@ loop-again c =
     let w = step-went (over (s .args .m) (s .args .first .now) (s .args .second .now)) _ _ _ _ (i .0)
     (c .before .before .before .before .before .before .before .before .before .before .before .before .deepest-lent .ensures .small) (i .2) _ _ (c .before .before .before .before .before .step-at .ensures) _ (c .enum-told .given .1) in (
       omega (arith, w .below),
-      c .before .before .before .before .before .step-at .kept .1 .1 .1 .1 .1 .1 .0
+      c .before .before .before .before .before .step-at .kept .1 .1 .1 .1 .1 .1 .1 .0
           ∙ i .1,
       w .last-so,
       w .same

@@ -1,0 +1,2 @@
+pub mod Retracting
+pub mod laws

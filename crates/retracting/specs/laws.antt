@@ -1,0 +1,5 @@
+pub mod Back
+pub mod Placing
+pub mod Sources
+pub mod Causes
+pub mod Code

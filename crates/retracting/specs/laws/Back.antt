@@ -1,0 +1,149 @@
+-- A move and its reverse, on an ending's men and a place.
+use mathlib.Core.Path.{_≡_, refl, sym, ap, ap₂, subst, subst⁻¹, _∙_}
+use mathlib.Core.Logic.{_⊎_, inl, inr, ⊎-elim}
+use mathlib.Core.Bool.{Bool, true, false, cond, not, _&&_, _||_}
+use Prim.Native.Nat.{ℕ, _-_, _<_, _≤_}
+use native.Mathlib.Omega.{arith}
+use lib.Dec.{T, eqb, ltb, ltb→lt}
+use borrow.Author.Tests.{lt-ltb, eq-eqb, ne-eqb, eqb-true, eqb-false}
+use Rattle.finite.specs.Truth.{decided, and-left, and-right, and-both, or-left, or-right, or-cases, false-of, refuted}
+use Rattle.board.specs.Reach.{reaches}
+use Rattle.board.specs.laws.ReachLaws.{reaches-same}
+use Rattle.board.specs.laws.Blocking.{reaches-fewer}
+use Rattle.symmetry.specs.laws.Opposite.{reaches-sym}
+use Rattle.rules.specs.Rules.{occupied, carried}
+use Rattle.position.specs.declared.Men.{Men}
+use Rattle.position.specs.declared.Place.{Place}
+use Rattle.position.specs.Posed.{boardIn}
+use Rattle.movegen.specs.Places.{squareAfter, placeAfter}
+use Rattle.movegen.specs.laws.Places.{occupied-men}
+
+-- ---- a square there and back
+
+module _ (from to s : ℕ) (n : s ≡ to → ⊥) where
+  king-again : carried to from (carried from to s) ≡ s
+  king-again = go (eqb s from) refl
+    where
+      go : (x : Bool) → eqb s from ≡ x → carried to from (cond x to s) ≡ s
+      go true e = rw (eq-eqb to to refl) (sym (eqb-true s from e))
+      go false e = rw (ne-eqb s to n)
+
+  man-again : (from ≡ to → ⊥) → squareAfter to from (squareAfter from to s) ≡ s
+  man-again d = rw (ne-eqb s to n) (go (eqb s from) refl)
+    where
+      go : (x : Bool) → eqb s from ≡ x → squareAfter to from (cond x to s) ≡ s
+      go true e = rw (ne-eqb to from (λ z. d (sym z)), eq-eqb to to refl) (sym (eqb-true s from e))
+      go false e = rw (e, ne-eqb s to n)
+
+-- nobody stands on this square
+pub record Free (q : Place) (s : ℕ) : Type 0 where
+  pub white : q .white ≡ s → ⊥
+  pub black : q .black ≡ s → ⊥
+  pub first : q .first ≡ s → ⊥
+  pub second : q .second ≡ s → ⊥
+
+pub there-and-back : (q : Place) (from to : ℕ) → Free q to → (from ≡ to → ⊥) → q .side < 2
+    → placeAfter (placeAfter q from to) to from ≡ q
+unfolding placeAfter
+there-and-back q from to f d h =
+    let e : 1 - (1 - q .side) ≡ q .side = omega arith in
+    rw (
+      e,
+      king-again from to (q .white) (f .white),
+      king-again from to (q .black) (f .black),
+      man-again from to (q .first) (f .first) d,
+      man-again from to (q .second) (f .second) d,
+    )
+
+-- ---- what a move leaves free
+
+module _ (from to s : ℕ) (d : from ≡ to → ⊥) where
+  gone-king : carried from to s ≡ from → ⊥
+  gone-king e = go (eqb s from) refl e
+    where
+      go : (x : Bool) → eqb s from ≡ x → cond x to s ≡ from → ⊥
+      go true h r = d (sym r)
+      go false h r = eqb-false s from h r
+
+  gone-man : from < 64 → squareAfter from to s ≡ from → ⊥
+  gone-man l e = go (eqb s to) e
+    where
+      go : (x : Bool) → cond x 64 (carried from to s) ≡ from → ⊥
+      go true r = absurd (omega arith)
+      go false r = gone-king r
+
+pub free-after : (q : Place) (from to : ℕ) → from < 64 → (from ≡ to → ⊥) → Free (placeAfter q from to) from
+unfolding placeAfter
+free-after q from to l d = record {
+  white = gone-king from to (q .white) d;
+  black = gone-king from to (q .black) d;
+  first = gone-man from to (q .first) d l;
+  second = gone-man from to (q .second) d l;
+}
+
+-- ---- other squares are as they were
+
+module _ (from to s u : ℕ) (a : u ≡ from → ⊥) (b : u ≡ to → ⊥) where
+  same-king : eqb u (carried from to s) ≡ eqb u s
+  same-king = go (eqb s from) refl
+    where
+      go : (x : Bool) → eqb s from ≡ x → eqb u (cond x to s) ≡ eqb u s
+      go true e = ne-eqb u to b ∙ sym (ap (eqb u) (eqb-true s from e) ∙ ne-eqb u from a)
+      go false e = refl
+
+  same-man : u < 64 → eqb u (squareAfter from to s) ≡ eqb u s
+  same-man h = go (eqb s to) refl
+    where
+      go : (x : Bool) → eqb s to ≡ x → eqb u (cond x 64 (carried from to s)) ≡ eqb u s
+      go true e = ne-eqb u 64 (λ z. omega arith) ∙ sym (ap (eqb u) (eqb-true s to e) ∙ ne-eqb u to b)
+      go false e = same-king
+
+pub occupied-else : (m : Men) (q : Place) (from to u : ℕ) → u < 64 → (u ≡ from → ⊥) → (u ≡ to → ⊥)
+    → occupied (boardIn m (placeAfter q from to)) u ≡ occupied (boardIn m q) u
+unfolding placeAfter
+occupied-else m q from to u h a b =
+    occupied-men m (placeAfter q from to) u h
+    ∙ ap₂ _||_ (same-king from to (q .white) u a b)
+    (ap₂ _||_ (same-king from to (q .black) u a b)
+    (ap₂ _||_ (same-man from to (q .first) u a b h) (same-man from to (q .second) u a b h)))
+    ∙ sym (occupied-men m q u h)
+
+-- ---- a piece goes back as it came, whatever stands on the two squares
+
+module _ (occ occ′ : ℕ → Bool) (kind s t : ℕ)
+    (same : (u : ℕ) → u < 64 → (u ≡ s → ⊥) → (u ≡ t → ⊥) → occ′ u ≡ occ u) where
+  -- what stands elsewhere, and the target
+  mid : ℕ → Bool
+  mid u = (occ u && not (eqb u s)) || eqb u t
+
+  -- on the board
+  within : ℕ → Bool
+  within u = ltb u 64 && occ′ u
+
+  mid-less : (u : ℕ) → (u ≡ t → ⊥) → T (mid u) → T (occ u)
+  unfolding mid
+  mid-less u n o = go (eqb u t) (ne-eqb u t n) o
+    where
+      go : (x : Bool) → x ≡ false → T ((occ u && not (eqb u s)) || x) → T (occ u)
+      go true e o = absurd (refuted e tt)
+      go false e o = ⊎-elim (λ a. and-left (occ u) (not (eqb u s)) a) (λ a. absurd a)
+          (or-cases (occ u && not (eqb u s)) false o)
+
+  mid-more : (u : ℕ) → (u ≡ s → ⊥) → T (within u) → T (mid u)
+  unfolding mid within
+  mid-more u n o = go (decided (eqb u t))
+    where
+      go : T (eqb u t) ⊎ T (not (eqb u t)) → T (mid u)
+      go (inl x) = or-right (occ u && not (eqb u s)) (eqb u t) x
+      go (inr x) = or-left (occ u && not (eqb u s)) (eqb u t)
+          (and-both (occ u) (not (eqb u s))
+          (subst T (same u (ltb→lt u 64 (and-left (ltb u 64) (occ′ u) o)) n (eqb-false u t (false-of x))) (and-right (ltb u 64) (occ′ u) o))
+          (subst⁻¹ (λ (b : Bool). T (not b)) (ne-eqb u s n) tt))
+
+  pub reaches-again : T (reaches occ kind s t) → T (reaches occ′ kind t s)
+  unfolding within
+  reaches-again h =
+      let h1 = reaches-fewer occ mid t mid-less kind s h in
+      let h2 = subst T (reaches-sym mid kind s t) h1 in
+      let h3 = reaches-fewer mid within s mid-more kind t h2 in
+      subst T (reaches-same within occ′ (λ u l. rw (lt-ltb u 64 l)) kind t s) h3

@@ -1,0 +1,105 @@
+-- A piece put on a free square: the ending's men are still all there, no two on one square.
+use mathlib.Core.Path.{_≡_, refl, sym, ap, subst, subst⁻¹, _∙_}
+use mathlib.Core.Bool.{Bool, true, false, cond, not, _&&_, _||_}
+use Prim.Native.Nat.{ℕ, _-_, _<_, _≤_}
+use native.Mathlib.Omega.{arith}
+use lib.Dec.{T, leb, ltb, eqb}
+use borrow.Author.Tests.{lt-ltb, lt-leb, leb-true, leb-false, eq-eqb, ne-eqb, eqb-true, eqb-false}
+use Rattle.rules.specs.Rules.{pieces, apart, touching, carried}
+use Rattle.numbering.specs.Kings.{separate}
+use Rattle.position.specs.declared.Men.{Men}
+use Rattle.position.specs.declared.Place.{Place}
+use Rattle.position.specs.Keyed.{boardOf}
+use Rattle.position.specs.Posed.{posed, boardIn, Complete}
+use Rattle.position.specs.Spread.{Spread}
+use Rattle.position.specs.laws.PosedLaws.{complete-spread}
+use Rattle.index.specs.Seats.{Seated, shares}
+use Rattle.index.specs.laws.PlaceLaws.{apart-shares}
+use Rattle.index.specs.laws.CompleteLaws.{seated-complete, complete-seated}
+use Rattle.movegen.specs.Places.{squareAfter, placeAfter}
+use Rattle.retracting.specs.laws.Back.{Free}
+
+module _ (x y : ℕ) (lx : x < 64) (ly : y < 64) where
+  -- two squares that are not the target stay apart
+  stay-apart : (a b : ℕ) → (a ≡ y → ⊥) → (b ≡ y → ⊥) → (a ≡ b → ⊥) → carried x y a ≡ carried x y b → ⊥
+  stay-apart a b na nb n e = go (eqb a x) refl (eqb b x) refl e
+    where
+      go : (p : Bool) → eqb a x ≡ p → (r : Bool) → eqb b x ≡ r → cond p y a ≡ cond r y b → ⊥
+      go true h true k e = n (eqb-true a x h ∙ sym (eqb-true b x k))
+      go true h false k e = nb (sym e)
+      go false h true k e = na e
+      go false h false k e = n e
+
+  carried-on : (s : ℕ) → s < 64 → carried x y s < 64
+  carried-on s h = go (eqb s x)
+    where
+      go : (p : Bool) → cond p y s < 64
+      go true = ly
+      go false = h
+
+  carried-off : (s : ℕ) → leb 64 (carried x y s) ≡ leb 64 s
+  carried-off s = go (eqb s x) refl
+    where
+      go : (p : Bool) → eqb s x ≡ p → leb 64 (cond p y s) ≡ leb 64 s
+      go true e = lt-leb 64 y ly ∙ sym (ap (leb 64) (eqb-true s x e) ∙ lt-leb 64 x lx)
+      go false e = refl
+
+  man-after : (s : ℕ) → (s ≡ y → ⊥) → squareAfter x y s ≡ carried x y s
+  man-after s n = rw (ne-eqb s y n)
+
+  module _ (m : Men) (q : Place) (w : Complete m q) (f : Free q y) where
+    pub seated-after : Seated m (placeAfter q x y)
+    unfolding placeAfter
+    seated-after =
+        let s = complete-seated m q w in
+        record {
+          ending = s .ending;
+          colour = s .colour;
+          white = carried-on (q .white) (s .white);
+          black = carried-on (q .black) (s .black);
+          first = rw (man-after (q .first) (f .first)) (carried-on (q .first) (s .first));
+          second = rw (man-after (q .second) (f .second)) (carried-off (q .second) ∙ s .second);
+        }
+
+    pub side-after : placeAfter q x y .side < 2
+    unfolding placeAfter
+    side-after = omega arith
+
+    unshared-after : shares (placeAfter q x y) ≡ false
+    unfolding shares placeAfter
+    unshared-after =
+        let s = complete-spread w in
+        rw (
+          man-after (q .first) (f .first),
+          man-after (q .second) (f .second),
+          ne-eqb (carried x y (q .white)) (carried x y (q .first))
+              (stay-apart (q .white) (q .first) (f .white) (f .first) (s .white-first)),
+          ne-eqb (carried x y (q .black)) (carried x y (q .first))
+              (stay-apart (q .black) (q .first) (f .black) (f .first) (s .black-first)),
+          ne-eqb (carried x y (q .white)) (carried x y (q .second))
+              (stay-apart (q .white) (q .second) (f .white) (f .second) (s .white-second)),
+          ne-eqb (carried x y (q .black)) (carried x y (q .second))
+              (stay-apart (q .black) (q .second) (f .black) (f .second) (s .black-second)),
+          ne-eqb (carried x y (q .first)) (carried x y (q .second))
+              (stay-apart (q .first) (q .second) (f .first) (f .second) (s .first-second)),
+        )
+
+    kings-after : eqb (placeAfter q x y .white) (placeAfter q x y .black) ≡ false
+    unfolding placeAfter
+    kings-after =
+        ne-eqb (carried x y (q .white)) (carried x y (q .black))
+        (stay-apart (q .white) (q .black) (f .white) (f .black) (complete-spread w .white-black))
+
+    -- complete, where the kings do not touch
+    pub complete-after : touching (boardIn m (placeAfter q x y)) ≡ false → Complete m (placeAfter q x y)
+    complete-after h =
+        let o = placeAfter q x y in
+        let s = seated-after in
+        seated-complete m o s side-after (kings o (s .white) (s .black) kings-after h)
+        (subst⁻¹ T (apart-shares m o s kings-after ∙ ap not unshared-after) tt)
+      where
+        kings : (o : Place) → o .white < 64 → o .black < 64 → eqb (o .white) (o .black) ≡ false
+            → touching (boardIn m o) ≡ false → T (separate (o .white) (o .black))
+        kings o a b e t =
+            unfold separate touching boardOf posed in
+            rw (lt-ltb (o .white) 64 a, lt-ltb (o .black) 64 b, e, t) tt
