@@ -19,18 +19,20 @@
 enum { BYTES = 59136, PLACEMENTS = 64 * 64 * 64, EVERY = 7 };
 
 #define DECLARE(build)                                                                          \
-    uint32_t build##_fill(uint8_t, uint8_t *, size_t);                                          \
+    uint32_t build##_fill(uint32_t, const uint8_t *, size_t, const uint8_t *, size_t, uint8_t *, \
+                          size_t);                                                              \
     uint64_t build##_look_up(uint8_t, uint8_t, uint8_t, uint32_t, uint32_t, uint32_t,           \
-                             const uint8_t *, size_t);                                          \
+                             const uint8_t *, size_t, const uint8_t *, size_t, const uint8_t *, \
+                             size_t);                                                           \
     uint32_t build##_count(uint8_t, uint8_t, uint8_t, uint32_t, uint32_t);
 
 DECLARE(before)
 DECLARE(after)
 
 struct build {
-    uint32_t (*fill)(uint8_t, uint8_t *, size_t);
+    uint32_t (*fill)(uint32_t, const uint8_t *, size_t, const uint8_t *, size_t, uint8_t *, size_t);
     uint64_t (*look_up)(uint8_t, uint8_t, uint8_t, uint32_t, uint32_t, uint32_t, const uint8_t *,
-                        size_t);
+                        size_t, const uint8_t *, size_t, const uint8_t *, size_t);
     uint32_t (*count)(uint8_t, uint8_t, uint8_t, uint32_t, uint32_t);
 };
 
@@ -47,7 +49,7 @@ static uint64_t work(const struct build *build, char what, uint8_t man)
     uint64_t sum = 0;
     if (what == 'f') {
         memset(table, 165, BYTES);
-        sum = build->fill(man, table, BYTES);
+        sum = build->fill(man, SLEDGEWREN_NO_TABLES, table, BYTES);
         for (size_t i = 0; i < BYTES; i++)
             sum = sum * 31 + table[i];
         return sum;
@@ -57,7 +59,8 @@ static uint64_t work(const struct build *build, char what, uint8_t man)
         uint32_t first = SLEDGEWREN_A_MAN(man, SLEDGEWREN_WHITE, square);
         sum *= 31;
         if (what == 'l')
-            sum += build->look_up(side, white, black, first, SLEDGEWREN_ABSENT, 0, table, BYTES);
+            sum += build->look_up(side, white, black, first, SLEDGEWREN_ABSENT, 0,
+                                  SLEDGEWREN_NO_TABLES, table, BYTES);
         else
             sum += build->count(side, white, black, first, SLEDGEWREN_ABSENT);
     }
@@ -78,7 +81,7 @@ int main(int argc, char **argv)
     uint8_t man = (uint8_t)atoi(argv[2]);
     int turns = atoi(argv[3]);
     if (argv[1][0] != 'f')
-        builds[0].fill(man, table, BYTES);
+        builds[0].fill(man, SLEDGEWREN_NO_TABLES, table, BYTES);
     double least[2] = { 1e9, 1e9 };
     uint64_t sums[2] = { 0, 0 };
     for (int turn = 0; turn < turns; turn++)
