@@ -28,7 +28,7 @@ fn code<T>(answer: Result<T, Refused>, said: impl FnOnce(T) -> u64) -> u64 {
     answer.map_or_else(|Refused(code)| code as u64, said)
 }
 
-fn checked_word(checked: Checked) -> u64 {
+pub fn checked_word(checked: Checked) -> u64 {
     match checked {
         Checked::Accepted => 0,
         Checked::Wrong(number) => 1 << 8 | (number as u64) << 32,
