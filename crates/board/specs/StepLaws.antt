@@ -23,3 +23,7 @@ IsStep step k = (step % 8 ≡ getD stepXs k 0) × (step / 8 ≡ getD stepYs k 0)
 -- the square next to s
 abbrev pub next : ℕ → ℕ → ℕ
 next s step = shift s (step % 8) (step / 8)
+
+-- the square of a file and a rank, each plus 2, or 64
+unfoldable pub squareAt : ℕ → ℕ → ℕ
+squareAt x y = cond (leb 2 x && leb x 9 && leb 2 y && leb y 9) ((y - 2) * 8 + (x - 2)) 64

@@ -13,6 +13,7 @@ pub use sets::one;
 pub use sets::size;
 pub use sets::with;
 pub use sets::without;
+pub use steps::step_to;
 pub use walks::attacks;
 pub use walks::walk;
 

@@ -1,10 +1,10 @@
-// One step of a square's bit.
+// One step, of a square's bit and of a square.
 ghost use mathlib.Core.Path.{_≡_};
 ghost use Prim.Native.Nat.{ℕ, _/_, _%_, _<_};
 ghost use Rattle.board.specs.Square.{shift};
 ghost use Rattle.board.specs.Sets.{setOf};
 ghost use Rattle.board.specs.SetLaws.{bit};
-ghost use Rattle.board.specs.StepLaws.{IsStep, endsOn};
+ghost use Rattle.board.specs.StepLaws.{IsStep, endsOn, squareAt};
 
 // The eight directions, of which four are the rook's and four the bishop's.
 // A step is one number x + 8 * y, of its changes of file and of rank, each plus 2; so the one that stays is 18.
@@ -41,4 +41,39 @@ pub fn stepped(b: u64, step: u8, ends: u64) -> u64
         return (b >> (18 - step)) & ends;
     }
     (b << (step - 18)) & ends
+}
+
+// The square of a file and a rank, each plus 2; 64 off the board.
+fn on_board(x: u8, y: u8) -> u8
+    ensures { λ r. ⌜ r ≡ squareAt x y ⌝ }
+{
+    if x < 2 {
+        return 64;
+    }
+    if 9 < x {
+        return 64;
+    }
+    if y < 2 {
+        return 64;
+    }
+    if 9 < y {
+        return 64;
+    }
+    (y - 2) * 8 + (x - 2)
+}
+
+// The square that a step leads to; 64 off the board.
+pub fn step_to(s: u8, dx: u8, dy: u8) -> u8
+    ensures { λ r. ⌜ r ≡ shift s dx dy ⌝ }
+{
+    if 64 <= s {
+        return 64;
+    }
+    if 9 < dx {
+        return 64;
+    }
+    if 9 < dy {
+        return 64;
+    }
+    on_board(s % 8 + dx, s / 8 + dy)
 }

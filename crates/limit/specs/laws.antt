@@ -1,3 +1,4 @@
 pub mod Sums
 pub mod Reaching
+pub mod Promoting
 pub mod Limit

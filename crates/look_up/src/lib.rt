@@ -11,7 +11,7 @@ use position::Position;
 use position::Slot;
 use position::TABLE_LENGTH;
 use position::standing_with;
-use rules::move_of;
+use rules::promotion_of;
 use successors::Verdict;
 use successors::byte_at;
 use successors::verdict_on;
@@ -41,7 +41,12 @@ fn carried_back(via: Map, advice: BestMove) -> BestMove
 {
     match advice {
         BestMove::NoMove => BestMove::NoMove,
-        BestMove::Play(m) => BestMove::Play(move_of(via.back(m.from), via.back(m.to), m.takes)),
+        BestMove::Play(m) => BestMove::Play(promotion_of(
+            via.back(m.from),
+            via.back(m.to),
+            m.takes,
+            m.becomes,
+        )),
     }
 }
 

@@ -1,3 +1,6 @@
 pub mod Served
 pub mod ListLaws
+pub mod TargetLaws
+pub mod TurnLaws
+pub mod PawnIn
 pub mod AnswerLaws

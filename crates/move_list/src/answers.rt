@@ -3,6 +3,7 @@ use super::Counted;
 use super::Listed;
 use super::lists::moves_of;
 use super::lists::no_moves;
+use super::promoting::promoting_set;
 use board::lowest;
 use board::size;
 use board::without;
@@ -24,7 +25,9 @@ pub fn count_of(p: Position) -> u8
     let mut rest = own(p, p.side);
     while rest != 0 {
         let from = lowest(rest);
-        count += size(legal_targets(p, from));
+        let targets = legal_targets(p, from);
+        let ends = promoting_set(p, from);
+        count += size(targets) + 3 * size(targets & ends); // where it promotes there are four
         rest = without(rest, from);
     }
     count as u8

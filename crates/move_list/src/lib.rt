@@ -3,6 +3,7 @@ use rules::Move;
 
 mod answers;
 mod lists;
+mod promoting;
 
 pub use answers::count_of;
 pub use answers::legal_moves;

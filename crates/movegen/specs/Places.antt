@@ -1,12 +1,12 @@
 -- An ending's men on a place: who attacks, and the place after a move. Definitions only.
-use mathlib.Core.Bool.{Bool, cond, _||_}
+use mathlib.Core.Bool.{Bool, cond, _&&_, _||_}
 use Prim.Native.Nat.{ℕ, _-_}
 use lib.Dec.{eqb}
+use Rattle.board.specs.Reach.{reaches}
 use Rattle.rules.specs.declared.Piece.{Piece}
 use Rattle.rules.specs.Rules.{pieceOf, carried}
 use Rattle.position.specs.declared.Men.{Men}
 use Rattle.position.specs.declared.Place.{Place}
-use Rattle.position.specs.Over.{strikes}
 
 abbrev pub firstOf : Men → Place → Piece
 firstOf m q = pieceOf (m .first) 0 (q .first)
@@ -14,9 +14,13 @@ firstOf m q = pieceOf (m .first) 0 (q .first)
 abbrev pub secondOf : Men → Place → Piece
 secondOf m q = pieceOf (m .second) (m .colour) (q .second)
 
--- one of the men is of this colour and attacks t
+-- a piece that is no pawn is of this colour and attacks t
+abbrev pub pieceStrikes : (ℕ → Bool) → ℕ → ℕ → Piece → Bool
+pieceStrikes occ colour t a = eqb (a .colour) colour && reaches occ (a .kind) (a .square) t
+
+-- one of the men, no pawns, is of this colour and attacks t
 abbrev pub menStrike : Men → Place → (ℕ → Bool) → ℕ → ℕ → Bool
-menStrike m q occ colour t = strikes occ colour t (firstOf m q) || strikes occ colour t (secondOf m q)
+menStrike m q occ colour t = pieceStrikes occ colour t (firstOf m q) || pieceStrikes occ colour t (secondOf m q)
 
 -- where a man on s stands after a move: off the board if he is taken
 abbrev pub squareAfter : ℕ → ℕ → ℕ → ℕ

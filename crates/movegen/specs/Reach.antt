@@ -10,7 +10,7 @@ use Rattle.position.specs.declared.Men.{Men}
 use Rattle.position.specs.declared.Place.{Place}
 use Rattle.position.specs.Over.{goesOver, lifted}
 use Rattle.position.specs.Posed.{boardIn}
-use Rattle.position.specs.Spread.{Spread}
+use Rattle.position.specs.Spread.{Pawnless, Spread}
 use Rattle.movegen.specs.Places.{menStrike}
 
 -- the one piece on a square, and who it is
@@ -31,6 +31,7 @@ pub record Stays (m : Men) (q : Place) (from : ℕ) : Type 0 where
   pub white : q .white ≡ from → ⊥
   pub black : q .black ≡ from → ⊥
   pub kings : touching (boardIn m q) ≡ false
+  pub pawnless : Pawnless m q
 
 -- what code has in hand when it comes to a piece: the occupied squares, the mover's own, and those his foes' men
 -- attack, his king lifted

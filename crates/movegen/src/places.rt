@@ -13,6 +13,7 @@ ghost use lib.Dec.{eqb};
 ghost use Rattle.board.specs.Sets.{has, setOf};
 ghost use Rattle.rules.specs.Rules.{occupied, stands, touching, inCheck};
 ghost use Rattle.position.specs.Posed.{boardIn, Complete};
+ghost use Rattle.position.specs.Spread.{Pawnless};
 ghost use Rattle.movegen.specs.Places.{menStrike, squareAfter, placeAfter};
 
 // The square of a side's king.
@@ -64,7 +65,7 @@ pub fn strike_set(m: Men, q: Place, occ: u64, colour: u8) -> u64
 
 // Whether this side is in check, where the kings do not touch: a king gives none.
 pub fn men_check(m: Men, q: Place, side: u8) -> bool
-    ensures { λ r. ⌜ (touching (boardIn m q) ≡ false → r ≡ inCheck (boardIn m q) side) ⌝ }
+    ensures { λ r. ⌜ (Pawnless m q → touching (boardIn m q) ≡ false → r ≡ inCheck (boardIn m q) side) ⌝ }
 {
     men_strike(m, q, occupied_at(q), other(side), king_at(q, side))
 }

@@ -16,6 +16,7 @@ use position::other;
 use position::own;
 use position::pieces_of;
 use rules::Piece;
+use rules::pawn_goes;
 ghost use mathlib.Core.Path.{_≡_};
 ghost use mathlib.Core.Bool.{_&&_, not};
 ghost use Prim.Native.Nat.{ℕ, _<_};
@@ -23,6 +24,8 @@ ghost use Rattle.board.specs.Sets.{has, setOf};
 ghost use Rattle.rules.specs.Rules.{inCheck, moved, canMove, taking};
 ghost use Rattle.position.specs.Keyed.{boardOf};
 ghost use Rattle.position.specs.Over.{goesFrom, goesOver};
+
+const PAWN: u8 = 4;
 
 // The squares where a piece may go, if it is of this side and stands on `from`.
 fn goes_set(occ: u64, side: u8, from: u8, m: Piece) -> u64
@@ -33,6 +36,9 @@ fn goes_set(occ: u64, side: u8, from: u8, m: Piece) -> u64
     }
     if m.square != from {
         return 0;
+    }
+    if m.kind == PAWN {
+        return pawn_goes(occ, m.colour, m.square);
     }
     targets(occ, m.kind, m.square)
 }

@@ -4,8 +4,10 @@ use super::occupancy::occupied;
 use super::occupancy::pieces_of;
 use super::other;
 use board::attacks;
+use board::has as has_square;
 use board::targets;
 use rules::Piece;
+use rules::pawn_hits;
 ghost use mathlib.Core.Path.{_≡_};
 ghost use Prim.Native.Nat.{ℕ, _<_};
 ghost use Rattle.board.specs.Sets.{has};
@@ -13,12 +15,17 @@ ghost use Rattle.rules.specs.Rules.{king, inCheck};
 ghost use Rattle.position.specs.Keyed.{boardOf};
 ghost use Rattle.position.specs.Over.{strikes as strikesOver, attackedOver};
 
+const PAWN: u8 = 4;
+
 // Whether a piece is of this colour and attacks t.
 fn strikes(occ: u64, colour: u8, t: u8, m: Piece) -> bool
     ensures { λ r. ⌜ r ≡ strikesOver (has occ) colour t m ⌝ }
 {
     if m.colour != colour {
         return false;
+    }
+    if m.kind == PAWN {
+        return has_square(pawn_hits(m.colour, m.square), t);
     }
     attacks(occ, m.kind, m.square, t)
 }
@@ -39,6 +46,9 @@ fn strike_set(occ: u64, colour: u8, m: Piece) -> u64
 {
     if m.colour != colour {
         return 0;
+    }
+    if m.kind == PAWN {
+        return pawn_hits(m.colour, m.square);
     }
     targets(occ, m.kind, m.square)
 }

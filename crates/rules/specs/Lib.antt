@@ -1,4 +1,6 @@
+pub mod Pawn
 pub mod Rules
+pub mod PawnCases
 pub mod Changed
 pub mod Chess
 pub mod Reordered

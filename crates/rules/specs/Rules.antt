@@ -1,9 +1,9 @@
--- The rules of chess (FIDE Laws, articles 1 to 3) over a board with any list of pieces besides the kings; no pawn, castling or claims.
--- Sides and colours: White 0, Black 1. Kinds: queen 0, rook 1, bishop 2, knight 3, king 5. Total: any numbers have a meaning.
+-- The rules of chess (FIDE Laws, articles 1 to 3) over a board with any list of pieces besides the kings; no castling, taking in passing or claims.
+-- Sides and colours: White 0, Black 1. Kinds: queen 0, rook 1, bishop 2, knight 3, pawn 4, king 5. Total: any numbers have a meaning.
 -- Definitions only.
-use mathlib.Core.Bool.{Bool, true, false, cond, not, _&&_}
+use mathlib.Core.Bool.{Bool, true, false, cond, not, _&&_, _||_}
 use mathlib.Core.List.{List, [], _∷_, map, flatMap}
-use Prim.Native.Nat.{ℕ, _-_}
+use Prim.Native.Nat.{ℕ, zero, suc, _-_}
 use lib.Dec.{eqb, ltb}
 use Rattle.finite.specs.Members.{any, all}
 use Rattle.finite.specs.Filter.{filter}
@@ -11,6 +11,7 @@ use Rattle.board.specs.Reach.{reaches}
 use Rattle.board.specs.Sets.{squares}
 use Rattle.rules.specs.declared.Piece.{Piece}
 use Rattle.rules.specs.declared.Move.{Move}
+use Rattle.rules.specs.Pawn.{pawn, pawnHits, pawnGoes, inner, outer}
 
 -- the side to move, the kings' squares, and the other pieces (01: the men)
 pub record Board : Type 0 where
@@ -38,7 +39,7 @@ occupied b s = any (λ m. eqb s (m .square)) (pieces b)
 
 -- the piece attacks t, over the occupied squares
 unfoldable pub attacks : (ℕ → Bool) → Piece → ℕ → Bool
-attacks occ m t = reaches occ (m .kind) (m .square) t
+attacks occ m t = cond (pawn m) (pawnHits occ (m .colour) (m .square) t) (reaches occ (m .kind) (m .square) t)
 
 -- a piece of this colour attacks t
 unfoldable pub attacked : Board → ℕ → ℕ → Bool
@@ -58,6 +59,10 @@ inCheck b side = attacked b (1 - side) (king b side)
 abbrev pub known : Piece → Bool
 known m = ltb (m .kind) 4 && ltb (m .colour) 2
 
+-- or a pawn of theirs, on ranks 2 to 7 (02, P12)
+abbrev pub knownOrPawn : Piece → Bool
+knownOrPawn m = known m || (pawn m && ltb (m .colour) 2 && inner (m .square))
+
 -- no two on one square
 unfoldable pub apart : List Piece → Bool
 apart [] = true
@@ -67,14 +72,22 @@ apart (m ∷ ms) = not (any (λ x. eqb (m .square) (x .square)) ms) && apart ms
 unfoldable pub touching : Board → Bool
 touching b = reaches (λ s. false) 5 (b .white) (b .black)
 
-unfoldable pub legal : Board → Bool
-legal b =
+-- legal, where the rules admit these men
+unfoldable pub legalOf : (Piece → Bool) → Board → Bool
+legalOf admits b =
     ltb (b .side) 2
-    && all known (b .men)
+    && all admits (b .men)
     && all (λ m. ltb (m .square) 64) (pieces b)
     && apart (pieces b)
     && not (touching b)
     && not (inCheck b (1 - b .side))
+
+-- without a pawn
+abbrev pub legal : Board → Bool
+legal = legalOf known
+
+abbrev pub legalWithPawn : Board → Bool
+legalWithPawn = legalOf knownOrPawn
 
 -- ---- moves
 
@@ -82,9 +95,9 @@ legal b =
 unfoldable pub stands : Board → ℕ → ℕ → Bool
 stands b colour s = any (λ m. eqb (m .colour) colour && eqb (m .square) s) (pieces b)
 
--- the piece may go to t, unless a piece of its own side stands there; for these kinds, where it attacks
+-- the piece may go to t, unless a piece of its own side stands there; all but the pawn, where it attacks
 unfoldable pub goesTo : (ℕ → Bool) → Piece → ℕ → Bool
-goesTo occ m t = reaches occ (m .kind) (m .square) t
+goesTo occ m t = cond (pawn m) (pawnGoes occ (m .colour) (m .square) t) (reaches occ (m .kind) (m .square) t)
 
 -- a piece of the side to move stands on `from` and may go to `to`
 unfoldable pub goes : Board → ℕ → ℕ → Bool
@@ -114,9 +127,13 @@ moved b from to = record {
 unfoldable pub canMove : Board → ℕ → ℕ → Bool
 canMove b from to = goes b from to && not (stands b (b .side) to) && not (inCheck (moved b from to) (b .side))
 
--- the maker of moves: the squares, and whether a piece is taken
+-- the maker of moves: the squares, whether a piece is taken, and what a pawn becomes: 0 nothing, or 1 and the kind
+abbrev pub promotionOf : ℕ → ℕ → Bool → ℕ → Move
+promotionOf from to takes becomes = record { from = from; to = to; takes = takes; becomes = becomes }
+
+-- a move that promotes nothing
 abbrev pub moveOf : ℕ → ℕ → Bool → Move
-moveOf from to takes = record { from = from; to = to; takes = takes }
+moveOf from to takes = promotionOf from to takes 0
 
 -- what an unused place of a list holds: a plain move from 0 to 0
 abbrev pub zeroMove : Move
@@ -130,9 +147,17 @@ taking b to = stands b (1 - b .side) to
 abbrev pub moveOn : Board → ℕ → ℕ → Move
 moveOn b from to = moveOf from to (taking b to)
 
--- the moves from a square to a target: one
+-- a pawn stands on `from`, and a rank 1 or 8 is its target
+unfoldable pub promotes : Board → ℕ → ℕ → Bool
+promotes b from to = any (λ m. pawn m && eqb (m .square) from) (b .men) && outer to
+
+-- "each promotion a move of its own that names the piece" (02, P12): Q, R, B, N in this order
+abbrev pub promotions : Board → ℕ → ℕ → List Move
+promotions b from to = map (promotionOf from to (taking b to)) (1 ∷ 2 ∷ 3 ∷ 4 ∷ [])
+
+-- the moves from a square to a target: one, or a pawn's four promotions
 abbrev pub movesTo : Board → ℕ → ℕ → List Move
-movesTo b from to = moveOn b from to ∷ []
+movesTo b from to = cond (promotes b from to) (promotions b from to) (moveOn b from to ∷ [])
 
 -- the moves from a square to each of some targets
 unfoldable pub movesOnto : Board → ℕ → List ℕ → List Move
@@ -142,9 +167,26 @@ movesOnto b from targets = flatMap (movesTo b from) targets
 unfoldable pub movesFrom : Board → ℕ → List Move
 movesFrom b from = movesOnto b from (filter (canMove b from) squares)
 
--- "Moves are listed by from-square, then to-square" (01)
+-- "Moves are listed by from-square, then to-square" (01); a pawn's promotions then by piece
 unfoldable pub allMoves : Board → List Move
 allMoves b = flatMap (movesFrom b) squares
+
+-- the man of this side on this square becomes a piece of this kind
+abbrev pub becoming : ℕ → ℕ → ℕ → Piece → Piece
+becoming side to kind m = pieceOf (cond (eqb (m .colour) side && eqb (m .square) to) kind (m .kind)) (m .colour) (m .square)
+
+abbrev pub promoted : ℕ → ℕ → ℕ → Board → Board
+promoted side to kind b = record {
+  side = b .side;
+  white = b .white;
+  black = b .black;
+  men = map (becoming side to kind) (b .men);
+}
+
+-- the board after a move that promotes nothing, or names what its pawn becomes
+abbrev pub playedAs : Board → ℕ → ℕ → ℕ → Board
+playedAs b from to zero = moved b from to
+playedAs b from to (suc kind) = promoted (b .side) to kind (moved b from to)
 
 -- the legal moves; with bare kings the game is over (01, "Games")
 unfoldable pub moves : Board → List Move

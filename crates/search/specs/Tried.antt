@@ -1,18 +1,24 @@
 -- What the search goes through: the squares where moves start, the moves left to try, what they are tried for, and aim at a king.
 -- Definitions only.
-use mathlib.Core.Bool.{Bool, cond, _&&_}
+use mathlib.Core.Bool.{Bool, cond, not, _&&_}
 use mathlib.Core.List.{List, _++_, flatMap}
 use Prim.Native.Nat.{ℕ, _-_}
 use lib.Dec.{T, eqb}
+use Rattle.finite.specs.Members.{all}
 use Rattle.theory.specs.Value.{won, lost}
 use Rattle.board.specs.Reach.{reaches}
 use Rattle.board.specs.Sets.{has, members, setOf}
 use Rattle.rules.specs.declared.Piece.{Piece}
 use Rattle.rules.specs.declared.Move.{Move}
+use Rattle.rules.specs.Pawn.{pawn}
 use Rattle.rules.specs.Rules.{Board, empty, inCheck, stands, moved, movesOnto, movesFrom, canMove}
 use Rattle.rules.specs.Chess.{chess, played}
 use Rattle.position.specs.declared.Position.{Position}
 use Rattle.position.specs.Keyed.{boardOf}
+
+-- no man is a pawn: a move is its two squares, and a piece attacks where it goes (02, P12: "except in the parts of .. P7")
+abbrev pub Pawnless : Board → Type 0
+Pawnless b = T (all (λ a. not (pawn a)) (b .men))
 
 -- the squares of the pieces of the side to move; with bare kings the game is over (01, "Games")
 unfoldable pub moversOf : Board → ℕ

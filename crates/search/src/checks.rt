@@ -1,4 +1,4 @@
-// Moves that may give check: for the last ply only these are tried, since mate is check.
+// Moves that may give check: for the last ply only these are tried, since mate is check. No pawn is on the board.
 use board::targets;
 use board::without;
 use movegen::legal_targets;
@@ -15,7 +15,7 @@ ghost use Rattle.finite.specs.Members.{any};
 ghost use Rattle.board.specs.Sets.{has, members, setOf};
 ghost use Rattle.rules.specs.Rules.{pieces, movesOnto, canMove};
 ghost use Rattle.position.specs.Keyed.{slotMen, boardOf};
-ghost use Rattle.search.specs.Tried.{losing, aims, HoldsChecks};
+ghost use Rattle.search.specs.Tried.{Pawnless, losing, aims, HoldsChecks};
 
 const KING: u8 = 5;
 
@@ -65,7 +65,7 @@ fn aimed_all(s: Position, occ: u64, from: u8, at: u8) -> u64
 // Holds each target of a legal move from a square that gives check: all squares, where another piece attacks the king once the mover's
 // square is clear, and else those from which the mover attacks him.
 fn checking(s: Position, from: u8) -> u64
-    ensures { λ r. ⌜ HoldsChecks s from r ⌝ }
+    ensures { λ r. ⌜ (Pawnless (boardOf s) → HoldsChecks s from r) ⌝ }
 {
     let foe = other(s.side);
     let king = king_square(s, foe);
@@ -81,7 +81,7 @@ fn checking(s: Position, from: u8) -> u64
 
 // The targets to try from a square for a win within k plies.
 pub fn tried(s: Position, from: u8, k: u8) -> u64
-    ensures { λ r. ⌜ any (losing k (boardOf s)) (movesOnto (boardOf s) from (members r)) ≡ any (losing k (boardOf s)) (movesOnto (boardOf s) from (members (setOf (canMove (boardOf s) from)))) ⌝ }
+    ensures { λ r. ⌜ (Pawnless (boardOf s) → any (losing k (boardOf s)) (movesOnto (boardOf s) from (members r)) ≡ any (losing k (boardOf s)) (movesOnto (boardOf s) from (members (setOf (canMove (boardOf s) from))))) ⌝ }
 {
     let targets = legal_targets(s, from);
     if k != 1 {

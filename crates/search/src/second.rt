@@ -8,13 +8,14 @@ use position::standing_refusal;
 ghost use mathlib.Core.Path.{_≡_};
 ghost use Rattle.position.specs.Keyed.{boardOf};
 ghost use Rattle.search.specs.Opinions.{askedIn, opinionOf};
+ghost use Rattle.search.specs.Tried.{Pawnless};
 
 // The most plies that may be asked.
 const MOST: u8 = 6;
 
 // Whether the position is won within n plies, where n is odd, or lost, where it is even: no win is even and no loss odd.
 fn is_decided(s: Position, n: u8) -> bool
-    ensures { λ r. ⌜ r ≡ askedIn (boardOf s) n ⌝ }
+    ensures { λ r. ⌜ (Pawnless (boardOf s) → r ≡ askedIn (boardOf s) n) ⌝ }
 {
     if n % 2 == 1 {
         return won_within(s, n);

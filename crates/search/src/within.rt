@@ -1,4 +1,4 @@
-// Won within and lost within k plies, by making every move.
+// Won within and lost within k plies, by making every move, on boards without a pawn.
 use super::checks::tried;
 use super::movers::can_move;
 use super::movers::movers;
@@ -12,10 +12,11 @@ ghost use mathlib.Core.Path.{_≡_};
 ghost use Rattle.theory.specs.Value.{won, lost};
 ghost use Rattle.rules.specs.Chess.{chess};
 ghost use Rattle.position.specs.Keyed.{boardOf};
+ghost use Rattle.search.specs.Tried.{Pawnless};
 
 // Won within k plies: some move leaves the other side lost within k - 1. Leaves at the first such move.
 pub fn won_within(s: Position, k: u8) -> bool
-    ensures { λ r. ⌜ r ≡ won chess k (boardOf s) ⌝ }
+    ensures { λ r. ⌜ (Pawnless (boardOf s) → r ≡ won chess k (boardOf s)) ⌝ }
 {
     if k == 0 {
         return false;
@@ -38,7 +39,7 @@ pub fn won_within(s: Position, k: u8) -> bool
 
 // Lost within k plies: it is mate, or there are moves and each leaves the other side won within k - 1. Leaves at the first that does not.
 pub fn lost_within(s: Position, k: u8) -> bool
-    ensures { λ r. ⌜ r ≡ lost chess k (boardOf s) ⌝ }
+    ensures { λ r. ⌜ (Pawnless (boardOf s) → r ≡ lost chess k (boardOf s)) ⌝ }
 {
     if !can_move(s) {
         if in_check(s, s.side) {

@@ -1,3 +1,4 @@
+pub mod Plain
 pub mod PlaceLaws
 pub mod FramingLaws
 pub mod ByteLaws

@@ -132,8 +132,9 @@ CheckedFits Checked.Accepted = Unit {0}
 CheckedFits (Checked.Wrong n) = n < 2 ^ 32
 CheckedFits (Checked.Refused k) = RefusalFits k
 
+-- a move that promotes nothing
 abbrev pub AdviceFits : BestMove → Type 0
-AdviceFits (BestMove.Play m) = Byte (m .from) × Byte (m .to)
+AdviceFits (BestMove.Play m) = Byte (m .from) × Byte (m .to) × (m .becomes ≡ 0)
 AdviceFits BestMove.NoMove = Unit {0}
 
 abbrev pub AnswerFits : Answer → Type 0

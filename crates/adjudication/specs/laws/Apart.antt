@@ -3,12 +3,13 @@ use mathlib.Core.Path.{_≡_, refl, sym, subst}
 use mathlib.Core.Logic.{_⊎_, inl, inr}
 use Prim.Native.Nat.{ℕ, _≤_, _<_}
 use native.Mathlib.Omega.{arith}
+use lib.Dec.{T}
 use Rattle.finite.specs.Truth.{le-or-lt}
 use Rattle.finite.specs.Members.{_∈_}
 use Rattle.theory.specs.Value.{DepthIs}
 use Rattle.rules.specs.declared.Move.{Move}
-use Rattle.rules.specs.Rules.{Board, moves}
-use Rattle.rules.specs.Chess.{chess, of-moves}
+use Rattle.rules.specs.Rules.{Board, legal, moves}
+use Rattle.rules.specs.Chess.{chess, of-moves, plain-move}
 use Rattle.answers.specs.declared.BestMove.{BestMove}
 use Rattle.answers.specs.declared.Answer.{Answer}
 use Rattle.position.specs.declared.Position.{Position}
@@ -22,9 +23,9 @@ use Rattle.slips.specs.Slip.{slipOf}
 use Rattle.slips.specs.Fits.{AdviceFits, AnswerFits}
 use Rattle.slips.specs.laws.Apart.{slips-apart}
 
--- the squares of a legal move are on the board
-move-fits : (b : Board) (m : Move) → m ∈ moves b → AdviceFits (BestMove.Play m)
-move-fits b m i = let on = of-moves b m i .1 in (on .from-on, on .to-on)
+-- the squares of a legal move are on the board, and without a pawn it promotes nothing
+move-fits : (b : Board) (m : Move) → T (legal b) → m ∈ moves b → AdviceFits (BestMove.Play m)
+move-fits b m l i = let on = of-moves b m i .1 in (on .from-on, on .to-on, plain-move b m l i)
 
 module _ (p : Position) (z : standingRefusal p ≡ 0) (s : Shallow (manKind p)) where
   -- no depth is greater than 253
@@ -37,11 +38,11 @@ module _ (p : Position) (z : standingRefusal p ≡ 0) (s : Shallow (manKind p)) 
 
   true-fits : (a : Answer) → TrueAnswer (boardOf p) a → AnswerFits a
   true-fits a (TrueAnswer.won n m w f e) =
-      subst AnswerFits (sym e) (depth-fits n (DepthIs.win w), move-fits (boardOf p) m (f .legal))
+      subst AnswerFits (sym e) (depth-fits n (DepthIs.win w), move-fits (boardOf p) m (standing-facts p z .1) (f .legal))
   true-fits a (TrueAnswer.lost n m w f e) =
-      subst AnswerFits (sym e) (depth-fits n (DepthIs.loss w), move-fits (boardOf p) m (f .legal))
+      subst AnswerFits (sym e) (depth-fits n (DepthIs.loss w), move-fits (boardOf p) m (standing-facts p z .1) (f .legal))
   true-fits a (TrueAnswer.mate w o e) = subst AnswerFits (sym e) (omega arith, tt)
-  true-fits a (TrueAnswer.drawn m w f e) = subst AnswerFits (sym e) (move-fits (boardOf p) m (f .legal))
+  true-fits a (TrueAnswer.drawn m w f e) = subst AnswerFits (sym e) (move-fits (boardOf p) m (standing-facts p z .1) (f .legal))
   true-fits a (TrueAnswer.stalemate w o e) = subst AnswerFits (sym e) tt
 
 pub one-answer-a-slip : (p q : Position) (a c : Answer) → standingRefusal p ≡ 0 → Shallow (manKind p)

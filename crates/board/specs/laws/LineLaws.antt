@@ -1,11 +1,11 @@
 -- Laws of lines of any length: where they start and end, and that only the board counts.
 use mathlib.Core.Path.{_≡_, refl, subst}
 use mathlib.Core.Logic.{⊎-elim}
-use mathlib.Core.Bool.{Bool, false, not, _&&_, _||_, and-false}
+use mathlib.Core.Bool.{Bool, false, not, _&&_, _||_, and-false, or-false}
 use Prim.Native.Nat.{ℕ, zero, suc, _<_}
-use lib.Dec.{T, ltb, eqb, ltb→lt, eqb→eq}
-use borrow.Author.Tests.{le-ltb}
-use Rattle.finite.specs.Truth.{and-left, and-right, or-cases, le-or-lt}
+use lib.Dec.{T, ltb, eqb, ltb→lt, eqb→eq, eqb-refl}
+use borrow.Author.Tests.{lt-ltb, le-ltb}
+use Rattle.finite.specs.Truth.{and-left, and-right, and-both, or-cases, of-true, same-test, le-or-lt}
 use Rattle.board.specs.Square.{shift}
 use Rattle.board.specs.Reach.{line}
 use Rattle.board.specs.laws.SquareLaws.{shift-from}
@@ -44,3 +44,16 @@ line-same occ occ′ same (suc n) s dx dy t =
 pub line-one : (occ occ′ : ℕ → Bool) (s dx dy t : ℕ) → line occ 1 s dx dy t ≡ line occ′ 1 s dx dy t
 unfolding line
 line-one occ occ′ s dx dy t = rw (and-false (not (occ (shift s dx dy))), and-false (not (occ′ (shift s dx dy))))
+
+-- it ends on one square
+pub line-single : (occ : ℕ → Bool) (s dx dy t : ℕ) → t < 64 → line occ 1 s dx dy t ≡ eqb t (shift s dx dy)
+unfolding line
+line-single occ s dx dy t h =
+    let u = shift s dx dy in
+    rw (and-false (not (occ u)), or-false (eqb u t)) (ends u)
+  where
+    ends : (u : ℕ) → (ltb u 64 && eqb u t) ≡ eqb t u
+    ends u =
+        same-test (ltb u 64 && eqb u t) (eqb t u) (λ q. rw (eqb→eq u t (and-right (ltb u 64) (eqb u t) q)) (eqb-refl t))
+        (λ q. let e = eqb→eq t u q in subst (λ (z : ℕ). T (ltb z 64 && eqb z t)) e
+        (and-both (ltb t 64) (eqb t t) (of-true (lt-ltb t 64 h)) (eqb-refl t)))

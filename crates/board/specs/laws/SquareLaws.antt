@@ -5,8 +5,10 @@ use mathlib.Core.Bool.{_&&_}
 use Prim.Native.Nat.{ℕ, _+_, _-_, _*_, _/_, _%_, _≤_, _<_}
 use native.Mathlib.Omega.{arith}
 use lib.Dec.{T, leb, ltb, leb→le, ltb→lt}
+use borrow.Author.Tests.{lt-ltb}
 use Rattle.finite.specs.Truth.{and-left, and-right, by-test, cond-true, cond-false, le-or-lt}
 use Rattle.board.specs.Square.{stays, shift}
+use Rattle.board.specs.StepLaws.{squareAt}
 
 -- what it means to stay on the board
 pub record Stays (s dx dy : ℕ) : Type 0 where
@@ -54,3 +56,8 @@ shift-le s dx dy =
 -- a step that ends on the board starts on it
 pub shift-from : (s dx dy : ℕ) → shift s dx dy < 64 → s < 64
 shift-from s dx dy h = ⊎-elim (λ q. absurd (omega (arith, shift-off s dx dy q))) (λ q. q) (le-or-lt 64 s)
+
+-- from a square of the board, by its file and rank
+pub shift-at : (s dx dy : ℕ) → s < 64 → shift s dx dy ≡ squareAt (s % 8 + dx) (s / 8 + dy)
+unfolding shift stays squareAt
+shift-at s dx dy h = rw (lt-ltb s 64 h)

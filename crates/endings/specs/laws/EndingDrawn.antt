@@ -1,5 +1,5 @@
 -- An ending's boards are closed under moves, and bare kings are drawn.
-use mathlib.Core.Path.{_≡_, sym, subst}
+use mathlib.Core.Path.{_≡_, sym, _∙_, subst}
 use mathlib.Core.Bool.{false}
 use mathlib.Core.Logic.{_⊎_, inl, inr, ⊎-elim}
 use mathlib.Core.List.{List, [], _∷_}
@@ -14,7 +14,7 @@ use Rattle.rules.specs.declared.Piece.{Piece}
 use Rattle.rules.specs.Rules.{Board, pieceOf, empty, legal, carried, carriedPiece, moved, moves, mated}
 use Rattle.rules.specs.laws.Legal.{legal-facts}
 use Rattle.rules.specs.laws.Taken.{lone-man, bare-safe}
-use Rattle.rules.specs.Chess.{chess, played, of-moves, next-legal}
+use Rattle.rules.specs.Chess.{chess, played, of-moves, plain-played, next-legal}
 use Rattle.endings.specs.Ending.{LoneOf, Lone, Ending}
 
 -- a move keeps the man, his kind and his colour, or takes him
@@ -32,7 +32,8 @@ ending-closed kind b q d i =
     let w = map-out (played b) q (moves b) i in
     record {
       legality = next-legal b q (d .legality) i;
-      men = subst (λ (c : Board). (c .men ≡ []) ⊎ Lone kind c) (sym (w .2))
+      men = subst (λ (c : Board). (c .men ≡ []) ⊎ Lone kind c)
+          (sym (w .2 ∙ plain-played b (w .0) (d .legality) (w .1)))
           (go (d .men) (w .0 .from) (w .0 .to) (of-moves b (w .0) (w .1) .0));
     }
   where

@@ -10,9 +10,9 @@ use Rattle.theory.specs.Game.{next}
 use Rattle.symmetry.specs.Symmetry.{Symmetry}
 use Rattle.rules.specs.declared.Piece.{Piece}
 use Rattle.rules.specs.Rules.{Board, empty, legal, moved, moves}
-use Rattle.rules.specs.laws.Closed.{moved-side}
+use Rattle.rules.specs.laws.Promotion.{played-side}
 use Rattle.rules.specs.Changed.{changed, swapped}
-use Rattle.rules.specs.Chess.{chess, played}
+use Rattle.rules.specs.Chess.{chess, played, plain-played}
 use Rattle.position.specs.Keyed.{boardOf}
 use Rattle.numbering.specs.Normal.{normalMap}
 use Rattle.numbering.specs.Number.{numberOf}
@@ -31,14 +31,15 @@ side-changed m b = refl
 
 pub side-next : (b q : Board) → q ∈ next chess b → q .side ≡ 1 - b .side
 side-next b q i = let w = map-out (played b) q (moves b) i in ap (λ (c : Board). c .side) (w .2)
-    ∙ moved-side b (w .0 .from) (w .0 .to)
+    ∙ played-side b (w .0)
 
 -- what a white man's move or his king's leaves has him, or bare kings
-pub white-next : (kind : ℕ) (b q : Board) → LoneOf kind 0 b → q ∈ next chess b → T (not (empty (q .men)))
-    → LoneOf kind 0 q
-white-next kind b q l i n =
+pub white-next : (kind : ℕ) (b q : Board) → T (legal b) → LoneOf kind 0 b → q ∈ next chess b
+    → T (not (empty (q .men))) → LoneOf kind 0 q
+white-next kind b q h l i n =
     let w = map-out (played b) q (moves b) i in
-    subst⁻¹ (λ (c : Board). T (not (empty (c .men))) → LoneOf kind 0 c) (w .2)
+    subst⁻¹ (λ (c : Board). T (not (empty (c .men))) → LoneOf kind 0 c)
+    (w .2 ∙ plain-played b (w .0) h (w .1))
     (go (moved b (w .0 .from) (w .0 .to)) (men-next kind 0 b (w .0 .from) (w .0 .to) l)) n
   where
     go : (c : Board) → (c .men ≡ []) ⊎ LoneOf kind 0 c → T (not (empty (c .men))) → LoneOf kind 0 c

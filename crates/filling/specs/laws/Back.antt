@@ -116,7 +116,7 @@ module _ (m : Men) (first second t : List ℕ) (a : Admitted m first second t) (
                 λ q w e. taken-back m (a .ending) n h live (x .0) (x .1) u q w e,
               )
           by (inr o) =
-              let y = fewer l k n (x .0) (d .legality) some M (x .1) (fewer-of M (x .0) d (false-of o))
+              let y = fewer l k n (x .0) (d .legality) some M (a .ending) (x .1) (fewer-of M (x .0) d (false-of o))
               (sym (reads-outside chess (numbered M l) t (x .0) (false-of o)) ∙ x .2) in
               absurd (lone (y .0) (y .1) .none (y .2) (omega arith) (within (y .0) (y .2) (y .5)) (y .5))
             where

@@ -1,19 +1,22 @@
 -- A number's half of the table is its side to move, with one man and with two. A move that takes none leads into the
 -- other half; so does one that takes one of two men of one side, in the table lent for the man left.
 use mathlib.Core.Path.{_≡_, sym, ap, subst, subst⁻¹, _∙_}
-use mathlib.Core.Bool.{Bool, true, false, cond, not}
+use mathlib.Core.Bool.{Bool, true, false, cond, not, _&&_}
 use mathlib.Core.List.{List, [], _∷_, map}
 use Prim.Native.Nat.{ℕ, _/_, _%_, _<_, _≤_}
 use native.Mathlib.Omega.{arith}
-use lib.Dec.{T, leb, ltb, eqb}
-use Rattle.finite.specs.Truth.{and-left, and-right}
-use Rattle.finite.specs.Members.{_∈_, map-out}
+use lib.Dec.{T, leb, ltb, eqb, leb→le, ltb→lt}
+use borrow.Author.Tests.{ne-eqb}
+use Rattle.finite.specs.Truth.{and-left, and-right, and-both}
+use Rattle.finite.specs.Members.{_∈_, all, map-out}
 use Rattle.finite.specs.Filter.{filter, keep}
 use Rattle.theory.specs.Game.{next}
 use Rattle.rules.specs.declared.Piece.{Piece}
-use Rattle.rules.specs.Rules.{Board, pieceOf, carriedPiece, left, moved, moves}
+use Rattle.rules.specs.Pawn.{pawn}
+use Rattle.rules.specs.Rules.{Board, pieceOf, carriedPiece, left, moved, playedAs, moves}
+use Rattle.rules.specs.laws.MoveLists.{none-promotes}
 use Rattle.rules.specs.Changed.{changed, swapped}
-use Rattle.rules.specs.Chess.{chess, played}
+use Rattle.rules.specs.Chess.{chess, played, of-moves}
 use Rattle.numbering.specs.Keys.{leading, menAt, boardAt}
 use Rattle.numbering.specs.Kings.{kingRule}
 use Rattle.numbering.specs.Men.{standard}
@@ -120,18 +123,33 @@ white-after j k kind colour s n from to = go (not (eqb _ to)) (not (eqb _ to))
 
 -- ---- the successors of the board at a number
 
+kind-pawnless : (k : ℕ) → T (ltb k 4) → T (not (eqb k 4))
+kind-pawnless k t = let h = ltb→lt k 4 t in rw (ne-eqb k 4 (λ e. omega arith)) tt
+
+at-pawnless : (m : Material) → T (known m) → (n : ℕ) → T (all (λ a. not (pawn a)) (boardAt (menOf m) n .men))
+unfolding boardAt menAt all
+at-pawnless (Material.One kind) w n = and-both (not (eqb kind 4)) true (kind-pawnless kind w) tt
+at-pawnless (Material.Two j k r) w n =
+    let h = leb→le j k (and-left (leb j k) (ltb k 4) w) in
+    let l = ltb→lt k 4 (and-right (leb j k) (ltb k 4) w) in
+    and-both (not (eqb j 4)) (not (eqb k 4) && true) (rw (ne-eqb j 4 (λ e. omega arith)) tt)
+    (and-both (not (eqb k 4)) true (rw (ne-eqb k 4 (λ e. omega arith)) tt) tt)
+
 module _ (m : Material) (n : ℕ) (q : Board) (i : q ∈ next chess (boardAt (menOf m) n)) where
-  men-after : (from : ℕ) × (to : ℕ) × (after m n from to ≡ q .men)
+  men-after : T (known m) → (from : ℕ) × (to : ℕ) × (after m n from to ≡ q .men)
   unfolding moved
-  men-after = let v = map-out (played (boardAt (menOf m) n)) q (moves (boardAt (menOf m) n)) i in
-      (v .0 .from, v .0 .to, sym (ap (λ (c : Board). c .men) (v .2)))
+  men-after w =
+      let b = boardAt (menOf m) n in
+      let v = map-out (played b) q (moves b) i in
+      let e = of-moves b (v .0) (v .1) .1 .plain (none-promotes b (v .0 .from) (v .0 .to) (at-pawnless m w n)) in
+      (v .0 .from, v .0 .to, sym (ap (λ (c : Board). c .men) (v .2 ∙ ap (playedAs b (v .0 .from) (v .0 .to)) e)))
 
   pub standard-next : T (known m) → T (full m (q .men)) → T (standard (q .men))
-  standard-next w f = let v = men-after in
+  standard-next w f = let v = men-after w in
       subst (λ (l : List Piece). T (standard l)) (v .2)
       (standard-after m w n (v .0) (v .1) (subst⁻¹ (λ (l : List Piece). T (full m l)) (v .2) f))
 
-pub white-left : (j k kind colour s n : ℕ) (q : Board) → q ∈ next chess (boardAt (menOf (Material.Two j k false)) n)
-    → q .men ≡ pieceOf kind colour s ∷ [] → colour ≡ 0
-white-left j k kind colour s n q i e =
-    let v = men-after (Material.Two j k false) n q i in white-after j k kind colour s n (v .0) (v .1) (v .2 ∙ e)
+pub white-left : (j k kind colour s n : ℕ) (q : Board) → T (known (Material.Two j k false))
+    → q ∈ next chess (boardAt (menOf (Material.Two j k false)) n) → q .men ≡ pieceOf kind colour s ∷ [] → colour ≡ 0
+white-left j k kind colour s n q w i e =
+    let v = men-after (Material.Two j k false) n q i w in white-after j k kind colour s n (v .0) (v .1) (v .2 ∙ e)

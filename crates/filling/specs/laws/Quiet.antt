@@ -77,10 +77,10 @@ module _ (l : Lent) (d : ℕ) (n : ℕ) (q : Board) (legality : T (legal q)) (so
   unfolding byteOf
   read u kind w = ap (λ (men : List Piece). cond (empty men) 1 (getD u (numberOf q) 0)) (w .1 .1)
 
-  alone : (j k kind : ℕ) (r : Bool) → q ∈ next chess (boardAt (menOf (Material.Two j k r)) n) → Lone kind q
+  alone : (j k kind : ℕ) (r : Bool) → T (known (Material.Two j k r)) → q ∈ next chess (boardAt (menOf (Material.Two j k r)) n) → Lone kind q
       → byteOf (lentTo j l (q .men)) q ≡ 1 + d
       → Lower (Material.Two j k r) l d (boardAt (menOf (Material.Two j k r)) n .side)
-  alone j k kind r i w e =
+  alone j k kind r known-men i w e =
       let f : lentTo j l (q .men) ≡ lentFor j l kind = ap (lentTo j l) (w .1 .1) in (
         lentFor j l kind,
         lent-in j k kind r l,
@@ -95,16 +95,17 @@ module _ (l : Lent) (d : ℕ) (n : ℕ) (q : Board) (legality : T (legal q)) (so
       half o i =
           let z : w .0 ≡ 0 =
           white-left j k kind (w .0) (w .1 .0) n q
+          (subst (λ (x : Bool). T (known (Material.Two j k x))) o known-men)
           (subst (λ (x : Bool). q ∈ next chess (boardAt (menOf (Material.Two j k x)) n)) o i) (w .1 .1) in
           number-side kind q legality (subst (λ (c : ℕ). LoneOf kind c q) z (w .1)) .1
           ∙ side-next (boardAt (menOf (Material.Two j k r)) n) q i
 
-  pub fewer : (m : Material) → q ∈ next chess (boardAt (menOf m) n) → Fewer m q → lentByte m l q ≡ 1 + d
+  pub fewer : (m : Material) → T (known m) → q ∈ next chess (boardAt (menOf m) n) → Fewer m q → lentByte m l q ≡ 1 + d
       → Lower m l d (boardAt (menOf m) n .side)
-  fewer (Material.One kind) i f e = absurd (omega arith)
-  fewer (Material.Two j k r) i (inl f) e = absurd (bare (lentTo j l (q .men)) f e)
-  fewer (Material.Two j k r) i (inr (inl f)) e = alone j k j r i f e
-  fewer (Material.Two j k r) i (inr (inr f)) e = alone j k k r i f e
+  fewer (Material.One kind) v i f e = absurd (omega arith)
+  fewer (Material.Two j k r) v i (inl f) e = absurd (bare (lentTo j l (q .men)) f e)
+  fewer (Material.Two j k r) v i (inr (inl f)) e = alone j k j r v i f e
+  fewer (Material.Two j k r) v i (inr (inr f)) e = alone j k k r v i f e
 
 module _ (m : Material) (w : T (known m)) (l : Lent) (k : ℕ) (t : List ℕ) (n : ℕ) (h : n < sizeOf m) where
   abbrev board : Board
@@ -135,7 +136,7 @@ module _ (m : Material) (w : T (known m)) (l : Lent) (k : ℕ) (t : List ℕ) (n
           (sym (reads-inside chess (numbered m l) t q f) ∙ r)
       go q d i r (inr o) =
           Cause.lower
-          (fewer l k n q (d .legality) some m i (fewer-of m q d (false-of o))
+          (fewer l k n q (d .legality) some m w i (fewer-of m q d (false-of o))
           (sym (reads-outside chess (numbered m l) t q (false-of o)) ∙ r))
 
 -- ---- the numbers lent that a side's successors may have

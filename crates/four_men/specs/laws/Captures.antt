@@ -12,10 +12,10 @@ use Rattle.finite.specs.Filter.{filter, keep}
 use Rattle.theory.specs.Game.{next}
 use Rattle.theory.specs.Required.{Closed}
 use Rattle.rules.specs.declared.Piece.{Piece}
-use Rattle.rules.specs.Rules.{Board, pieceOf, carried, carriedPiece, left, moved, moves}
+use Rattle.rules.specs.Rules.{Board, pieceOf, carried, carriedPiece, left, legal, moved, moves}
 use Rattle.rules.specs.Reordered.{Few}
 use Rattle.rules.specs.laws.ReorderedLaws.{LegalFew}
-use Rattle.rules.specs.Chess.{chess, played, next-legal}
+use Rattle.rules.specs.Chess.{chess, played, plain-played, next-legal}
 use Rattle.numbering.specs.Men.{materialOf}
 use Rattle.endings.specs.Ending.{Lone}
 use Rattle.endings.specs.laws.EndingDrawn.{ending-closed, bare-over}
@@ -53,11 +53,12 @@ leaves from to (a ∷ c ∷ []) = go (not (eqb (a .square) to)) (not (eqb (c .sq
     go false false = inr (inl refl)
 leaves from to (a ∷ c ∷ d ∷ l) = tt
 
-leaves-next : (b q : Board) → q ∈ next chess b → Leaves (b .men) (q .men)
+leaves-next : (b q : Board) → T (legal b) → q ∈ next chess b → Leaves (b .men) (q .men)
 unfolding moved
-leaves-next b q h =
+leaves-next b q l h =
     let w = map-out (played b) q (moves b) h in
-    subst⁻¹ (λ (c : Board). Leaves (b .men) (c .men)) (w .2) (leaves (w .0 .from) (w .0 .to) (b .men))
+    subst⁻¹ (λ (c : Board). Leaves (b .men) (c .men)) (w .2 ∙ plain-played b (w .0) l (w .1))
+    (leaves (w .0 .from) (w .0 .to) (b .men))
 
 -- a man of one of the two kinds
 either-kind : (j k i : ℕ) (r : Bool) (q : Board) → (i ≡ j) ⊎ (i ≡ k) → LoneMan i (q .men)
@@ -65,15 +66,16 @@ either-kind : (j k i : ℕ) (r : Bool) (q : Board) → (i ≡ j) ⊎ (i ≡ k) �
 either-kind j k i r q (inl e) w = inr (inl (subst (λ (x : ℕ). Lone x q) e w))
 either-kind j k i r q (inr e) w = inr (inr (subst (λ (x : ℕ). Lone x q) e w))
 
-own-next : (m : Material) (b q : Board) → OfMaterial m b → q ∈ next chess b → OfMaterial m q ⊎ Fewer m q
-own-next (Material.One kind) b q e h =
+own-next : (m : Material) (b q : Board) → T (legal b) → OfMaterial m b → q ∈ next chess b
+    → OfMaterial m q ⊎ Fewer m q
+own-next (Material.One kind) b q t e h =
     let w = one-of kind (b .men) e in
     ⊎-elim (λ r. inl (r ∙ ap materialOf (sym (w .1)) ∙ e)) (λ r. inr r)
-    (subst (λ (l : List Piece). Leaves l (q .men)) (w .1) (leaves-next b q h))
-own-next (Material.Two j k r) b q e h =
+    (subst (λ (l : List Piece). Leaves l (q .men)) (w .1) (leaves-next b q t h))
+own-next (Material.Two j k r) b q t e h =
     let w = two-of j k r (b .men) e in
     go (w .0) (w .1) (w .2) (both-kinds j k r (w .0) (w .1) (w .3))
-    (subst (λ (l : List Piece). Leaves l (q .men)) (w .2) (leaves-next b q h))
+    (subst (λ (l : List Piece). Leaves l (q .men)) (w .2) (leaves-next b q t h))
   where
     go : (a c : Piece) → b .men ≡ a ∷ c ∷ [] → ((a .kind ≡ j) ⊎ (a .kind ≡ k)) × ((c .kind ≡ j) ⊎ (c .kind ≡ k))
         → Leaves (a ∷ c ∷ []) (q .men) → OfMaterial (Material.Two j k r) q ⊎ Fewer (Material.Two j k r) q
@@ -99,7 +101,7 @@ pub within-closed : (m : Material) → Closed chess (Within m)
 within-closed m b q d h = record { legality = next-legal b q (d .legality) h; men = go (d .men) }
   where
     go : OfMaterial m b ⊎ Fewer m b → OfMaterial m q ⊎ Fewer m q
-    go (inl e) = own-next m b q e h
+    go (inl e) = own-next m b q (d .legality) e h
     go (inr f) = inr (fewer-next m b q d f h)
 
 -- ---- two men at most; with a man taken the board is not full

@@ -15,13 +15,13 @@ use Rattle.symmetry.specs.Symmetry.{Symmetry, inverse}
 use Rattle.symmetry.specs.laws.SymmetryLaws.{nothing-then}
 use Rattle.rules.specs.declared.Piece.{Piece}
 use Rattle.rules.specs.declared.Move.{Move}
-use Rattle.rules.specs.Rules.{Board, carriedPiece, left, legal, moved, moves}
+use Rattle.rules.specs.Rules.{Board, carriedPiece, left, legal, moved, playedAs, moves}
 use Rattle.rules.specs.Changed.{changed, mappedMove}
 use Rattle.rules.specs.laws.Changed.{changed-back}
 use Rattle.rules.specs.laws.ChangedRules.{legal-changed}
 use Rattle.rules.specs.Reordered.{reordered, Few}
 use Rattle.rules.specs.laws.ReorderedLaws.{LegalFew, few-next, reordering, legal-reordered, moved-reordered, moves-reordered}
-use Rattle.rules.specs.Chess.{chess, played, automorphism, image-alike, moves-changed, played-changed}
+use Rattle.rules.specs.Chess.{chess, played, plain-move, plain-played, automorphism, image-alike, moves-changed, played-changed}
 use Rattle.numbering.specs.Men.{exchangeable}
 use Rattle.numbering.specs.Change.{Change, change, changedBy, then}
 use Rattle.numbering.specs.Number.{normalBy, normalised}
@@ -50,7 +50,8 @@ free-next : (b q : Board) → LegalFew b → q ∈ next chess b → T (free (b .
 unfolding moved
 free-next b q l h t =
     let w = map-out (played b) q (moves b) h in
-    subst⁻¹ (λ (c : Board). T (free (c .men))) (w .2) (free-left (w .0 .from) (w .0 .to) (b .men) (l .few) t)
+    subst⁻¹ (λ (c : Board). T (free (c .men))) (w .2 ∙ plain-played b (w .0) (l .legality) (w .1))
+    (free-left (w .0 .from) (w .0 .to) (b .men) (l .few) t)
 
 legal-there : (e : Bool) (b : Board) → LegalFew b → T (legal (reordered e b))
 legal-there e b l = rw (legal-reordered e b) (l .legality)
@@ -139,7 +140,7 @@ normal-as b =
 
 module _ (k : Symmetry) (e x : Bool) (b c : Board) (l : LegalFew b) (f : T x → T (free (b .men)))
     (q : c ≡ changedAs (change e x k) b) where
-  same-legal : T (legal c)
+  pub same-legal : T (legal c)
   same-legal =
       subst⁻¹ (λ (d : Board). T (legal d)) q (subst⁻¹ T (legal-changed k x (reordered e b)) (legal-there e b l))
 
@@ -163,5 +164,11 @@ module _ (k : Symmetry) (e x : Bool) (b c : Board) (l : LegalFew b) (f : T x →
         λ g. free-next b (played b v) l h (f g),
         ap (λ (d : Board). played d (mappedMove k v)) q
             ∙ played-changed k x (reordered e b) (legal-there e b l) v
-            ∙ ap (changed k x) (moved-reordered e b (l .few) (v .from) (v .to)),
+            ∙ ap (changed k x) reorders,
       )
+    where
+      reorders : played (reordered e b) v ≡ reordered e (played b v)
+      reorders =
+          ap (playedAs (reordered e b) (v .from) (v .to)) (plain-move b v (l .legality) i)
+          ∙ moved-reordered e b (l .few) (v .from) (v .to)
+          ∙ ap (reordered e) (sym (plain-played b v (l .legality) i))

@@ -4,12 +4,14 @@ use mathlib.Core.Path.{_≡_, refl, sym, ap, subst⁻¹, _∙_}
 use mathlib.Core.Bool.{Bool, true, false, cond, not, _&&_, _||_}
 use mathlib.Core.List.{List, [], _∷_, _++_}
 use Prim.Native.Nat.{ℕ, _-_, min, max}
+use native.Mathlib.Omega.{arith}
 use lib.Dec.{T, leb, ltb, eqb}
-use borrow.Author.Tests.{lt-ltb, leb-false, eq-eqb, eqb-true}
+use borrow.Author.Tests.{lt-ltb, leb-false, eq-eqb, eqb-true, ne-eqb}
 use Rattle.finite.specs.Truth.{and-left, and-right, and-both, true-of, of-true, false-of, refuted}
 use Rattle.finite.specs.Members.{all}
 use Rattle.rules.specs.declared.Piece.{Piece}
-use Rattle.rules.specs.Rules.{Board, pieceOf, pieces, known, touching, inCheck, apart, legal}
+use Rattle.rules.specs.Pawn.{pawn}
+use Rattle.rules.specs.Rules.{Board, pieceOf, pieces, known, touching, inCheck, apart, legalOf, legal}
 use Rattle.rules.specs.Reordered.{Few}
 use Rattle.rules.specs.laws.Legal.{legal-facts}
 use Rattle.position.specs.declared.Slot.{Slot}
@@ -40,9 +42,27 @@ slots-known (Present a) (Present c) e =
     let x = either-false (leb 4 (a .kind)) (leb 4 (c .kind)) e in
     rw (lt-ltb (a .kind) 4 (leb-false 4 (a .kind) (x .0)), lt-ltb (c .kind) 4 (leb-false 4 (c .kind) (x .1)))
 
+-- and none of them is a pawn
+kind-pawnless : (k : ℕ) → leb 4 k ≡ false → T (not (eqb k 4))
+kind-pawnless k e = let h = leb-false 4 k e in rw (ne-eqb k 4 (λ q. omega arith)) tt
+
+slots-pawnless : (f s : Slot) → badMenOf f s ≡ false → T (all (λ a. not (pawn a)) (slotMen f ++ slotMen s))
+unfolding all
+slots-pawnless Absent s e = absurd (refuted e tt)
+slots-pawnless (Present a) Absent e = and-both (not (pawn a)) true (kind-pawnless (a .kind) e) tt
+slots-pawnless (Present a) (Present c) e =
+    let x = either-false (leb 4 (a .kind)) (leb 4 (c .kind)) e in
+    and-both (not (pawn a)) (not (pawn c) && true) (kind-pawnless (a .kind) (x .0))
+    (and-both (not (pawn c)) true (kind-pawnless (c .kind) (x .1)) tt)
+
+pub men-pawnless : (p : Position) → badMenOf (p .first) (p .second) ≡ false
+    → T (all (λ a. not (pawn a)) (boardOf p .men))
+unfolding boardOf
+men-pawnless p e = slots-pawnless (p .first) (p .second) e
+
 pub legal-standing-with : (p : Position)
     → (not (badMenOf (p .first) (p .second)) && legal (boardOf p)) ≡ eqb (standingWith p) 0
-unfolding legal standingWith placingWith badSide badSquare sharedSquare boardOf chain
+unfolding legalOf standingWith placingWith badSide badSquare sharedSquare boardOf chain
 legal-standing-with p =
     rw (leb-not 2 (p .side))
     (agree (badMenOf (p .first) (p .second)) (ltb (p .side) 2) (all known (boardOf p .men))

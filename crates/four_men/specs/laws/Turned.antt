@@ -25,7 +25,7 @@ use Rattle.numbering.specs.Material.{OfMaterial}
 use Rattle.four_men.specs.Lending.{Lent}
 use Rattle.four_men.specs.Reading.{numbered}
 use Rattle.four_men.specs.Same.{Same}
-use Rattle.four_men.specs.laws.Same.{same-alike, normal-as}
+use Rattle.four_men.specs.laws.Same.{same-alike, normal-as, same-legal}
 use Rattle.four_men.specs.laws.Materials.{Both, one-of, two-of}
 use Rattle.four_men.specs.laws.Numbered.{lawfulWith}
 
@@ -66,6 +66,9 @@ known-of m b g e = go m e
 -- the normal board goes alike
 pub normal-same : (b : Board) → LegalFew b → Same b (normalised b)
 normal-same b l = let n = normal-as b in (change (n .0) (n .1) (normalBy b), l, n .2, n .3)
+
+pub normal-legal : (b : Board) → LegalFew b → T (legal (normalised b))
+normal-legal b l = let n = normal-as b in same-legal (normalBy b) (n .0) (n .1) b (normalised b) l (n .2) (n .3)
 
 module _ (m : Material) (w : T (materials.known m)) (l : Lent) (t : List ℕ) where
   pub reads-turned : (b c : Board) → Same b c → reads chess (numbered m l) t b ≡ reads chess (numbered m l) t c

@@ -1,21 +1,22 @@
 -- A position turned, its men in either slot and the colours exchanged or not, stands for the board so changed and meets
 -- the same refusal from 1 to 6.
-use mathlib.Core.Path.{_≡_, refl, sym, ap, ap₂, _∙_}
+use mathlib.Core.Path.{_≡_, refl, sym, ap, ap₂, subst⁻¹, _∙_}
 use mathlib.Core.Bool.{Bool, true, false, cond, not, _&&_, _||_}
 use mathlib.Core.List.{_++_}
 use Prim.Native.Nat.{ℕ, _-_, _<_}
 use native.Mathlib.Omega.{arith}
-use lib.Dec.{leb, ltb, eqb}
+use lib.Dec.{T, leb, ltb, eqb}
 use borrow.Author.Tests.{leb-false}
 use Rattle.finite.specs.Truth.{refuted}
 use Rattle.finite.specs.Members.{all}
 use Rattle.symmetry.specs.Symmetry.{Symmetry}
 use Rattle.symmetry.specs.laws.SymmetryLaws.{ltb-mapped}
+use Rattle.rules.specs.Pawn.{pawn}
 use Rattle.rules.specs.Rules.{Board, pieces, apart, touching, inCheck}
 use Rattle.rules.specs.Changed.{swapped, changed}
 use Rattle.rules.specs.Reordered.{crossed, reordered}
 use Rattle.rules.specs.laws.Changed.{ltb-swapped, across, board-eq}
-use Rattle.rules.specs.laws.ChangedRules.{all-map, all-pieces, apart-changed, touching-changed, check-changed}
+use Rattle.rules.specs.laws.ChangedRules.{all-map, all-pieces, apart-changed, touching-changed, check-changed, pawnless-fits}
 use Rattle.rules.specs.laws.ReorderedLaws.{all-crossed, apart-crossed, check-reordered}
 use Rattle.numbering.specs.Men.{exchangeable}
 use Rattle.numbering.specs.Change.{Change, changedBy}
@@ -29,6 +30,7 @@ use Rattle.position.specs.Refusals.{badMenOf, badSide, badSquare, sharedSquare,
 use Rattle.position.specs.laws.SlotLaws.{leb-not}
 use Rattle.position.specs.laws.ChangedRefusals.{change-board}
 use Rattle.four_men.specs.MoveTurned.{firstSlot, secondSlot, inSlots, turnedPosition}
+use Rattle.four_men.specs.laws.Standing.{men-pawnless}
 
 -- ---- the board
 
@@ -151,14 +153,22 @@ module _ (s : Change) (b : Board) where
   unfolding changedBy
   touching-turned = touching-changed (s .symmetry) x r ∙ (unfold touching in refl)
 
-  checked-turned : b .side < 2 → checked (changedBy s b) ≡ checked b
+  checked-turned : T (all (λ a. not (pawn a)) (b .men)) → b .side < 2 → checked (changedBy s b) ≡ checked b
   unfolding changedBy changed
-  checked-turned h =
+  checked-turned k h =
       ap (inCheck (changed (s .symmetry) x r)) (across x (b .side) h)
-      ∙ check-changed (s .symmetry) x r (1 - b .side) (omega arith)
+      ∙ check-changed (s .symmetry) x r (pawnless-fits (s .symmetry) x r pawnless) (1 - b .side) (omega arith)
       ∙ check-reordered (s .order) b (1 - b .side)
+    where
+      pawnless : T (all (λ a. not (pawn a)) (r .men))
+      pawnless = subst⁻¹ T (all-crossed (λ a. not (pawn a)) (s .order) (b .men)) k
 
--- the side is one of the two where 1 to 5 do not refuse
+-- the men are those that 1 takes, where 1 to 5 do not refuse
+men-of : (a b c d e : Bool) → eqb (chain a b c d e) 0 ≡ true → a ≡ false
+men-of true b c d e q = absurd (refuted (sym q) tt)
+men-of false b c d e q = refl
+
+-- and the side is one of the two
 side-of : (a u c d e : Bool) (n : ℕ) → eqb (chain a (leb 2 n || u) c d e) 0 ≡ true → n < 2
 side-of a u c d e n q = go a (leb 2 n) refl q
   where
@@ -188,6 +198,7 @@ standing-turned s p =
         go true q =
             ap (λ (u : Bool). cond u 6 0)
             (checked-turned s b
+            (men-pawnless p (men-of (badMenOf (p .first) (p .second)) (foreign b) (off b) (shared b) (touching b) q))
             (side-of (badMenOf (p .first) (p .second)) (not (all (λ m. ltb (m .colour) 2) (b .men))) (off b) (shared b)
             (touching b) (b .side) q))
         go false q = refl

@@ -16,8 +16,8 @@ back-requires c κs = search needs
 back-requires-2 : tie.Need-back-requires-2
 back-requires-2 c κs = search needs
 
-move-of-requires : tie.Need-move-of-requires
-move-of-requires c κs = search needs
+promotion-of-requires : tie.Need-promotion-of-requires
+promotion-of-requires c κs = search needs
 
 returns : tie.Need-returns
 returns c = search needs
@@ -25,7 +25,7 @@ returns c = search needs
 returns-2 : tie.Need-returns-2
 returns-2 c =
     back-on-the-board _ _ _ _ _ _ (c .before .before .before .before .advice .given .1)
-    (c .before .before .back .ensures) (c .before .back2 .ensures) (c .move-of .ensures)
+    (c .before .before .back .ensures) (c .before .back2 .ensures) (c .promotion-of .ensures)
 
 pub carried-back-spec : {M : Type 1} → statement M
 carried-back-spec =
@@ -35,6 +35,6 @@ carried-back-spec =
     enum-known-advice
     back-requires
     back-requires-2
-    move-of-requires
+    promotion-of-requires
     returns
     returns-2)

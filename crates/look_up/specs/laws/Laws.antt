@@ -11,7 +11,7 @@ use Rattle.table_theory.specs.Tables.{reads}
 use Rattle.symmetry.specs.Symmetry.{Symmetry, mapped, inverse}
 use Rattle.rules.specs.declared.Piece.{Piece}
 use Rattle.rules.specs.declared.Move.{Move}
-use Rattle.rules.specs.Rules.{Board, moveOf}
+use Rattle.rules.specs.Rules.{Board, promotionOf}
 use Rattle.rules.specs.laws.ReorderedLaws.{LegalFew}
 use Rattle.rules.specs.Chess.{chess}
 use Rattle.numbering.specs.Number.{normalBy, normalised}
@@ -47,7 +47,7 @@ use Rattle.successors.specs.laws.VerdictLaws.{told-wrong, told-right}
 -- a move, its two squares carried back
 pub back-on-the-board : (via : Map) (advice : BestMove) (m v : Move) (from to : ℕ) → advice ≡ BestMove.Play m
     → from ≡ mapped (inverse (symmetryOf via)) (m .from) → to ≡ mapped (inverse (symmetryOf via)) (m .to)
-    → v ≡ moveOf from to (m .takes) → BestMove.Play v ≡ mappedAdvice (inverse (symmetryOf via)) advice
+    → v ≡ promotionOf from to (m .takes) (m .becomes) → BestMove.Play v ≡ mappedAdvice (inverse (symmetryOf via)) advice
 back-on-the-board via advice m v from to e f g h =
     ap BestMove.Play (h ∙ rw (f, g)) ∙ ap (mappedAdvice (inverse (symmetryOf via))) (sym e)
 

@@ -1,20 +1,13 @@
--- Laws of move lists: moves stored behind others, and one turn of the loop over the squares of a side's pieces.
-use mathlib.Core.Path.{_≡_, refl, ap, ap₂, _∙_}
-use mathlib.Core.Bool.{Bool, true, false}
-use mathlib.Core.List.{List, [], _∷_, _++_, flatMap}
-use Prim.Native.Nat.{ℕ, zero, suc, _+_, _-_, _≤_, _<_}
+-- Laws of move lists: moves stored behind others, and what is left to store.
+use mathlib.Core.Path.{_≡_, refl, sym, ap, ap₂, _∙_}
+use mathlib.Core.List.{List, [], _∷_, _++_, map}
+use Prim.Native.Nat.{ℕ, zero, suc, _+_, _-_, _≤_}
 use native.Mathlib.Nat.{zero-add, add-zero, add-assoc, add-suc, suc-add, suc-sub-suc, sub-zero, le-of-suc-le-suc}
 use native.Mathlib.Omega.{arith}
 use lib.ListN.{length, drop, replicate, set, length-append, length-replicate}
 use lib.Seq.{sets, sets-eq}
-use Rattle.finite.specs.Filter.{filter, keep, filter-none}
-use Rattle.board.specs.Sets.{has, squares, members, setOf}
-use Rattle.board.specs.laws.SetLaws.{set-has, members-setOf}
-use Rattle.board.specs.laws.LowestLaws.{Lowest}
 use Rattle.rules.specs.declared.Move.{Move}
-use Rattle.rules.specs.Rules.{Board, zeroMove, stands, canMove, taking, moveOf, moveOn, movesOnto, movesFrom, allMoves}
-use Rattle.rules.specs.laws.MoveLists.{onto-none, onto-length}
-use Rattle.rules.specs.laws.CanMove.{mover-stands}
+use Rattle.rules.specs.Rules.{zeroMove}
 use Rattle.move_list.specs.declared.MoveList.{MoveList}
 use Rattle.move_list.specs.Lists.{room, listOf}
 use Rattle.move_list.specs.ListLaws.{appended}
@@ -43,7 +36,7 @@ sets-append : (l : List Move) (i : ℕ) (xs ys : List Move) → sets (sets l i x
 sets-append l i [] ys = rw add-zero
 sets-append l i (x ∷ xs) ys = rw (add-suc, ← suc-add) (sets-append (set l i x) (suc i) xs ys)
 
-appended-twice : (l : MoveList) (xs ys : List Move) → appended (appended l xs) ys ≡ appended l (xs ++ ys)
+pub appended-twice : (l : MoveList) (xs ys : List Move) → appended (appended l xs) ys ≡ appended l (xs ++ ys)
 unfolding appended
 appended-twice l xs ys = list-eq _ _ _ _ (sets-append (l .moves) (l .count) xs ys) (rw (length-append, ← add-assoc))
 
@@ -51,60 +44,55 @@ pub appended-none : (l : MoveList) → appended l [] ≡ l
 unfolding appended
 appended-none l = list-eq _ _ _ _ refl (add-zero (l .count))
 
--- ---- the moves, mover by mover
+-- one move stored
+pub appended-one : (l : MoveList) (m : Move) (n : ℕ) → n ≡ l .count + 1
+    → _≡_ {A = MoveList} (record { moves = set (l .moves) (l .count) m; count = n }) (appended l (m ∷ []))
+unfolding appended
+appended-one l m n e = list-eq _ _ _ _ refl e
 
--- a move by the set of the squares where a move takes
-pub taking-move : (b : Board) (foes from to : ℕ) (takes : Bool) (m : Move) → foes ≡ setOf (taking b) → to < 64
-    → takes ≡ has foes to → m ≡ moveOf from to takes
-    → m ≡ moveOn b from to
-taking-move b foes from to takes m e h t q = q ∙ ap (moveOf from to) (t ∙ set-has (taking b) e to h)
+pub appended-count : (l k : MoveList) (ms : List Move) → k ≡ appended l ms → k .count ≡ l .count + length ms
+unfolding appended
+appended-count l k ms e = rw e
 
--- elements that give nothing may be left out
-flatMap-filter : (f : ℕ → List Move) (q : ℕ → Bool) (xs : List ℕ) → ((x : ℕ) → q x ≡ false → f x ≡ [])
-    → flatMap f xs ≡ flatMap f (filter q xs)
-unfolding flatMap filter
-flatMap-filter f q [] e = refl
-flatMap-filter f q (x ∷ xs) e = go (q x) refl (flatMap-filter f q xs e)
-  where
-    go : (b : Bool) → q x ≡ b → flatMap f xs ≡ flatMap f (filter q xs)
-        → f x ++ flatMap f xs ≡ flatMap f (keep b x (filter q xs))
-    go true h more = rw more
-    go false h more = rw (e x h) more
+-- four moves stored one by one
+pub appended-four : (f : ℕ → Move) (l a b c d : MoveList) (p q r s : Move) → p ≡ f 1 → a ≡ appended l (p ∷ [])
+    → q ≡ f 2 → b ≡ appended a (q ∷ []) → r ≡ f 3 → c ≡ appended b (r ∷ []) → s ≡ f 4 → d ≡ appended c (s ∷ [])
+    → d ≡ appended l (map f (1 ∷ 2 ∷ 3 ∷ 4 ∷ []))
+appended-four f l a b c d p q r s ep ea eq eb er ec es ed =
+    rw (ed, ec, eb, ea, ep, eq, er, es)
+    (rw (
+      appended-twice l (f 1 ∷ []) (f 2 ∷ []),
+      appended-twice l (f 1 ∷ f 2 ∷ []) (f 3 ∷ []),
+      appended-twice l (f 1 ∷ f 2 ∷ f 3 ∷ []) (f 4 ∷ []),
+    ))
 
--- all moves start on the squares of the pieces of the side to move
-pub by-movers : (b : Board) (own : ℕ) → own ≡ setOf (stands b (b .side))
-    → allMoves b ≡ flatMap (movesFrom b) (members own)
-unfolding allMoves movesFrom
-by-movers b own e =
-    flatMap-filter (movesFrom b) (stands b (b .side)) squares
-    (λ x h. rw (filter-none (canMove b x) squares (λ t m. mover-stands b x t h)) (onto-none b x))
-    ∙ rw (e, members-setOf (stands b (b .side)))
+-- a list after some moves are added to it, and what is still to be added to it
+pub record Rest (l k : MoveList) (ms ns : List Move) : Type 0 where
+  pub fits : k .count + length ns ≤ room
+  pub whole : appended k ns ≡ appended l ms
 
--- One turn: the lowest square `from` is taken out of `rest` and leaves `others`; `targets` is the set of its targets.
-module _ (b : Board) (rest from others targets : ℕ) (low : Lowest rest from others)
-    (e : targets ≡ setOf (canMove b from)) where
-  its-moves : movesOnto b from (members targets) ≡ movesFrom b from
-  unfolding movesFrom
-  its-moves = rw (e, members-setOf (canMove b from))
+pub rest-all : (l : MoveList) (ms : List Move) → l .count + length ms ≤ room → Rest l l ms ms
+rest-all l ms h = record { fits = h; whole = refl }
 
-  pub turn-split : flatMap (movesFrom b) (members rest) ≡ movesOnto b from (members targets) ++ flatMap (movesFrom
-      b) (members others)
-  unfolding flatMap
-  turn-split = rw (low .first, its-moves)
+pub rest-start : (k : MoveList) (ms ns : List Move) → k ≡ listOf [] → ms ≡ ns → length ms ≤ room → Rest (listOf []) k ms ns
+unfolding listOf
+rest-start k ms ns e q h = rw (e, ← q) (rest-all (listOf []) ms (omega (arith, h)))
 
-  -- how many
-  pub turn-length : length (flatMap (movesFrom b) (members rest)) ≡ length (members targets) + length (flatMap
-      (movesFrom b) (members others))
-  turn-length = simp (length-append, onto-length) at (ap length turn-split)
+module _ (l k : MoveList) (ms ns xs ys : List Move) (r : Rest l k ms ns) (e : ns ≡ xs ++ ys) where
+  -- there is room for the next
+  pub rest-room : k .count + length xs ≤ room
+  rest-room = omega (arith, r .fits, simp length-append at (ap length e))
 
-  -- stored behind those of a list
-  pub turn-moves : (l : MoveList)
-      → appended (appended l (movesOnto b from (members targets))) (flatMap (movesFrom b) (members others))
-      ≡ appended l (flatMap (movesFrom b) (members rest))
-  turn-moves l =
-      appended-twice l (movesOnto b from (members targets)) (flatMap (movesFrom b) (members others)) ∙ rw turn-split
+  pub rest-next : (k′ : MoveList) → k′ ≡ appended k xs → Rest l k′ ms ys
+  rest-next k′ q =
+      rw q (record {
+        fits = omega (arith, r .fits, simp length-append at (ap length e), appended-count k (appended k xs) xs refl);
+        whole = appended-twice k xs ys ∙ ap (appended k) (sym e) ∙ r .whole;
+      })
 
-  pub turn-count : (l : MoveList)
-      → appended l (movesOnto b from (members targets)) .count ≡ l .count + length (members targets)
-  unfolding appended
-  turn-count l = rw onto-length
+pub rest-end : (l k : MoveList) (ms ns : List Move) → Rest l k ms ns → ns ≡ [] → k ≡ appended l ms
+rest-end l k ms ns r e = sym (appended-none k) ∙ ap (appended k) (sym e) ∙ r .whole
+
+-- all moves are stored
+pub rest-done : (k : MoveList) (ms ns : List Move) → Rest (listOf []) k ms ns → ns ≡ [] → length ms ≤ room → k ≡ listOf ms
+rest-done k ms ns r e h = rest-end (listOf []) k ms ns r e ∙ appended-first ms h

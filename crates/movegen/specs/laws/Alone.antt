@@ -1,12 +1,12 @@
 -- The kings and the men of an ending on a place: each alone on its square.
 use mathlib.Core.Path.{_≡_, refl, sym, _∙_}
 use mathlib.Core.Bool.{Bool, true, false, cond, _&&_, _||_, or-false, and-false}
-use Prim.Native.Nat.{ℕ, zero, suc, _-_, _<_}
+use Prim.Native.Nat.{ℕ, zero, suc, _-_, _≤_, _<_}
 use native.Mathlib.Omega.{arith}
 use lib.Dec.{eqb}
 use borrow.Author.Tests.{eq-eqb, ne-eqb}
 use Rattle.board.specs.Reach.{reaches}
-use Rattle.rules.specs.Rules.{pieceOf, king, goes, goesTo}
+use Rattle.rules.specs.Rules.{pieceOf, king, goes}
 use Rattle.position.specs.declared.Men.{Men}
 use Rattle.position.specs.declared.Place.{Place}
 use Rattle.position.specs.Keyed.{boardOf}
@@ -16,7 +16,7 @@ use Rattle.position.specs.Posed.{posed, boardIn}
 use Rattle.position.specs.laws.Over.{goes-elsewhere}
 use Rattle.position.specs.Spread.{Spread}
 use Rattle.movegen.specs.Places.{firstOf, secondOf}
-use Rattle.movegen.specs.laws.Places.{stands-men, goes-men}
+use Rattle.movegen.specs.laws.Places.{piece-goes, stands-men, goes-men}
 use Rattle.movegen.specs.Reach.{Alone, Man}
 
 -- ---- one of four tests passes
@@ -45,10 +45,10 @@ own-other colour t kind owner square n = rw (ne-eqb owner colour n)
 -- ---- each by itself
 
 -- one piece's part of going
-mine : (occ : ℕ → Bool) (side t kind owner square : ℕ)
+mine : (occ : ℕ → Bool) (side t kind owner square : ℕ) → (kind ≡ 4 → 64 ≤ square)
     → goesFrom occ side square t (pieceOf kind owner square) ≡ (eqb owner side && reaches occ kind square t)
-unfolding goesTo
-mine occ side t kind owner square = rw (eq-eqb square square refl) (go (eqb owner side))
+mine occ side t kind owner square out =
+    rw (eq-eqb square square refl, piece-goes occ t (pieceOf kind owner square) out) (go (eqb owner side))
   where
     go : (x : Bool) → (x && true && reaches occ kind square t) ≡ (x && reaches occ kind square t)
     go true = refl
@@ -66,7 +66,7 @@ module _ (m : Men) (q : Place) (w : Spread m q) where
             ∙ first-of _ _ _ _ (goes-elsewhere occ (q .side) s t (pieceOf 5 1 (q .black)) (λ e. w .white-black (sym e)))
             (goes-elsewhere occ (q .side) s t (firstOf m q) (λ e. w .white-first (sym e)))
             (goes-elsewhere occ (q .side) s t (secondOf m q) (λ e. w .white-second (sym e)))
-            ∙ mine occ (q .side) t 5 0 s;
+            ∙ mine occ (q .side) t 5 0 s (λ e. absurd (omega arith));
         foes = λ e l. stands-men m q (1 - q .side) s l
             ∙ none-of _ _ _ _ (own-other (1 - q .side) s 5 0 s (not-foe 0 (q .side) e (w .side)))
             (own-elsewhere (1 - q .side) s 5 1 (q .black) (λ e. w .white-black (sym e)))
@@ -82,7 +82,7 @@ module _ (m : Men) (q : Place) (w : Spread m q) where
             ∙ next-of _ _ _ _ (goes-elsewhere occ (q .side) s t (pieceOf 5 0 (q .white)) (w .white-black))
             (goes-elsewhere occ (q .side) s t (firstOf m q) (λ e. w .black-first (sym e)))
             (goes-elsewhere occ (q .side) s t (secondOf m q) (λ e. w .black-second (sym e)))
-            ∙ mine occ (q .side) t 5 1 s;
+            ∙ mine occ (q .side) t 5 1 s (λ e. absurd (omega arith));
         foes = λ e l. stands-men m q (1 - q .side) s l
             ∙ none-of _ _ _ _ (own-elsewhere (1 - q .side) s 5 0 (q .white) (w .white-black))
             (own-other (1 - q .side) s 5 1 s (not-foe 1 (q .side) e (w .side)))
@@ -98,7 +98,7 @@ module _ (m : Men) (q : Place) (w : Spread m q) where
             ∙ third-of _ _ _ _ (goes-elsewhere occ (q .side) s t (pieceOf 5 0 (q .white)) (w .white-first))
             (goes-elsewhere occ (q .side) s t (pieceOf 5 1 (q .black)) (w .black-first))
             (goes-elsewhere occ (q .side) s t (secondOf m q) (λ e. w .first-second (sym e)))
-            ∙ mine occ (q .side) t (m .first) 0 s;
+            ∙ mine occ (q .side) t (m .first) 0 s (w .pawnless .first);
         foes = λ e l. stands-men m q (1 - q .side) s l
             ∙ none-of _ _ _ _ (own-elsewhere (1 - q .side) s 5 0 (q .white) (w .white-first))
             (own-elsewhere (1 - q .side) s 5 1 (q .black) (w .black-first))
@@ -114,7 +114,7 @@ module _ (m : Men) (q : Place) (w : Spread m q) where
             ∙ fourth-of _ _ _ _ (goes-elsewhere occ (q .side) s t (pieceOf 5 0 (q .white)) (w .white-second))
             (goes-elsewhere occ (q .side) s t (pieceOf 5 1 (q .black)) (w .black-second))
             (goes-elsewhere occ (q .side) s t (firstOf m q) (w .first-second))
-            ∙ mine occ (q .side) t (m .second) (m .colour) s;
+            ∙ mine occ (q .side) t (m .second) (m .colour) s (w .pawnless .second);
         foes = λ e l. stands-men m q (1 - q .side) s l
             ∙ none-of _ _ _ _ (own-elsewhere (1 - q .side) s 5 0 (q .white) (w .white-second))
             (own-elsewhere (1 - q .side) s 5 1 (q .black) (w .black-second))

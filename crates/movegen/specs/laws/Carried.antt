@@ -9,11 +9,10 @@ use borrow.Author.Tests.{eq-eqb, ne-eqb}
 use Rattle.finite.specs.Truth.{and-left, and-right, and-both, by-test, fails, refuted}
 use Rattle.finite.specs.Members.{_∈_, any-in, any-out, map-in, map-out}
 use Rattle.finite.specs.Filter.{filter-in, filter-out}
-use Rattle.board.specs.Reach.{reaches}
-use Rattle.board.specs.laws.ReachLaws.{reaches-squares}
-use Rattle.board.specs.laws.Blocking.{reaches-own}
 use Rattle.rules.specs.declared.Piece.{Piece}
 use Rattle.rules.specs.Rules.{Board, pieceOf, pieces, occupied, goesTo, goes, carried, carriedPiece, left, moved}
+use Rattle.rules.specs.laws.CanMove.{goes-squares, goes-attacks}
+use Rattle.rules.specs.laws.OnBoard.{attacks-own}
 use Rattle.position.specs.Over.{lifted}
 
 pub carried-still : (from to : ℕ) (m : Piece) → (m .square ≡ from → ⊥) → carriedPiece from to m ≡ m
@@ -50,6 +49,10 @@ piece-after b from to m i h =
         (map-in (carriedPiece from to)
         (filter-in (λ m. not (eqb (m .square) to)) k (not-T (eqb (m .square) to) (λ t. h (eqb→eq (m .square) to t)))))
 
+occupied-in : (b : Board) (u : ℕ) (m : Piece) → m ∈ pieces b → u ≡ m .square → T (occupied b u)
+unfolding occupied
+occupied-in b u m i e = any-in (λ n. eqb u (n .square)) i (subst (λ (z : ℕ). T (eqb u z)) e (eqb-refl u))
+
 -- ---- the piece that moves leaves one square for another
 
 pub record Goer (b : Board) (from to : ℕ) : Type 0 where
@@ -60,28 +63,23 @@ pub record Goer (b : Board) (from to : ℕ) : Type 0 where
   pub on : from < 64
 
 pub goer : (b : Board) (from to : ℕ) → T (goes b from to) → Goer b from to
-unfolding goes goesTo
+unfolding goes
 goer b from to g =
     let w = any-out (λ m. eqb (m .colour) (b .side) && eqb (m .square) from && goesTo (occupied b) m to) (pieces b) g in
     let m = w .0 in
     let own = eqb (m .colour) (b .side) in
     let at = eqb (m .square) from in
-    let hit = reaches (occupied b) (m .kind) (m .square) to in
+    let hit = goesTo (occupied b) m to in
     let e = eqb→eq (m .square) from (and-right own at (and-left (own && at) hit (w .2))) in
     record {
       piece = m;
       there = w .1;
       at = e;
-      away = λ q. refuted (reaches-own (occupied b) (m .kind) (m .square))
-          (subst (λ (z : ℕ). T (reaches (occupied b) (m .kind) (m .square) z)) (sym (e ∙ q))
-          (and-right (own && at) hit (w .2)));
-      on = subst (λ (z : ℕ). z < 64) e
-          (reaches-squares (occupied b) (m .kind) (m .square) to (and-right (own && at) hit (w .2)) .0);
+      away = λ q. refuted (attacks-own (occupied b) m)
+          (goes-attacks (occupied b) m (m .square) (occupied-in b (m .square) m (w .1) refl)
+          (subst (λ (z : ℕ). T (goesTo (occupied b) m z)) (sym (e ∙ q)) (and-right (own && at) hit (w .2))));
+      on = subst (λ (z : ℕ). z < 64) e (goes-squares (occupied b) m to (and-right (own && at) hit (w .2)) .0);
     }
-
-occupied-in : (b : Board) (u : ℕ) (m : Piece) → m ∈ pieces b → u ≡ m .square → T (occupied b u)
-unfolding occupied
-occupied-in b u m i e = any-in (λ n. eqb u (n .square)) i (subst (λ (z : ℕ). T (eqb u z)) e (eqb-refl u))
 
 occupied-out : (b : Board) (u : ℕ) → T (occupied b u) → (m : Piece) × (m ∈ pieces b) × (u ≡ m .square)
 unfolding occupied

@@ -7,10 +7,9 @@ use lib.Dec.{T, eqb, eqb-refl}
 use borrow.Author.Tests.{eq-eqb, ne-eqb}
 use Rattle.finite.specs.Truth.{and-left, and-right, and-both, fails, refuted, same-test}
 use Rattle.finite.specs.Members.{_∈_, any-in, any-out}
-use Rattle.board.specs.Reach.{reaches}
-use Rattle.board.specs.laws.Blocking.{reaches-fewer, reaches-own}
 use Rattle.rules.specs.declared.Piece.{Piece}
 use Rattle.rules.specs.Rules.{Board, pieces, occupied, attacks, attacked, king, inCheck, stands, goes, carried, carriedPiece, moved, canMove}
+use Rattle.rules.specs.laws.OnBoard.{attacks-fewer, attacks-own}
 use Rattle.position.specs.Over.{strikes, attackedOver, lifted}
 use Rattle.movegen.specs.laws.Carried.{carried-still, piece-before, piece-after, Goer, goer, still-occupied, was-occupied}
 
@@ -30,40 +29,39 @@ module _ (b : Board) (from to : ℕ) (g : Goer b from to) (colour : ℕ) (alone 
   -- an attack after the move was there with the mover lifted
   attack-before : (t : ℕ) → T (attacked (moved b from to) colour t)
       → T (attackedOver (lifted (occupied b) from) b colour t)
-  unfolding attacked attacks attackedOver
+  unfolding attacked attackedOver
   attack-before t h =
       let w = any-out (λ m. eqb (m .colour) colour && attacks (occupied (moved b from to)) m t)
       (pieces (moved b from to)) h in
       let n = w .0 in
       let v = piece-before b from to n (w .1) in
       let own = eqb (n .colour) colour in
-      let hit = reaches (occupied (moved b from to)) (n .kind) (n .square) t in
+      let hit = attacks (occupied (moved b from to)) n t in
       let k = and-left own hit (w .2) in
       let e : n ≡ v .0 = v .2 ∙ still (v .0) (v .1) (subst (λ (p : Piece). T (eqb (p .colour) colour)) (v .2) k) in
       any-in (strikes (lifted (occupied b) from) colour t) (subst (λ (p : Piece). p ∈ pieces b) (sym e) (v .1))
-      (and-both own (reaches (lifted (occupied b) from) (n .kind) (n .square) t) k
-      (reaches-fewer (occupied (moved b from to)) (lifted (occupied b) from) t (λ u d. still-occupied b from to g u)
-      (n .kind) (n .square) (and-right own hit (w .2))))
+      (and-both own (attacks (lifted (occupied b) from) n t) k
+      (attacks-fewer (occupied (moved b from to)) (lifted (occupied b) from) t (λ u d. still-occupied b from to g u) n
+      (and-right own hit (w .2))))
 
   -- an attack on the target with the mover lifted is there after the move: a piece taken on the target did not attack
   -- it
   attack-after : T (attackedOver (lifted (occupied b) from) b colour to) → T (attacked (moved b from to) colour to)
-  unfolding attacked attacks attackedOver
+  unfolding attacked attackedOver
   attack-after h =
       let w = any-out (strikes (lifted (occupied b) from) colour to) (pieces b) h in
       let m = w .0 in
       let own = eqb (m .colour) colour in
-      let hit = reaches (lifted (occupied b) from) (m .kind) (m .square) to in
+      let hit = attacks (lifted (occupied b) from) m to in
       let k = and-left own hit (w .2) in
       let r = and-right own hit (w .2) in
       let off : m .square ≡ to
-      → ⊥ = λ e. refuted (reaches-own (lifted (occupied b) from) (m .kind) (m .square))
-      (subst (λ (z : ℕ). T (reaches (lifted (occupied b) from) (m .kind) (m .square) z)) (sym e) r) in
+      → ⊥ = λ e. refuted (attacks-own (lifted (occupied b) from) m)
+      (subst (λ (z : ℕ). T (attacks (lifted (occupied b) from) m z)) (sym e) r) in
       any-in (λ m. eqb (m .colour) colour && attacks (occupied (moved b from to)) m to)
       (subst (λ (p : Piece). p ∈ pieces (moved b from to)) (still m (w .1) k) (piece-after b from to m (w .1) off))
-      (and-both own (reaches (occupied (moved b from to)) (m .kind) (m .square) to) k
-      (reaches-fewer (lifted (occupied b) from) (occupied (moved b from to)) to (was-occupied b from to g) (m .kind)
-      (m .square) r))
+      (and-both own (attacks (occupied (moved b from to)) m to) k
+      (attacks-fewer (lifted (occupied b) from) (occupied (moved b from to)) to (was-occupied b from to g) m r))
 
 -- ---- the legal moves of the piece on a square that no piece of the other side shares
 

@@ -36,7 +36,7 @@ no-king m q {kind} {owner} {square} a = go (eqb (q .side) 0)
 module _ {m : Men} {q : Place} {occ kind square free : ℕ} (v : Mover m q occ kind square free) where
   pub mover-stays : Stays m q square
   mover-stays =
-      record { square = v .on; white = v .man .white; black = v .man .black; kings = v .spread .kings }
+      record { square = v .on; white = v .man .white; black = v .man .black; kings = v .spread .kings; pawnless = v .spread .pawnless }
 
   made : (r : ℕ) → r < 2 ^ 64
       → ((t : ℕ) → t < 64 → has r t ≡ (has free t && not (inCheck (moved (boardIn m q) square t) (q .side))))
@@ -80,7 +80,7 @@ module _ {m : Men} {q : Place} {occ kind square free : ℕ} (v : Mover m q occ k
           let up = lifted (occupied b) square in
           let n = neither (has opened t) (has theirs t) z in
           let same = strike-same m q foe (has rest) up (lift-same rest er) in
-          let hit = unparried m q square t foe at (goer b square t (free-goes t l f)) l (sym (set-has _ et t l) ∙ n .1)
+          let hit = unparried m q (v .spread .pawnless) square t foe at (goer b square t (free-goes t l f)) l (sym (set-has _ et t l) ∙ n .1)
           (ap (λ (c : ℕ). stands b c square) es ∙ v .man .alone .foes refl (v .on))
           (sym (same t) ∙ sym (eo t l) ∙ n .0)
           (of-true (sym (same at) ∙ sym (eo at at-on) ∙ h)) in

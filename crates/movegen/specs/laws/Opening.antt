@@ -13,14 +13,15 @@ use Rattle.board.specs.Reach.{line, stepXs, stepYs, stepRanges, stepsOf, lineOf
 use Rattle.board.specs.laws.Blocking.{reaches-fewer}
 use Rattle.board.specs.laws.ReachLaws.{reaches-same}
 use Rattle.rules.specs.declared.Piece.{Piece}
-use Rattle.rules.specs.Rules.{Board, pieceOf, occupied, attacks, attacked, stands, moved}
+use Rattle.rules.specs.Rules.{Board, pieceOf, occupied, attacked, stands, moved}
 use Rattle.position.specs.declared.Men.{Men}
 use Rattle.position.specs.declared.Place.{Place}
-use Rattle.position.specs.Over.{strikes, attackedOver, lifted}
+use Rattle.position.specs.Over.{attackedOver, lifted}
+use Rattle.position.specs.Spread.{Pawnless}
 use Rattle.position.specs.Posed.{boardIn}
 use Rattle.position.specs.Pieces.{ownOn}
-use Rattle.movegen.specs.Places.{firstOf, secondOf, menStrike, squareAfter, placeAfter}
-use Rattle.movegen.specs.laws.Places.{stands-men, attacked-men, place-moved}
+use Rattle.movegen.specs.Places.{firstOf, secondOf, pieceStrikes, menStrike, squareAfter, placeAfter}
+use Rattle.movegen.specs.laws.Places.{stands-men, attacked-men, pawnless-after, place-moved}
 use Rattle.movegen.specs.laws.Carried.{Goer, still-occupied, was-occupied}
 
 -- ---- one line
@@ -75,13 +76,12 @@ module _ (occ occ′ : ℕ → Bool) (s t : ℕ) (others : (u : ℕ) → (u ≡ 
 
 module _ (occ : ℕ → Bool) (foe at square : ℕ) where
   -- a foe who attacks `at` with the piece on `square` lifted attacks one of the two with it there
-  strikes-opened : (x : Piece) → T (strikes (lifted occ square) foe at x)
-      → T (strikes (lifted occ at) foe at x) ⊎ T (strikes (lifted occ at) foe square x)
-  unfolding attacks
+  strikes-opened : (x : Piece) → T (pieceStrikes (lifted occ square) foe at x)
+      → T (pieceStrikes (lifted occ at) foe at x) ⊎ T (pieceStrikes (lifted occ at) foe square x)
   strikes-opened x h =
       let own = eqb (x .colour) foe in
       let hit = reaches (lifted occ square) (x .kind) (x .square) at in
-      let back : (t : ℕ) → T (reaches occ (x .kind) (x .square) t) → T (strikes (lifted occ at) foe t x) =
+      let back : (t : ℕ) → T (reaches occ (x .kind) (x .square) t) → T (pieceStrikes (lifted occ at) foe t x) =
       λ t r. and-both own (reaches (lifted occ at) (x .kind) (x .square) t) (and-left own hit h)
       (reaches-fewer occ (lifted occ at) t (λ u n o. and-left (occ u) (not (eqb u at)) o) (x .kind) (x .square) r) in
       ⊎-elim (λ a. inl (back at a)) (λ b. inr (back square b))
@@ -89,10 +89,10 @@ module _ (occ : ℕ → Bool) (foe at square : ℕ) where
       (λ u n o. and-both (occ u) (not (eqb u square)) o (not-T (eqb u square) (λ e. n (eqb→eq u square e))))
       (x .kind) (x .square) (and-right own hit h))
 
-  unpinned : (x : Piece) → strikes (lifted occ at) foe at x ≡ false → strikes (lifted occ at) foe square x ≡ false
-      → strikes (lifted occ square) foe at x ≡ false
+  unpinned : (x : Piece) → pieceStrikes (lifted occ at) foe at x ≡ false → pieceStrikes (lifted occ at) foe square x ≡ false
+      → pieceStrikes (lifted occ square) foe at x ≡ false
   unpinned x e f =
-      fails (strikes (lifted occ square) foe at x) (λ h. ⊎-elim (λ a. refuted e a) (λ b. refuted f b) (strikes-opened x h))
+      fails (pieceStrikes (lifted occ square) foe at x) (λ h. ⊎-elim (λ a. refuted e a) (λ b. refuted f b) (strikes-opened x h))
 
 pub neither : (a b : Bool) → (a || b) ≡ false → (a ≡ false) × (b ≡ false)
 neither true b e = absurd (refuted e tt)
@@ -102,7 +102,6 @@ module _ (m : Men) (q : Place) (foe : ℕ) where
   -- only what stands on the board counts
   pub strike-same : (occ occ′ : ℕ → Bool) → ((u : ℕ) → u < 64 → occ u ≡ occ′ u) → (t : ℕ)
       → menStrike m q occ foe t ≡ menStrike m q occ′ foe t
-  unfolding attacks
   strike-same occ occ′ same t =
       rw (
         reaches-same occ occ′ same (m .first) (q .first) t,
@@ -115,8 +114,8 @@ module _ (m : Men) (q : Place) (foe : ℕ) where
   men-unpinned occ at square e f =
       let first = firstOf m q in
       let second = secondOf m q in
-      let a = neither (strikes (lifted occ at) foe at first) (strikes (lifted occ at) foe at second) e in
-      let b = neither (strikes (lifted occ at) foe square first) (strikes (lifted occ at) foe square second) f in
+      let a = neither (pieceStrikes (lifted occ at) foe at first) (pieceStrikes (lifted occ at) foe at second) e in
+      let b = neither (pieceStrikes (lifted occ at) foe square first) (pieceStrikes (lifted occ at) foe square second) f in
       ap₂ _||_ (unpinned occ foe at square first (a .0) (b .0)) (unpinned occ foe at square second (a .1) (b .1))
 
 -- ---- checks: b is a board, `from` a square that no foe shares, and the piece there may go to t
@@ -125,10 +124,9 @@ module _ (b : Board) (from t : ℕ) (g : Goer b from t) (foe at : ℕ) where
   -- a foe who attacks `at` with the mover lifted, and does not attack the target, attacks `at` after the move
   strikes-on : (kind owner s : ℕ) → ownOn foe t (pieceOf kind owner s) ≡ false
       → ownOn foe from (pieceOf kind owner s) ≡ false
-      → strikes (lifted (occupied b) from) foe t (pieceOf kind owner s) ≡ false
-      → T (strikes (lifted (occupied b) from) foe at (pieceOf kind owner s))
-      → T (strikes (occupied (moved b from t)) foe at (pieceOf kind owner (squareAfter from t s)))
-  unfolding attacks
+      → pieceStrikes (lifted (occupied b) from) foe t (pieceOf kind owner s) ≡ false
+      → T (pieceStrikes (lifted (occupied b) from) foe at (pieceOf kind owner s))
+      → T (pieceStrikes (occupied (moved b from t)) foe at (pieceOf kind owner (squareAfter from t s)))
   strikes-on kind owner s et ef miss h =
       let own = eqb owner foe in
       let o = and-left own (reaches (lifted (occupied b) from) kind s at) h in
@@ -147,13 +145,13 @@ module _ (b : Board) (from t : ℕ) (g : Goer b from t) (foe at : ℕ) where
 
 -- whoever of the men gives check with the mover lifted gives check after the move, unless he attacks the target or
 -- stands there
-pub unparried : (m : Men) (q : Place) (from t foe at : ℕ) → Goer (boardIn m q) from t → t < 64
+pub unparried : (m : Men) (q : Place) → Pawnless m q → (from t foe at : ℕ) → Goer (boardIn m q) from t → t < 64
     → stands (boardIn m q) foe t ≡ false → stands (boardIn m q) foe from ≡ false
     → menStrike m q (lifted (occupied (boardIn m q)) from) foe t ≡ false
     → T (menStrike m q (lifted (occupied (boardIn m q)) from) foe at)
     → T (attacked (moved (boardIn m q) from t) foe at)
 unfolding attacked attackedOver placeAfter
-unparried m q from t foe at g l et ef miss h =
+unparried m q none from t foe at g l et ef miss h =
     let b = boardIn m q in
     let now = occupied (moved b from t) in
     let up = lifted (occupied b) from in
@@ -162,17 +160,17 @@ unparried m q from t foe at g l et ef miss h =
     (ownOn foe t (firstOf m q)) (ownOn foe t (secondOf m q)) (sym (stands-men m q foe t l) ∙ et) in
     let off = last (ownOn foe from (pieceOf 5 0 (q .white))) (ownOn foe from (pieceOf 5 1 (q .black)))
     (ownOn foe from (firstOf m q)) (ownOn foe from (secondOf m q)) (sym (stands-men m q foe from (g .on)) ∙ ef) in
-    let out = neither (strikes up foe t (firstOf m q)) (strikes up foe t (secondOf m q)) miss in
-    let a = strikes now foe at (firstOf m q′) in
-    let c = strikes now foe at (secondOf m q′) in
+    let out = neither (pieceStrikes up foe t (firstOf m q)) (pieceStrikes up foe t (secondOf m q)) miss in
+    let a = pieceStrikes now foe at (firstOf m q′) in
+    let c = pieceStrikes now foe at (secondOf m q′) in
     subst (λ (x : Board). T (attackedOver now x foe at)) (place-moved from t (g .on) l m q)
-    (subst⁻¹ T (attacked-men m q′ now foe at)
-    (or-right (strikes now foe at (pieceOf 5 0 (q′ .white))) (strikes now foe at (pieceOf 5 1 (q′ .black)) || (a || c))
-    (or-right (strikes now foe at (pieceOf 5 1 (q′ .black))) (a || c)
+    (subst⁻¹ T (attacked-men m q′ (pawnless-after from t (g .on) l m q none) now foe at)
+    (or-right (pieceStrikes now foe at (pieceOf 5 0 (q′ .white))) (pieceStrikes now foe at (pieceOf 5 1 (q′ .black)) || (a || c))
+    (or-right (pieceStrikes now foe at (pieceOf 5 1 (q′ .black))) (a || c)
     (⊎-elim
     (λ x. or-left a c (strikes-on b from t g foe at (m .first) 0 (q .first) (on .0) (off .0) (out .0) x))
     (λ x. or-right a c (strikes-on b from t g foe at (m .second) (m .colour) (q .second) (on .1) (off .1) (out .1) x))
-    (or-cases (strikes up foe at (firstOf m q)) (strikes up foe at (secondOf m q)) h)))))
+    (or-cases (pieceStrikes up foe at (firstOf m q)) (pieceStrikes up foe at (secondOf m q)) h)))))
   where
     last : (w k x y : Bool) → (w || (k || (x || y))) ≡ false → (x ≡ false) × (y ≡ false)
     last w k x y e = neither x y (neither k (x || y) (neither w (k || (x || y)) e .1) .1)

@@ -6,7 +6,7 @@ use Prim.Native.Nat.{ℕ, zero, suc, _-_, _^_, _<_, _≤_}
 use native.Mathlib.Omega.{arith}
 use lib.Dec.{leb, eqb}
 use lib.Bits.{bitOr, or-lt}
-use borrow.Author.Tests.{leb-true, leb-false, lt-leb, ne-eqb}
+use borrow.Author.Tests.{leb-true, leb-false, lt-leb, ne-eqb, eqb-true}
 use Rattle.finite.specs.Truth.{eqb-sym}
 use Rattle.finite.specs.Members.{any}
 use Rattle.finite.specs.Tests.{any-append}
@@ -15,7 +15,10 @@ use Rattle.board.specs.Sets.{setOf}
 use Rattle.board.specs.laws.ReachLaws.{reaches-off}
 use Rattle.board.specs.laws.SetLaws.{set-is, set-has, has-or}
 use Rattle.rules.specs.declared.Piece.{Piece}
+use Rattle.rules.specs.Pawn.{pawn}
 use Rattle.rules.specs.Rules.{pieceOf, pieces, occupied, attacks, stands, goesTo, carried, moved}
+use Rattle.rules.specs.laws.CanMove.{goes-piece, attacks-piece}
+use Rattle.rules.specs.laws.OnBoard.{attacks-off, goesTo-off}
 use Rattle.position.specs.declared.Slot.{Slot}
 use Rattle.position.specs.declared.Slot.the-variants.{Absent, Present}
 use Rattle.position.specs.declared.Position.{Position}
@@ -25,9 +28,10 @@ use Rattle.position.specs.Keyed.{slotMen, boardOf}
 use Rattle.position.specs.Over.{strikes, attackedOver, goesFrom, goesOver}
 use Rattle.position.specs.Pieces.{ownOn, standsOn}
 use Rattle.position.specs.Posed.{slotAt, posed, boardIn}
+use Rattle.position.specs.Spread.{Pawnless}
 use Rattle.position.specs.laws.Pieces.{union-lt}
 use Rattle.movegen.specs.After.{slotAfter, after}
-use Rattle.movegen.specs.Places.{firstOf, secondOf, menStrike, squareAfter, placeAfter}
+use Rattle.movegen.specs.Places.{firstOf, secondOf, pieceStrikes, menStrike, squareAfter, placeAfter}
 use Rattle.movegen.specs.laws.Making.{after-moved}
 
 -- ---- a test that nobody off the board passes
@@ -55,6 +59,31 @@ module _ (f : Piece → Bool) (none : (kind colour square : ℕ) → 64 ≤ squa
         slot-any (m .second) (m .colour) (q .second),
       )
 
+-- ---- a piece that is no pawn on the board
+
+module _ (occ : ℕ → Bool) (t : ℕ) (a : Piece) (out : a .kind ≡ 4 → 64 ≤ a .square) where
+  piece-attacks : attacks occ a t ≡ reaches occ (a .kind) (a .square) t
+  piece-attacks = go (pawn a) refl
+    where
+      go : (x : Bool) → pawn a ≡ x → attacks occ a t ≡ reaches occ (a .kind) (a .square) t
+      go true e =
+          let off = out (eqb-true (a .kind) 4 e) in
+          attacks-off occ a t (inl off) ∙ sym (reaches-off occ (a .kind) (a .square) t (inl off))
+      go false e = attacks-piece occ a t e
+
+  pub piece-goes : goesTo occ a t ≡ reaches occ (a .kind) (a .square) t
+  piece-goes = go (pawn a) refl
+    where
+      go : (x : Bool) → pawn a ≡ x → goesTo occ a t ≡ reaches occ (a .kind) (a .square) t
+      go true e =
+          let off = out (eqb-true (a .kind) 4 e) in
+          goesTo-off occ a t (inl off) ∙ sym (reaches-off occ (a .kind) (a .square) t (inl off))
+      go false e = goes-piece occ a t e
+
+piece-strikes : (occ : ℕ → Bool) (colour t : ℕ) (a : Piece) → (a .kind ≡ 4 → 64 ≤ a .square)
+    → strikes occ colour t a ≡ pieceStrikes occ colour t a
+piece-strikes occ colour t a out = ap (λ (x : Bool). eqb (a .colour) colour && x) (piece-attacks occ t a out)
+
 module _ (m : Men) (q : Place) where
   pub occupied-men : (t : ℕ) → t < 64
       → occupied (boardIn m q) t
@@ -70,29 +99,33 @@ module _ (m : Men) (q : Place) where
   stands-men colour t h =
       any-men (ownOn colour t) (λ k c s l. rw (ne-eqb s t (λ e. omega arith)) (and-false (eqb c colour))) m q
 
-  pub attacked-men : (occ : ℕ → Bool) (colour t : ℕ)
+  pub attacked-men : Pawnless m q → (occ : ℕ → Bool) (colour t : ℕ)
       → attackedOver occ (boardIn m q) colour t
-      ≡ (strikes occ colour t (pieceOf 5 0 (q .white)) || (strikes occ colour t (pieceOf 5 1 (q .black))
+      ≡ (pieceStrikes occ colour t (pieceOf 5 0 (q .white)) || (pieceStrikes occ colour t (pieceOf 5 1 (q .black))
       || menStrike m q occ colour t))
-  unfolding attackedOver attacks
-  attacked-men occ colour t =
-      any-men (strikes occ colour t) (λ k c s l. rw (reaches-off occ k s t (inl l)) (and-false (eqb c colour))) m q
+  unfolding attackedOver
+  attacked-men p occ colour t =
+      any-men (strikes occ colour t)
+      (λ k c s l. rw (attacks-off occ (pieceOf k c s) t (inl l)) (and-false (eqb c colour))) m q
+      ∙ ap₂ _||_ (piece-strikes occ colour t (pieceOf 5 0 (q .white)) (λ e. absurd (omega arith)))
+      (ap₂ _||_ (piece-strikes occ colour t (pieceOf 5 1 (q .black)) (λ e. absurd (omega arith)))
+      (ap₂ _||_ (piece-strikes occ colour t (firstOf m q) (p .first))
+      (piece-strikes occ colour t (secondOf m q) (p .second))))
 
   pub goes-men : (occ : ℕ → Bool) (from t : ℕ)
       → goesOver occ (boardIn m q) from t
       ≡ (goesFrom occ (q .side) from t (pieceOf 5 0 (q .white))
       || (goesFrom occ (q .side) from t (pieceOf 5 1 (q .black))
       || (goesFrom occ (q .side) from t (firstOf m q) || goesFrom occ (q .side) from t (secondOf m q))))
-  unfolding goesOver goesTo boardOf posed
+  unfolding goesOver boardOf posed
   goes-men occ from t =
       any-men (goesFrom occ (q .side) from t)
-      (λ k c s l. rw (reaches-off occ k s t (inl l)) (and-false (eqb c (q .side) && eqb s from))) m q
+      (λ k c s l. rw (goesTo-off occ (pieceOf k c s) t (inl l)) (and-false (eqb c (q .side) && eqb s from))) m q
 
 -- ---- a man by his square: off the board if he is not of the side asked for
 
 module _ (occ : ℕ → Bool) (colour t kind owner square : ℕ) where
-  strike-if : reaches occ kind (cond (eqb owner colour) square 64) t ≡ strikes occ colour t (pieceOf kind owner square)
-  unfolding attacks
+  strike-if : reaches occ kind (cond (eqb owner colour) square 64) t ≡ pieceStrikes occ colour t (pieceOf kind owner square)
   strike-if = go (eqb owner colour)
     where
       go : (x : Bool) → reaches occ kind (cond x square 64) t ≡ (x && reaches occ kind square t)
@@ -100,7 +133,7 @@ module _ (occ : ℕ → Bool) (colour t kind owner square : ℕ) where
       go false = reaches-off occ kind 64 t (inl (omega arith))
 
   pub struck : (at : ℕ) (x : Bool) → at ≡ cond (eqb owner colour) square 64 → x ≡ reaches occ kind at t
-      → x ≡ strikes occ colour t (pieceOf kind owner square)
+      → x ≡ pieceStrikes occ colour t (pieceOf kind owner square)
   struck at x e h = h ∙ ap (λ (s : ℕ). reaches occ kind s t) e ∙ strike-if
 
 own-if : (colour t kind owner square : ℕ) → t < 64
@@ -200,6 +233,15 @@ module _ (from to : ℕ) (lf : from < 64) (lt : to < 64) where
         first = f;
         second = s;
       }) (slot-moved (m .first) 0 (q .first)) (slot-moved (m .second) (m .colour) (q .second))
+
+  -- no man becomes a pawn
+  pub pawnless-after : (m : Men) (q : Place) → Pawnless m q → Pawnless m (placeAfter q from to)
+  unfolding placeAfter
+  pawnless-after m q p =
+      record { first = λ e. off (q .first) (p .first e); second = λ e. off (q .second) (p .second e) }
+    where
+      off : (s : ℕ) → 64 ≤ s → 64 ≤ squareAfter from to s
+      off s l = rw (ne-eqb s to (λ e. omega arith), ne-eqb s from (λ e. omega arith)) l
 
   pub place-moved : (m : Men) (q : Place) → boardIn m (placeAfter q from to) ≡ moved (boardIn m q) from to
   place-moved m q = ap (λ (p : Position). boardOf p) (place-posed m q) ∙ after-moved from to (posed m q)

@@ -55,7 +55,7 @@ module _ (m : Men) (q : Place) (w : Spread m q) (occ own : ℕ) (eo : occ ≡ se
           by-freedom (posed m q) square occ reach own free eo goes-reach em ef foe (setOf (stands (boardIn m q) foe))
           rest es refl no-foe el at ek n
           (ap₂ (attackedOver (has rest) (boardIn m q)) es ek
-          ∙ attacked-king m q (w .kings) (has rest) (q .side)
+          ∙ attacked-king m q (w .pawnless) (w .kings) (has rest) (q .side)
           ∙ sym (ap₂ (menStrike m q (has rest)) es ek) ∙ z)
           fl
 
@@ -70,7 +70,7 @@ module _ (m : Men) (q : Place) (w : Spread m q) (occ own : ℕ) (eo : occ ≡ se
           by-attacked (posed m q) square occ reach own free eo goes-reach em ef foe
           (setOf (stands (boardIn m q) foe)) rest es refl no-foe el square (bitOr near strike) r ek refl
           (λ t h. has-or near strike t ∙ ap₂ _||_ (en t h) (et t h)
-          ∙ sym (attacked-split m q (has rest) foe (omega (arith, w .side)) t))
+          ∙ sym (attacked-split m q (w .pawnless) (has rest) foe (omega (arith, w .side)) t))
           er′
 
 -- the king's square

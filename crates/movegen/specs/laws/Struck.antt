@@ -9,24 +9,25 @@ use Rattle.board.specs.Sets.{has, setOf}
 use Rattle.board.specs.laws.ReachLaws.{king-reaches}
 use Rattle.board.specs.laws.SetLaws.{set-has}
 use Rattle.symmetry.specs.laws.Opposite.{reaches-sym}
-use Rattle.rules.specs.Rules.{Board, occupied, attacks, king, touching, inCheck, attacked, moved}
+use Rattle.rules.specs.Rules.{Board, occupied, king, touching, inCheck, attacked, moved}
 use Rattle.position.specs.declared.Men.{Men}
 use Rattle.position.specs.declared.Place.{Place}
 use Rattle.position.specs.Keyed.{boardOf}
 use Rattle.position.specs.Over.{attackedOver}
 use Rattle.position.specs.Posed.{posed, boardIn}
+use Rattle.position.specs.Spread.{Pawnless}
 use Rattle.position.specs.laws.Over.{attacked-same}
 use Rattle.movegen.specs.Places.{menStrike, placeAfter}
-use Rattle.movegen.specs.laws.Places.{attacked-men, place-moved}
+use Rattle.movegen.specs.laws.Places.{attacked-men, pawnless-after, place-moved}
 use Rattle.movegen.specs.Reach.{Stays}
 
-module _ (m : Men) (q : Place) where
+module _ (m : Men) (q : Place) (none : Pawnless m q) where
   pub attacked-split : (occ : ℕ → Bool) (colour : ℕ) → colour < 2 → (t : ℕ)
       → attackedOver occ (boardIn m q) colour t
       ≡ (reaches occ 5 (king (boardIn m q) colour) t || menStrike m q occ colour t)
-  unfolding boardOf posed attacks
-  attacked-split occ zero l t = attacked-men m q occ zero t
-  attacked-split occ (suc zero) l t = attacked-men m q occ 1 t
+  unfolding boardOf posed
+  attacked-split occ zero l t = attacked-men m q none occ zero t
+  attacked-split occ (suc zero) l t = attacked-men m q none occ 1 t
   attacked-split occ (suc (suc n)) l t = absurd (omega arith)
 
   module _ (apart : touching (boardIn m q) ≡ false) where
@@ -64,10 +65,11 @@ still-apart m q from t s = rw (ne-eqb (q .white) from (s .white), ne-eqb (q .bla
 -- check after a man's move, found on the place after it
 pub check-placed : (m : Men) (q made : Place) (from t : ℕ) (found : Bool) → Stays m q from → t < 64
     → made ≡ placeAfter q from t
-    → (touching (boardIn m made) ≡ false → found ≡ inCheck (boardIn m made) (q .side))
+    → (Pawnless m made → touching (boardIn m made) ≡ false → found ≡ inCheck (boardIn m made) (q .side))
     → not (inCheck (moved (boardIn m q) from t) (q .side)) ≡ not found
 check-placed m q made from t found s l e h =
     sym (ap not
-    (h (subst⁻¹ (λ (p : Place). touching (boardIn m p) ≡ false) e (still-apart m q from t s))
+    (h (subst⁻¹ (Pawnless m) e (pawnless-after from t (s .square) l m q (s .pawnless)))
+    (subst⁻¹ (λ (p : Place). touching (boardIn m p) ≡ false) e (still-apart m q from t s))
     ∙ ap (λ (p : Place). inCheck (boardIn m p) (q .side)) e
     ∙ ap (λ (b : Board). inCheck b (q .side)) (place-moved from t (s .square) l m q)))

@@ -10,6 +10,8 @@ use Rattle.finite.specs.Members.{_∈_}
 use Rattle.rules.specs.declared.Move.{Move}
 use Rattle.rules.specs.Rules.{Board, empty, legal, canMove, moved, moves}
 use Rattle.rules.specs.Chess.{in-moves, of-moves}
+use Rattle.rules.specs.laws.Legal.{legal-pawnless}
+use Rattle.rules.specs.laws.MoveLists.{none-promotes}
 use Rattle.rules.specs.laws.Closed.{closed}
 use Rattle.rules.specs.laws.Changed.{board-eq}
 use Rattle.position.specs.declared.Slot.{Slot}
@@ -76,7 +78,8 @@ module _ (p : Position) (from to : ℕ) where
       let e = after-board p from to in
       record {
         stood = z;
-        listed = in-moves (boardOf p) from to (some-men p z) t;
+        listed = in-moves (boardOf p) from to (some-men p z) t
+            (none-promotes (boardOf p) from to (legal-pawnless (boardOf p) (s .0)));
         board = e;
         legal-after = subst (λ (b : Board). T (legal b)) (sym e) (closed (boardOf p) from to (s .0) t);
       }

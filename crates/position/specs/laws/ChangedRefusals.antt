@@ -4,15 +4,15 @@ use mathlib.Core.Path.{_≡_, refl, sym, ap, ap₂, _∙_}
 use mathlib.Core.Bool.{Bool, true, false, cond, not, xor, _||_}
 use Prim.Native.Nat.{_-_, _<_}
 use native.Mathlib.Omega.{arith}
-use lib.Dec.{ltb, eqb}
+use lib.Dec.{T, ltb, eqb}
 use borrow.Author.Tests.{eqb-true}
 use Rattle.finite.specs.Members.{all}
 use Rattle.symmetry.specs.Symmetry.{Symmetry}
 use Rattle.symmetry.specs.laws.SymmetryLaws.{ltb-mapped, nothing-then}
 use Rattle.rules.specs.Rules.{Board, pieces, apart, touching, inCheck}
-use Rattle.rules.specs.Changed.{changed}
+use Rattle.rules.specs.Changed.{changed, fits}
 use Rattle.rules.specs.laws.Changed.{ltb-swapped, across, changed-composed}
-use Rattle.rules.specs.laws.ChangedRules.{all-map, all-pieces, apart-changed, touching-changed, check-changed}
+use Rattle.rules.specs.laws.ChangedRules.{all-map, all-pieces, apart-changed, touching-changed, check-changed, pawnless-fits}
 use Rattle.numbering.specs.KingMaps.{swapping}
 use Rattle.position.specs.declared.Slot.{Slot}
 use Rattle.position.specs.declared.Slot.the-variants.{Absent, Present}
@@ -22,6 +22,7 @@ use Rattle.position.specs.Refusals.{badMen, badMan, badSide, badSquare, 
 use Rattle.position.specs.Maps.{mappedSlot, mappedPosition, changedPosition}
 use Rattle.position.specs.Owned.{recolouredSlot, recoloured}
 use Rattle.position.specs.laws.SlotLaws.{leb-not}
+use Rattle.position.specs.laws.Legality.{man-pawnless}
 use Rattle.position.specs.laws.MapLaws.{map-board}
 use Rattle.position.specs.laws.OwnerLaws.{recoloured-board}
 use Rattle.position.specs.laws.PlacedLaws.{placed-facts}
@@ -90,13 +91,13 @@ module _ (m : Symmetry) (x : Bool) (p : Position) where
   touch-changed : kingsTouch q ≡ kingsTouch p
   touch-changed = ap touching board ∙ touching-changed m x (boardOf p)
 
-  other-changed : boardOf p .side < 2 → otherInCheck q ≡ otherInCheck p
+  other-changed : T (fits m x (boardOf p)) → boardOf p .side < 2 → otherInCheck q ≡ otherInCheck p
   unfolding changed
-  other-changed h =
+  other-changed k h =
       check-by q
       ∙ ap (λ (b : Board). inCheck b (1 - b .side)) board
       ∙ ap (inCheck (changed m x (boardOf p))) (across x (boardOf p .side) h)
-      ∙ check-changed m x (boardOf p) (1 - boardOf p .side) (omega arith) ∙ sym (check-by p)
+      ∙ check-changed m x (boardOf p) k (1 - boardOf p .side) (omega arith) ∙ sym (check-by p)
 
   placing-changed : placingRefusal q ≡ placingRefusal p
   unfolding placingRefusal
@@ -109,6 +110,8 @@ module _ (m : Symmetry) (x : Bool) (p : Position) where
       go : (a : Bool) → eqb (placingRefusal p) 0 ≡ a
           → cond a (cond (otherInCheck q) 6 0) (placingRefusal p)
           ≡ cond a (cond (otherInCheck p) 6 0) (placingRefusal p)
-      go true e = ap (λ (c : Bool). cond c 6 0)
-          (other-changed (unfold boardOf in placed-facts p (eqb-true (placingRefusal p) 0 e) .side))
+      go true e =
+          let w = placed-facts p (eqb-true (placingRefusal p) 0 e) in
+          ap (λ (c : Bool). cond c 6 0)
+          (other-changed (pawnless-fits m x (boardOf p) (man-pawnless p (w .men))) (unfold boardOf in w .side))
       go false e = refl

@@ -3,11 +3,13 @@ use mathlib.Core.Path.{_≡_, refl, sym, ap, _∙_}
 use mathlib.Core.Bool.{Bool, true, false, cond, not, _&&_, _||_}
 use mathlib.Core.List.{[], _∷_, _++_}
 use Prim.Native.Nat.{ℕ, _-_}
+use native.Mathlib.Omega.{arith}
 use lib.Dec.{T, leb, ltb, eqb}
-use borrow.Author.Tests.{lt-ltb, leb-false, eq-eqb}
-use Rattle.finite.specs.Truth.{and-left, and-right, true-of, of-true, false-of, refuted}
+use borrow.Author.Tests.{lt-ltb, leb-false, eq-eqb, ne-eqb}
+use Rattle.finite.specs.Truth.{and-left, and-right, and-both, true-of, of-true, false-of, refuted}
 use Rattle.finite.specs.Members.{all}
-use Rattle.rules.specs.Rules.{pieceOf, pieces, known, touching, inCheck, apart, legal}
+use Rattle.rules.specs.Pawn.{pawn}
+use Rattle.rules.specs.Rules.{pieceOf, pieces, known, touching, inCheck, apart, legalOf, legal}
 use Rattle.rules.specs.laws.Legal.{legal-facts}
 use Rattle.position.specs.declared.Slot.{Slot}
 use Rattle.position.specs.declared.Slot.the-variants.{Absent, Present}
@@ -38,6 +40,20 @@ slots-known Absent s e = absurd (refuted e tt)
 slots-known (Present m) (Present n) e = absurd (refuted e tt)
 slots-known (Present m) Absent e = rw (lt-ltb (m .kind) 4 (leb-false 4 (m .kind) e))
 
+-- none of them is a pawn
+kind-pawnless : (k : ℕ) → leb 4 k ≡ false → T (not (eqb k 4))
+kind-pawnless k e = let h = leb-false 4 k e in rw (ne-eqb k 4 (λ q. omega arith)) tt
+
+slots-pawnless : (f s : Slot) → badMen f s ≡ false → T (all (λ a. not (pawn a)) (slotMen f ++ slotMen s))
+unfolding all
+slots-pawnless Absent s e = absurd (refuted e tt)
+slots-pawnless (Present m) (Present n) e = absurd (refuted e tt)
+slots-pawnless (Present m) Absent e = and-both (not (pawn m)) true (kind-pawnless (m .kind) e) tt
+
+pub man-pawnless : (p : Position) → badMan p ≡ false → T (all (λ a. not (pawn a)) (boardOf p .men))
+unfolding boardOf
+man-pawnless p e = slots-pawnless (p .first) (p .second) e
+
 -- ---- the chain, over the tests: men, side, colours, squares on the board, apart, touching kings, check
 
 unfoldable pub chain : Bool → Bool → Bool → Bool → Bool → Bool → ℕ
@@ -62,7 +78,7 @@ agree false s k h q a t c e = rw (e refl) (rest s h q a t c)
     rest true true true true false false = refl
 
 pub legal-standing : (p : Position) → (not (badMan p) && legal (boardOf p)) ≡ eqb (standingRefusal p) 0
-unfolding legal standingRefusal placingRefusal badSide badSquare sharedSquare boardOf chain
+unfolding legalOf standingRefusal placingRefusal badSide badSquare sharedSquare boardOf chain
 legal-standing p =
     rw (leb-not 2 (p .side))
     (agree (badMan p) (ltb (p .side) 2) (all known (boardOf p .men)) (all (λ m. ltb (m .colour) 2) (boardOf p .men))

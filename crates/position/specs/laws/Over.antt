@@ -5,25 +5,25 @@ use Prim.Native.Nat.{ℕ, _<_}
 use lib.Dec.{eqb}
 use borrow.Author.Tests.{eq-eqb, ne-eqb}
 use Rattle.finite.specs.Members.{any-same}
-use Rattle.board.specs.laws.ReachLaws.{reaches-same}
 use Rattle.rules.specs.declared.Piece.{Piece}
-use Rattle.rules.specs.Rules.{Board, pieces, attacks, goesTo}
+use Rattle.rules.specs.Rules.{Board, pieces, goesTo}
+use Rattle.rules.specs.laws.OnBoard.{attacks-same, goesTo-same}
 use Rattle.position.specs.Over.{attackedOver, goesFrom, goesOver, strikes}
 
 -- only what stands on the board counts
 module _ (occ occ′ : ℕ → Bool) (same : (u : ℕ) → u < 64 → occ u ≡ occ′ u) (b : Board) where
   pub attacked-same : (colour t : ℕ) → attackedOver occ b colour t ≡ attackedOver occ′ b colour t
-  unfolding attackedOver attacks
+  unfolding attackedOver
   attacked-same colour t =
       any-same (strikes occ colour t) (strikes occ′ colour t) (pieces b)
-      (λ m i. ap (λ (r : Bool). eqb (m .colour) colour && r) (reaches-same occ occ′ same (m .kind) (m .square) t))
+      (λ m i. ap (λ (r : Bool). eqb (m .colour) colour && r) (attacks-same occ occ′ same m t))
 
   pub goes-same : (from t : ℕ) → goesOver occ b from t ≡ goesOver occ′ b from t
-  unfolding goesOver goesTo
+  unfolding goesOver
   goes-same from t =
       any-same (goesFrom occ (b .side) from t) (goesFrom occ′ (b .side) from t) (pieces b)
       (λ m i. ap (λ (r : Bool). eqb (m .colour) (b .side) && eqb (m .square) from && r)
-      (reaches-same occ occ′ same (m .kind) (m .square) t))
+      (goesTo-same occ occ′ same m t))
 
 -- ---- where a piece may go, by what it is found to be
 

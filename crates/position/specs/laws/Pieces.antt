@@ -12,9 +12,9 @@ use Rattle.finite.specs.Members.{any}
 use Rattle.finite.specs.Tests.{any-append}
 use Rattle.board.specs.Sets.{has}
 use Rattle.board.specs.laws.SetLaws.{has-or}
-use Rattle.board.specs.laws.ReachLaws.{reaches-off}
 use Rattle.rules.specs.declared.Piece.{Piece}
-use Rattle.rules.specs.Rules.{pieces, occupied, attacks, stands, goesTo}
+use Rattle.rules.specs.Rules.{pieces, occupied, stands}
+use Rattle.rules.specs.laws.OnBoard.{attacks-off, goesTo-off}
 use Rattle.position.specs.declared.Slot.{Slot}
 use Rattle.position.specs.declared.Slot.the-variants.{Absent, Present}
 use Rattle.position.specs.declared.Position.{Position}
@@ -39,10 +39,6 @@ module _ (f : Piece → Bool) (none : f nobody ≡ false) where
 
 -- ---- the rules, piece by piece
 
-nobody-reaches : (occ : ℕ → Bool) (t : ℕ) → attacks occ nobody t ≡ false
-unfolding attacks
-nobody-reaches occ t = reaches-off occ 4 64 t (inl (omega arith))
-
 module _ (p : Position) (a : Pieces) (e : a ≡ piecesOf p) where
   pub occupied-four : (t : ℕ) → t < 64 → occupied (boardOf p) t ≡ anyPiece (standsOn t) a
   unfolding occupied
@@ -57,14 +53,14 @@ module _ (p : Position) (a : Pieces) (e : a ≡ piecesOf p) where
       → attackedOver occ (boardOf p) colour t ≡ anyPiece (strikes occ colour t) a
   unfolding attackedOver
   attacked-four occ colour t =
-      any-four (strikes occ colour t) (rw (nobody-reaches occ t) (and-false (eqb 0 colour))) p a e
+      any-four (strikes occ colour t) (rw (attacks-off occ nobody t (inl (omega arith))) (and-false (eqb 0 colour))) p a e
 
   pub goes-four : (occ : ℕ → Bool) (from t : ℕ)
       → goesOver occ (boardOf p) from t ≡ anyPiece (goesFrom occ (p .side) from t) a
-  unfolding goesOver goesTo boardOf
+  unfolding goesOver boardOf
   goes-four occ from t =
       any-four (goesFrom occ (p .side) from t)
-      (rw (reaches-off occ 4 64 t (inl (omega arith))) (and-false (eqb 0 (p .side) && eqb 64 from))) p a e
+      (rw (goesTo-off occ nobody t (inl (omega arith))) (and-false (eqb 0 (p .side) && eqb 64 from))) p a e
 
 -- ---- sets gathered piece by piece
 

@@ -1,11 +1,12 @@
 -- An ending's men on a place that 1 to 5 do not refuse, byte by byte.
 use mathlib.Core.Path.{_≡_, refl, _∙_}
 use mathlib.Core.Bool.{Bool, true, false, cond, _||_}
-use Prim.Native.Nat.{ℕ, _<_}
+use mathlib.Core.Logic.{⊎-elim}
+use Prim.Native.Nat.{ℕ, _≤_, _<_}
 use native.Mathlib.Omega.{arith}
 use lib.Dec.{leb, eqb}
 use borrow.Author.Tests.{leb-true, leb-false, eqb-false}
-use Rattle.finite.specs.Truth.{refuted}
+use Rattle.finite.specs.Truth.{refuted, le-or-lt}
 use Rattle.finite.specs.Members.{all}
 use Rattle.rules.specs.Rules.{pieceOf}
 use Rattle.numbering.specs.laws.ChangeLaws.{coloured}
@@ -32,6 +33,30 @@ there kind colour square s e = go (leb 64 square) refl e
         → square < 64
     go true h e = absurd (refuted e tt)
     go false h e = leb-false 64 square h
+
+-- and no pawn
+no-pawn : (kind square : ℕ) → (square < 64 → leb 4 kind ≡ false) → kind ≡ 4 → 64 ≤ square
+no-pawn kind square h e =
+    ⊎-elim (λ l. l) (λ l. absurd (omega (arith, leb-false 4 kind (h l)))) (le-or-lt 64 square)
+
+first-kind : (kind colour square : ℕ) (s : Slot) → badMenOf (slotAt kind colour square) s ≡ false → leb 4 kind ≡ false
+first-kind kind colour square s e = go (leb 64 square) s e
+  where
+    go : (x : Bool) (s : Slot) → badMenOf (cond x Absent (Present (pieceOf kind colour square))) s ≡ false
+        → leb 4 kind ≡ false
+    go true s e = absurd (refuted e tt)
+    go false Absent e = e
+    go false (Present n) e = neither (leb 4 kind) (leb 4 (n .kind)) e .0
+
+second-kind : (f : Slot) (kind colour square : ℕ) → badMenOf f (slotAt kind colour square) ≡ false → square < 64
+    → leb 4 kind ≡ false
+second-kind Absent kind colour square e l = absurd (refuted e tt)
+second-kind (Present m) kind colour square e l = go (leb 64 square) refl e
+  where
+    go : (x : Bool) → leb 64 square ≡ x
+        → badMenOf (Present m) (cond x Absent (Present (pieceOf kind colour square))) ≡ false → leb 4 kind ≡ false
+    go true h e = absurd (omega (arith, leb-true 64 square h))
+    go false h e = neither (leb 4 (m .kind)) (leb 4 kind) e .1
 
 -- nobody in the slot stands on this square
 elsewhere : (at kind colour square : ℕ) → at < 64 → slotOn at (slotAt kind colour square) ≡ false → at ≡ square → ⊥
@@ -86,6 +111,10 @@ placed-spread m q z =
       first-second = elsewhere (q .first) (m .second) (m .colour) (q .second) fl
           (unshared (m .first) 0 (q .first) s fl (n .1));
       kings = t .4;
+      pawnless = record {
+        first = no-pawn (m .first) (q .first) (λ l. first-kind (m .first) 0 (q .first) s (t .0));
+        second = no-pawn (m .second) (q .second) (second-kind f (m .second) (m .colour) (q .second) (t .0));
+      };
     }
 
 pub complete-spread : {m : Men} {q : Place} → Complete m q → Spread m q

@@ -17,7 +17,7 @@ use Rattle.rules.specs.declared.Piece.{Piece}
 use Rattle.rules.specs.Rules.{Board, pieceOf, pieces, legal, carried, carriedPiece, left, moved, moves, canMove}
 use Rattle.rules.specs.Changed.{changed, changedPiece}
 use Rattle.rules.specs.Reordered.{crossed, reordered, Few}
-use Rattle.rules.specs.Chess.{chess, played, of-moves, automorphism}
+use Rattle.rules.specs.Chess.{chess, played, of-moves, plain-played, automorphism}
 use Rattle.rules.specs.laws.Legal.{legal-facts}
 use Rattle.rules.specs.laws.CanMove.{can-on}
 use Rattle.rules.specs.laws.ChangedRules.{legal-changed}
@@ -320,7 +320,7 @@ module _ (m : Men) (w : T (known (materialFor m))) (n : ℕ) (h : n < sizeOf (ma
       let v = map-out (played b) c (moves b) i in (
         s,
         few,
-        λ g. free-back b c (v .0 .from) (v .0 .to) (v .2) M own u (same .2 g),
+        λ g. free-back b c (v .0 .from) (v .0 .to) (v .2 ∙ plain-played b (v .0) (few .legality) (v .1)) M own u (same .2 g),
         refl,
       )
 
@@ -376,7 +376,8 @@ module _ (m : Men) (w : T (known (materialFor m))) (n : ℕ) (h : n < sizeOf (ma
       let v = map-out (played o) (changedAs s c) (moves o) leads in
       let can = of-moves o (v .0) (v .1) .1 .can in
       let on = can-on o (v .0 .from) (v .0 .to) can in
-      let r = before q d (v .0 .from) (v .0 .to) (on .0) (on .1) (sym (v .2) ∙ sym (same .3) ∙ sym e) in (
+      let r = before q d (v .0 .from) (v .0 .to) (on .0) (on .1)
+      (sym (v .2 ∙ plain-played o (v .0) legal-o (v .1)) ∙ sym (same .3) ∙ sym e) in (
         r .0,
         v .0 .from,
         v .0 .to,

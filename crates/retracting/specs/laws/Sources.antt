@@ -12,7 +12,7 @@ use Rattle.board.specs.laws.ReachLaws.{reaches-squares}
 use Rattle.board.specs.laws.Blocking.{reaches-own}
 use Rattle.rules.specs.Rules.{Board, pieceOf, occupied, inCheck, legal, stands, goes, carried, moved, canMove}
 use Rattle.rules.specs.laws.Legal.{legal-facts}
-use Rattle.rules.specs.laws.CanMove.{can-facts, can-on}
+use Rattle.rules.specs.laws.CanMove.{can-facts, can-on, reach-piece}
 use Rattle.rules.specs.laws.Closed.{takes-no-king}
 use Rattle.position.specs.declared.Men.{Men}
 use Rattle.position.specs.declared.Place.{Place}
@@ -165,7 +165,8 @@ module _ (m : Men) (q o : Place) (from to : ℕ) (w : Complete m q) (l : Leads m
   moves-on e =
       let c = can-facts (boardIn m o) from to (l .can) in
       refuted (reaches-own (occupied (boardIn m o)) (c .piece .kind) from)
-      (subst⁻¹ (λ (t : ℕ). T (reaches (occupied (boardIn m o)) (c .piece .kind) from t)) e (c .reach))
+      (subst⁻¹ (λ (t : ℕ). T (reaches (occupied (boardIn m o)) (c .piece .kind) from t)) e
+      (reach-piece (boardIn m o) from to (l .legality) c))
 
   pub target-free : Free o to
   target-free =

@@ -14,9 +14,9 @@ use Rattle.board.specs.Reach.{reaches}
 use Rattle.board.specs.laws.ReachLaws.{king-reaches}
 use Rattle.symmetry.specs.laws.Opposite.{reaches-sym}
 use Rattle.rules.specs.declared.Piece.{Piece}
-use Rattle.rules.specs.Rules.{Board, pieces, occupied, attacks, attacked, king, inCheck, known, apart, touching, legal, stands, carried, carriedPiece, left, moved, canMove}
-use Rattle.rules.specs.laws.Legal.{Legal, legal-facts, facts-legal}
-use Rattle.rules.specs.laws.CanMove.{Can, can-facts, can-on}
+use Rattle.rules.specs.Rules.{Board, pieces, occupied, attacks, attacked, king, inCheck, known, apart, touching, legalOf, legal, stands, carried, carriedPiece, left, moved, canMove}
+use Rattle.rules.specs.laws.Legal.{LegalOf, legalOf-facts, legal-facts, facts-legal}
+use Rattle.rules.specs.laws.CanMove.{Can, can-facts, goes-attacks, can-on}
 
 king-stands : (b : Board) (s : ℕ) → s < 2 → T (stands b s (king b s))
 unfolding stands any
@@ -28,14 +28,24 @@ king-stands b (suc zero) h =
     (eqb-refl (b .black))
 king-stands b (suc (suc n)) h = absurd (omega arith)
 
--- the piece that moves attacks its target
-goer-attacks : (b : Board) (from to : ℕ) → Can b from to → T (attacked b (b .side) to)
-unfolding attacked attacks
-goer-attacks b from to c =
-    any-in (λ m. eqb (m .colour) (b .side) && attacks (occupied b) m to) (c .there)
-    (rw (eq-eqb (c .piece .colour) (b .side) (c .own), c .at) (c .reach))
+king-occupies : (b : Board) (s : ℕ) → s < 2 → T (occupied b (king b s))
+unfolding occupied any
+king-occupies b zero h =
+    or-left (eqb (b .white) (b .white)) (eqb (b .white) (b .black) || any (λ m. eqb (b .white) (m .square)) (b .men))
+    (eqb-refl (b .white))
+king-occupies b (suc zero) h =
+    or-right (eqb (b .black) (b .white)) (eqb (b .black) (b .black) || any (λ m. eqb (b .black) (m .square)) (b .men))
+    (or-left (eqb (b .black) (b .black)) (any (λ m. eqb (b .black) (m .square)) (b .men)) (eqb-refl (b .black)))
+king-occupies b (suc (suc n)) h = absurd (omega arith)
 
-module _ (b : Board) (from to : ℕ) (l : Legal b) (c : Can b from to) where
+-- the piece that moves to an occupied square attacks it
+goer-attacks : (b : Board) (from to : ℕ) → Can b from to → T (occupied b to) → T (attacked b (b .side) to)
+unfolding attacked
+goer-attacks b from to c o =
+    any-in (λ m. eqb (m .colour) (b .side) && attacks (occupied b) m to) (c .there)
+    (rw (eq-eqb (c .piece .colour) (b .side) (c .own)) (goes-attacks (occupied b) (c .piece) to o (c .reach)))
+
+module _ (admits : Piece → Bool) (b : Board) (from to : ℕ) (l : LegalOf admits b) (c : Can b from to) where
   no-own-king : king b (b .side) ≡ to → ⊥
   no-own-king e = refuted (c .free) (subst (λ (s : ℕ). T (stands b (b .side) s)) e (king-stands b (b .side) (l .side)))
 
@@ -43,9 +53,11 @@ module _ (b : Board) (from to : ℕ) (l : Legal b) (c : Can b from to) where
   unfolding inCheck
   no-other-king e =
       let back : b .side ≡ 1 - (1 - b .side) = let h = l .side in omega arith in
+      let there = king-occupies b (1 - b .side) (let h = l .side in omega arith) in
       refuted (l .safe)
       (subst (λ (s : ℕ). T (attacked b s (king b (1 - b .side)))) back
-      (subst (λ (s : ℕ). T (attacked b (b .side) s)) (sym e) (goer-attacks b from to c)))
+      (subst (λ (s : ℕ). T (attacked b (b .side) s)) (sym e)
+      (goer-attacks b from to c (subst (λ (s : ℕ). T (occupied b s)) e there))))
 
   no-king : (s : ℕ) → s < 2 → king b s ≡ to → ⊥
   no-king s h e =
@@ -61,11 +73,16 @@ module _ (b : Board) (from to : ℕ) (l : Legal b) (c : Can b from to) where
       which zero (suc (suc n)) h k = absurd (omega arith)
       which (suc zero) (suc (suc n)) h k = absurd (omega arith)
 
--- a legal move on a legal board never takes a king
+-- a legal move on a legal board never takes a king, whatever men the rules admit
+pub takes-no-king-of : (admits : Piece → Bool) (b : Board) (from to : ℕ) → T (legalOf admits b) → T (canMove b from to)
+    → (b .white ≡ to → ⊥) × (b .black ≡ to → ⊥)
+takes-no-king-of admits b from to t u =
+    let n = no-king admits b from to (legalOf-facts admits b t) (can-facts b from to u) in
+    (n 0 (omega arith), n 1 (omega arith))
+
 pub takes-no-king : (b : Board) (from to : ℕ) → T (legal b) → T (canMove b from to)
     → (b .white ≡ to → ⊥) × (b .black ≡ to → ⊥)
-takes-no-king b from to t u =
-    let n = no-king b from to (legal-facts b t) (can-facts b from to u) in (n 0 (omega arith), n 1 (omega arith))
+takes-no-king = takes-no-king-of known
 
 -- ---- the men after a move
 
@@ -171,20 +188,19 @@ touch-check b (suc (suc n)) h t = absurd (omega arith)
 
 -- ---- a legal move leaves a legal board
 
-pub closed : (b : Board) (from to : ℕ) → T (legal b) → T (canMove b from to) → T (legal (moved b from to))
-closed b from to t u =
-    let l = legal-facts b t in
-    let c = can-facts b from to u in
-    let n = takes-no-king b from to t u in
-    let hto = can-on b from to u .1 in
-    let e = pieces-after from to b (n .0) (n .1) in
-    facts-legal (moved b from to) (facts l c hto e)
+-- where the rules admit the men that are left
+pub closed-of : (admits : Piece → Bool) (b : Board) (from to : ℕ) → T (legalOf admits b) → T (canMove b from to)
+    → (admits′ : Piece → Bool) → T (all admits′ (moved b from to .men)) → LegalOf admits′ (moved b from to)
+closed-of admits b from to t u admits′ men =
+    let n = takes-no-king-of admits b from to t u in
+    facts (legalOf-facts admits b t) (can-facts b from to u) (can-on b from to u .1)
+    (pieces-after from to b (n .0) (n .1))
   where
-    facts : Legal b → Can b from to → to < 64 → pieces (moved b from to) ≡ after from to (pieces b)
-        → Legal (moved b from to)
+    facts : LegalOf admits b → Can b from to → to < 64 → pieces (moved b from to) ≡ after from to (pieces b)
+        → LegalOf admits′ (moved b from to)
     facts l c hto e = record {
       side = omega (arith, moved-side b from to);
-      men = rw (men-after from to b) (all-after from to known (λ a h. h) (b .men) (l .men));
+      men = men;
       squares = rw e
           (all-after from to (λ a. ltb (a .square) 64)
           (λ a h. lt→ltb (carried from to (a .square)) 64
@@ -194,3 +210,9 @@ closed b from to t u =
           (λ q. refuted (c .safe) (touch-check (moved b from to) (b .side) (l .side) q));
       safe = ap (inCheck (moved b from to)) (let h = l .side in omega (arith, moved-side b from to)) ∙ c .safe;
     }
+
+pub closed : (b : Board) (from to : ℕ) → T (legal b) → T (canMove b from to) → T (legal (moved b from to))
+closed b from to t u =
+    facts-legal (moved b from to)
+    (closed-of known b from to t u known
+    (rw (men-after from to b) (all-after from to known (λ a h. h) (b .men) (legal-facts b t .men))))

@@ -1,11 +1,11 @@
 -- A listed move says whether it takes; on a legal board it then leaves one man fewer, or as many, and both kings.
-use mathlib.Core.Path.{_≡_, refl, sym, ap, _∙_}
+use mathlib.Core.Path.{_≡_, refl, sym, ap, ap₂, _∙_}
 use mathlib.Core.Bool.{Bool, true, false, not, _&&_}
 use mathlib.Core.Logic.{_⊎_, inl, inr}
 use mathlib.Core.List.{List, _∷_, List·Memᴰ·head, List·Memᴰ·tail}
 use Prim.Native.Nat.{ℕ, zero, suc, _+_, _-_, _<_}
 use native.Mathlib.Omega.{arith}
-use lib.Dec.{T, eqb, ltb, eqb→eq, ltb→lt}
+use lib.Dec.{T, eqb, eqb→eq}
 use lib.ListN.{length, length-map}
 use borrow.Author.Tests.{eq-eqb}
 use Rattle.finite.specs.Truth.{and-right, same-test}
@@ -13,11 +13,11 @@ use Rattle.finite.specs.Members.{_∈_, any, any-in, any-out, all-out}
 use Rattle.board.specs.Sets.{digit}
 use Rattle.rules.specs.declared.Piece.{Piece}
 use Rattle.rules.specs.declared.Move.{Move}
-use Rattle.rules.specs.Rules.{Board, pieces, pieceOf, known, apart, legal, stands, moved, canMove, taking, moves}
+use Rattle.rules.specs.Rules.{Board, pieces, pieceOf, knownOrPawn, apart, legal, legalWithPawn, stands, moved, canMove, taking, playedAs, moves}
 use Rattle.rules.specs.Chess.{played, of-moves}
 use Rattle.rules.specs.Taking.{SaysWhatItTakes}
-use Rattle.rules.specs.laws.Legal.{legal-facts}
-use Rattle.rules.specs.laws.Closed.{takes-no-king}
+use Rattle.rules.specs.laws.Legal.{legalOf-facts, admitted-colour, legal-with-pawn}
+use Rattle.rules.specs.laws.Closed.{takes-no-king-of}
 use Rattle.rules.specs.laws.Taken.{one-taken, own-kept}
 
 -- a listed move is marked exactly when a piece of the other side stands on its target, on any board
@@ -42,20 +42,20 @@ two-off a c l t =
     (and-right (not (any (λ x. eqb (a .square) (x .square)) (c ∷ l)))
     (not (any (λ x. eqb (c .square) (x .square)) l) && apart l) t)
 
-module _ (b : Board) (from to : ℕ) (l : T (legal b)) (c : T (canMove b from to)) where
+module _ (b : Board) (from to : ℕ) (l : T (legalWithPawn b)) (c : T (canMove b from to)) where
   -- a piece on the target is no king
   no-king : (n : Piece) → n ∈ pieces b → n .square ≡ to → n ∈ b .men
-  no-king n (List·Memᴰ·head e) q = absurd (takes-no-king b from to l c .0 (ap (λ (p : Piece). p .square) (sym e) ∙ q))
+  no-king n (List·Memᴰ·head e) q =
+      absurd (takes-no-king-of knownOrPawn b from to l c .0 (ap (λ (p : Piece). p .square) (sym e) ∙ q))
   no-king n (List·Memᴰ·tail (List·Memᴰ·head e)) q =
-      absurd (takes-no-king b from to l c .1 (ap (λ (p : Piece). p .square) (sym e) ∙ q))
+      absurd (takes-no-king-of knownOrPawn b from to l c .1 (ap (λ (p : Piece). p .square) (sym e) ∙ q))
   no-king n (List·Memᴰ·tail (List·Memᴰ·tail i)) q = i
 
   -- and a man on it is one of the other side
   other-side : (n : Piece) → n ∈ b .men → n .square ≡ to → n .colour ≡ 1 - b .side
   other-side n i q =
-      let f = legal-facts b l in
-      go (two (n .colour) (b .side)
-      (ltb→lt (n .colour) 2 (and-right (ltb (n .kind) 4) (ltb (n .colour) 2) (all-out known i (f .men)))) (f .side))
+      let f = legalOf-facts knownOrPawn b l in
+      go (two (n .colour) (b .side) (admitted-colour n (all-out knownOrPawn i (f .men))) (f .side))
     where
       go : (n .colour ≡ b .side) ⊎ (n .colour ≡ 1 - b .side) → n .colour ≡ 1 - b .side
       go (inl e) = absurd (own-kept b from to c n i e q)
@@ -81,15 +81,22 @@ module _ (b : Board) (from to : ℕ) (l : T (legal b)) (c : T (canMove b from to
   men-left = one-taken to (b .men) men-apart ∙ rw (takes-man, length-map)
     where
       men-apart : T (apart (b .men))
-      men-apart = two-off (pieceOf 5 0 (b .white)) (pieceOf 5 1 (b .black)) (b .men) (legal-facts b l .apart)
+      men-apart = two-off (pieceOf 5 0 (b .white)) (pieceOf 5 1 (b .black)) (b .men)
+          (legalOf-facts knownOrPawn b l .apart)
 
--- On a legal board a listed move says what it takes.
-pub says-what-it-takes : (b : Board) (m : Move) → T (legal b) → m ∈ moves b → SaysWhatItTakes b m
-says-what-it-takes b m l h =
+-- a promotion leaves as many men
+as-played : (b : Board) (from to k : ℕ) → length (playedAs b from to k .men) ≡ length (moved b from to .men)
+as-played b from to zero = refl
+as-played b from to (suc k) = rw length-map
+
+-- On a legal board, with a pawn or without, a listed move says what it takes.
+pub says-with-pawn : (b : Board) (m : Move) → T (legalWithPawn b) → m ∈ moves b → SaysWhatItTakes b m
+says-with-pawn b m l h =
     let c = of-moves b m h .1 in
-    let k = takes-no-king b (m .from) (m .to) l (c .can) in
+    let k = takes-no-king-of knownOrPawn b (m .from) (m .to) l (c .can) in
+    let same = as-played b (m .from) (m .to) (m .becomes) in
     let men : (x : Bool) → taking b (m .to) ≡ x → length (b .men) ≡ digit x + length (played b m .men) =
-    λ x e. men-left b (m .from) (m .to) l (c .can) ∙ ap (λ (y : Bool). digit y + length (played b m .men)) e in
+    λ x e. men-left b (m .from) (m .to) l (c .can) ∙ ap₂ (λ (y : Bool) (n : ℕ). digit y + n) e (sym same) in
     record {
       mark = marked b m h;
       fewer = λ t. let k = men true (sym (c .mark) ∙ t) in omega arith;
@@ -97,3 +104,6 @@ says-what-it-takes b m l h =
       white-stays = k .0;
       black-stays = k .1;
     }
+
+pub says-what-it-takes : (b : Board) (m : Move) → T (legal b) → m ∈ moves b → SaysWhatItTakes b m
+says-what-it-takes b m l = says-with-pawn b m (legal-with-pawn b l)

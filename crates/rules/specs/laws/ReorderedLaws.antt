@@ -3,7 +3,7 @@
 use mathlib.Core.Path.{_≡_, refl, sym, ap, ap₂, subst, subst⁻¹, _∙_}
 use mathlib.Core.Bool.{Bool, true, false, cond, not, _&&_, _||_}
 use mathlib.Core.List.{List, [], _∷_, map, flatMap}
-use Prim.Native.Nat.{ℕ, _-_}
+use Prim.Native.Nat.{ℕ, zero, suc, _-_}
 use lib.Dec.{T, eqb, ltb}
 use Rattle.finite.specs.Members.{_∈_, any, all, map-in, map-out}
 use Rattle.finite.specs.Filter.{filter, keep}
@@ -13,9 +13,10 @@ use Rattle.theory.specs.Game.{next}
 use Rattle.theory.specs.Alike.{Automorphism}
 use Rattle.rules.specs.declared.Piece.{Piece}
 use Rattle.rules.specs.declared.Move.{Move}
-use Rattle.rules.specs.Rules.{Board, pieceOf, pieces, empty, occupied, attacks, attacked, king, inCheck, known, apart, touching, legal, stands, goes, goesTo, carriedPiece, left, moved, canMove, moveOf, taking, movesOnto, movesFrom, allMoves, moves, mated}
+use Rattle.rules.specs.Pawn.{pawn, outer}
+use Rattle.rules.specs.Rules.{Board, pieceOf, pieces, empty, occupied, attacks, attacked, king, inCheck, known, apart, touching, legalOf, legal, stands, goes, goesTo, carriedPiece, left, moved, canMove, moveOf, promotionOf, promotes, becoming, promoted, playedAs, taking, movesOnto, movesFrom, allMoves, moves, mated}
 use Rattle.rules.specs.laws.Changed.{board-eq}
-use Rattle.rules.specs.Chess.{chess, played, next-legal}
+use Rattle.rules.specs.Chess.{chess, played, plain-played, next-legal}
 use Rattle.rules.specs.Reordered.{crossed, reordered, Few}
 
 -- ---- lists
@@ -115,7 +116,7 @@ module _ (e : Bool) (b : Board) where
       go true (a ∷ c ∷ d ∷ l) = unfold crossed in refl
 
   pub legal-reordered : legal (reordered e b) ≡ legal b
-  unfolding legal all touching
+  unfolding legalOf all touching
   legal-reordered =
       rw (
         all-crossed known e (b .men),
@@ -170,12 +171,19 @@ module _ (e : Bool) (b : Board) (f : Few (b .men)) where
   unfolding taking stands
   taking-reordered = λ i to. any-reordered e b (λ m. eqb (m .colour) (1 - b .side) && eqb (m .square) to) i
 
+  promotes-reordered : promotes (reordered e b) ≡ promotes b
+  unfolding promotes
+  promotes-reordered =
+      λ i from to. any-crossed (λ m. pawn m && eqb (m .square) from) e (b .men) i && outer to
+
   all-reordered : allMoves (reordered e b) ≡ allMoves b
   unfolding allMoves movesFrom movesOnto
-  all-reordered =
-      ap₂ (λ (can : ℕ → ℕ → Bool) (takes : ℕ → Bool). flatMap
-      (λ from. flatMap (λ to. moveOf from to (takes to) ∷ []) (filter (can from) squares)) squares)
-      can-reordered taking-reordered
+  all-reordered = λ i. flatMap
+      (λ from. flatMap
+      (λ to. cond (promotes-reordered i from to)
+      (map (promotionOf from to (taking-reordered i to)) (1 ∷ 2 ∷ 3 ∷ 4 ∷ []))
+      (moveOf from to (taking-reordered i to) ∷ []))
+      (filter (can-reordered i from) squares)) squares
 
   pub moves-reordered : moves (reordered e b) ≡ moves b
   unfolding moves
@@ -185,12 +193,19 @@ module _ (e : Bool) (b : Board) (f : Few (b .men)) where
   unfolding mated
   mated-reordered = ap₂ _&&_ (check-reordered e b (b .side)) (ap empty moves-reordered)
 
+  played-reordered : (from to becomes : ℕ)
+      → playedAs (reordered e b) from to becomes ≡ reordered e (playedAs b from to becomes)
+  played-reordered from to zero = moved-reordered from to
+  played-reordered from to (suc kind) =
+      ap (promoted (b .side) to kind) (moved-reordered from to)
+      ∙ board-eq refl refl refl (sym (crossed-map (becoming (b .side) to kind) e (moved b from to .men)))
+
   next-reordered : (q : Board) → q ∈ next chess b → reordered e q ∈ next chess (reordered e b)
   next-reordered q h =
       let w = map-out (played b) q (moves b) h in
       let n : w .0 ∈ moves (reordered e b) = subst (λ (l : List Move). w .0 ∈ l) (sym moves-reordered) (w .1) in
       subst (λ (c : Board). c ∈ next chess (reordered e b))
-      (moved-reordered (w .0 .from) (w .0 .to) ∙ ap (reordered e) (sym (w .2))) (map-in (played (reordered e b)) n)
+      (played-reordered (w .0 .from) (w .0 .to) (w .0 .becomes) ∙ ap (reordered e) (sym (w .2))) (map-in (played (reordered e b)) n)
 
 -- ---- legal boards with at most two men
 
@@ -229,7 +244,8 @@ few-next b q l h =
     let w = map-out (played b) q (moves b) h in
     record {
       legality = next-legal b q (l .legality) h;
-      few = subst⁻¹ (λ (c : Board). Few (c .men)) (w .2) (few-left (w .0 .from) (w .0 .to) (b .men) (l .few));
+      few = subst⁻¹ (λ (c : Board). Few (c .men)) (w .2 ∙ plain-played b (w .0) (l .legality) (w .1))
+          (few-left (w .0 .from) (w .0 .to) (b .men) (l .few));
     }
 
 pub reordering : (e : Bool) → Automorphism chess LegalFew (reordered e) (reordered e)

@@ -16,8 +16,8 @@ use Rattle.board.specs.Sets.{digit}
 use Rattle.board.specs.laws.ReachLaws.{king-reaches}
 use Rattle.symmetry.specs.laws.Opposite.{reaches-sym}
 use Rattle.rules.specs.declared.Piece.{Piece}
-use Rattle.rules.specs.Rules.{Board, pieceOf, occupied, attacks, attacked, inCheck, apart, touching, legal, stands, carriedPiece, left, moved, canMove}
-use Rattle.rules.specs.laws.Legal.{legal-facts}
+use Rattle.rules.specs.Rules.{Board, pieceOf, occupied, attacks, attacked, inCheck, known, apart, touching, legalOf, legal, stands, carriedPiece, left, moved, canMove}
+use Rattle.rules.specs.laws.Legal.{legalOf-facts}
 use Rattle.rules.specs.laws.CanMove.{can-facts}
 
 -- a piece but for its square
@@ -100,5 +100,10 @@ bare-touch b (suc zero) h e t =
     (λ m. eqb (m .colour) 0 && attacks (occupied b) m (b .black)) l)) e t))
 bare-touch b (suc (suc n)) h e t = absurd (omega arith)
 
+pub bare-safe-of : (admits : Piece → Bool) (b : Board) (s : ℕ) → s < 2 → T (legalOf admits b) → b .men ≡ []
+    → inCheck b s ≡ false
+bare-safe-of admits b s h t e =
+    fails (inCheck b s) (λ c. refuted (legalOf-facts admits b t .kings) (bare-touch b s h e c))
+
 pub bare-safe : (b : Board) (s : ℕ) → s < 2 → T (legal b) → b .men ≡ [] → inCheck b s ≡ false
-bare-safe b s h t e = fails (inCheck b s) (λ c. refuted (legal-facts b t .kings) (bare-touch b s h e c))
+bare-safe = bare-safe-of known

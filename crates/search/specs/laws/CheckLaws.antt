@@ -1,4 +1,4 @@
--- Which moves may give check, on any board: those after which another piece attacks the king once the mover's square is clear, and those
+-- Which moves may give check, on any board without a pawn: those after which another piece attacks the king once the mover's square is clear, and those
 -- that bring the mover to a square from which it attacks him.
 use mathlib.Core.Path.{_≡_, sym, ap, subst, _∙_}
 use mathlib.Core.Bool.{Bool, false, not, _&&_}
@@ -17,33 +17,35 @@ use Rattle.board.specs.laws.SetLaws.{has-none, has-not, set-has}
 use Rattle.symmetry.specs.laws.Opposite.{reaches-sym}
 use Rattle.rules.specs.declared.Piece.{Piece}
 use Rattle.rules.specs.Rules.{Board, pieces, occupied, attacks, attacked, king, inCheck, stands, goes, carried, carriedPiece, moved, canMove}
-use Rattle.rules.specs.laws.CanMove.{can-on}
+use Rattle.rules.specs.Pawn.{pawn}
+use Rattle.rules.specs.laws.CanMove.{can-on, attacks-piece, no-pawn}
 use Rattle.position.specs.declared.Position.{Position}
 use Rattle.position.specs.Keyed.{boardOf}
 use Rattle.position.specs.Over.{strikes, attackedOver, lifted}
 use Rattle.position.specs.laws.Over.{attacked-same}
 use Rattle.movegen.specs.laws.Carried.{carried-still, piece-before, Goer, goer, still-occupied}
 use Rattle.movegen.specs.laws.Lifted.{check-after}
-use Rattle.search.specs.Tried.{aims, HoldsChecks}
+use Rattle.search.specs.Tried.{Pawnless, aims, HoldsChecks}
 
 -- ---- a board
 
-module _ (b : Board) (from to : ℕ) (g : Goer b from to) (colour at : ℕ) where
+module _ (b : Board) (none : Pawnless b) (from to : ℕ) (g : Goer b from to) (colour at : ℕ) where
   -- an attack after the move was there with the mover lifted, or it is the mover's
   attack-or-aim : T (attacked (moved b from to) colour at)
       → T (attackedOver (lifted (occupied b) from) b colour at)
       ⊎ T (any (aims (lifted (occupied b) from) from at to) (pieces b))
-  unfolding attacked attacks attackedOver
+  unfolding attacked attackedOver
   attack-or-aim h =
       let w = any-out (λ m. eqb (m .colour) colour && attacks (occupied (moved b from to)) m at)
       (pieces (moved b from to)) h in
       let n = w .0 in
       let v = piece-before b from to n (w .1) in
       let own = eqb (n .colour) colour in
-      let hit = reaches (occupied (moved b from to)) (n .kind) (n .square) at in
+      let hit = attacks (occupied (moved b from to)) n at in
+      let piece : pawn n ≡ false = ap pawn (v .2) ∙ no-pawn b none (v .0) (v .1) in
       go n (v .0) (v .1) (v .2) (and-left own hit (w .2))
       (reaches-fewer (occupied (moved b from to)) (lifted (occupied b) from) at (λ u d. still-occupied b from to g u)
-      (n .kind) (n .square) (and-right own hit (w .2)))
+      (n .kind) (n .square) (subst T (attacks-piece (occupied (moved b from to)) n at piece) (and-right own hit (w .2))))
     where
       go : (n m : Piece) → m ∈ pieces b → n ≡ carriedPiece from to m → T (eqb (n .colour) colour)
           → T (reaches (lifted (occupied b) from) (n .kind) (n .square) at)
@@ -70,11 +72,12 @@ module _ (b : Board) (from to : ℕ) (g : Goer b from to) (colour at : ℕ) wher
           other f =
               let q : n ≡ m = e ∙ carried-still from to m (λ (z : m .square ≡ from). f (rw z (eqb-refl from))) in
               inl (any-in (strikes (lifted (occupied b) from) colour at) i
-              (and-both (eqb (m .colour) colour) (reaches (lifted (occupied b) from) (m .kind) (m .square) at)
+              (and-both (eqb (m .colour) colour) (attacks (lifted (occupied b) from) m at)
               (subst (λ (p : Piece). T (eqb (p .colour) colour)) q k)
-              (subst (λ (p : Piece). T (reaches (lifted (occupied b) from) (p .kind) (p .square) at)) q r)))
+              (subst T (sym (attacks-piece (lifted (occupied b) from) m at (no-pawn b none m i)))
+              (subst (λ (p : Piece). T (reaches (lifted (occupied b) from) (p .kind) (p .square) at)) q r))))
 
-module _ (b : Board) (from to : ℕ) (c : T (canMove b from to)) where
+module _ (b : Board) (none : Pawnless b) (from to : ℕ) (c : T (canMove b from to)) where
   mover-goes : Goer b from to
   unfolding canMove
   mover-goes =
@@ -89,7 +92,7 @@ module _ (b : Board) (from to : ℕ) (c : T (canMove b from to)) where
       ⊎ T (any (aims (lifted (occupied b) from) from (king b foe) to) (pieces b))
   check-or-aim foe n h =
       let e : carried from to (king b foe) ≡ king b foe = rw (ne-eqb (king b foe) from n) in
-      attack-or-aim b from to mover-goes (1 - foe) (king b foe)
+      attack-or-aim b none from to mover-goes (1 - foe) (king b foe)
       (subst T (check-after b from to foe ∙ ap (attacked (moved b from to) (1 - foe)) e) h)
 
 -- ---- sets that hold the checks
@@ -111,12 +114,12 @@ module _ (s : Position) (from foe at back occ rest : ℕ) (ef : foe ≡ 1 - s .s
       (λ m i. ap (λ (x : Bool). eqb (m .square) from && x)
       (reaches-same (lifted (occupied (boardOf s)) from) (has rest) (λ u h. sym (rest-lifted u h)) (m .kind) at t))
 
-  pub aimed-checks : (at ≡ from → ⊥) → (struck : Bool) → struck ≡ attackedOver (has rest) (boardOf s) back at
+  pub aimed-checks : Pawnless (boardOf s) → (at ≡ from → ⊥) → (struck : Bool) → struck ≡ attackedOver (has rest) (boardOf s) back at
       → struck ≡ false
       → (r : ℕ) → ((t : ℕ) → t < 64 → has r t ≡ any (aims (has rest) from at t) (pieces (boardOf s)))
       → HoldsChecks s from r
-  aimed-checks n struck es f r ea t c h =
-      go (check-or-aim (boardOf s) from t c foe (λ q. n (ek ∙ q))
+  aimed-checks none n struck es f r ea t c h =
+      go (check-or-aim (boardOf s) none from t c foe (λ q. n (ek ∙ q))
       (subst (λ (x : ℕ). T (inCheck (moved (boardOf s) from t) x)) (sym ef) h))
     where
       go : T (attackedOver (lifted (occupied (boardOf s)) from) (boardOf s) (1 - foe) (king (boardOf s) foe)) ⊎ T (any

@@ -1,19 +1,19 @@
 -- The moves of a board, mover by mover and target by target, as loops that take the lowest square out of a set go through them.
 use mathlib.Core.Path.{_≡_, refl, sym, _∙_}
 use mathlib.Core.Bool.{Bool, true, false, cond}
-use mathlib.Core.List.{[], _∷_, flatMap}
+use mathlib.Core.List.{[], _∷_, _++_, flatMap}
 use Prim.Native.Nat.{ℕ, _^_, _<_}
 use Rattle.board.specs.Sets.{members, setOf}
 use Rattle.board.specs.laws.SetLaws.{members-none}
 use Rattle.board.specs.laws.LowestLaws.{Lowest, lowest-of}
 use Rattle.rules.specs.declared.Piece.{Piece}
-use Rattle.rules.specs.Rules.{Board, empty, stands, canMove, moveOn, movesFrom, allMoves, moves}
+use Rattle.rules.specs.Rules.{Board, empty, stands, canMove, moveOn, promotes, promotions, movesOnto, movesFrom, allMoves, moves}
 use Rattle.position.specs.declared.Slot.the-variants.{Absent, Present}
 use Rattle.position.specs.declared.Position.{Position}
 use Rattle.position.specs.Keyed.{boardOf}
-use Rattle.rules.specs.laws.MoveLists.{onto-none, onto-more}
-use Rattle.move_list.specs.laws.ListLaws.{by-movers, turn-split}
-use Rattle.search.specs.Tried.{moversOf, movesOn, movesLeft}
+use Rattle.rules.specs.laws.MoveLists.{onto-none, onto-next, onto-more}
+use Rattle.move_list.specs.laws.TurnLaws.{by-movers, turn-split}
+use Rattle.search.specs.Tried.{Pawnless, moversOf, movesOn, movesLeft}
 
 module _ (b : Board) where
   -- all moves start on the movers' squares
@@ -37,10 +37,24 @@ module _ (b : Board) where
   on-turn rest from others targets low e = turn-split b rest from others targets low e
 
   -- one turn of the loop over the targets
-  pub left-turn : (from targets to others rest : ℕ) → Lowest targets to others
+  pub left-turn : Pawnless b → (from targets to others rest : ℕ) → Lowest targets to others
       → movesLeft b from targets rest ≡ moveOn b from to ∷ movesLeft b from others rest
   unfolding movesLeft
-  left-turn from targets to others rest low = rw (low .first, onto-more)
+  left-turn none from targets to others rest low = rw (low .first, onto-more b none from to (members others))
+
+  -- with a pawn there may be four moves to a target, and there is one
+  left-some : (from targets to others rest : ℕ) → Lowest targets to others
+      → empty (movesLeft b from targets rest) ≡ false
+  unfolding movesLeft
+  left-some from targets to others rest low =
+      rw (low .first, onto-next b from to (members others)) (go (promotes b from to))
+    where
+      go : (x : Bool)
+          → empty ((cond x (promotions b from to) (moveOn b from to ∷ []) ++ movesOnto b from (members others)) ++ movesOn
+          b rest)
+          ≡ false
+      go true = refl
+      go false = refl
 
   pub left-none : (from targets rest : ℕ) → targets ≡ 0 → movesLeft b from targets rest ≡ movesOn b rest
   unfolding movesLeft
@@ -56,7 +70,7 @@ module _ (b : Board) where
       → targets ≡ setOf (canMove b from) → (targets ≡ 0 → ⊥) → empty (movesOn b rest) ≡ false
   on-some rest from others targets h low e n =
       let t = lowest-of targets _ _ h n refl refl in
-      rw (on-turn rest from others targets low e, left-turn from targets _ _ others t)
+      rw (on-turn rest from others targets low e) (left-some from targets _ _ others t)
 
 -- whether there are only the kings, by the two slots
 module _ (s : Position) where

@@ -18,7 +18,10 @@ use Rattle.rules.specs.Chess.{chess}
 use Rattle.position.specs.declared.Position.{Position}
 use Rattle.position.specs.Refusals.{standingRefusal}
 use Rattle.position.specs.Keyed.{boardOf}
+use Rattle.position.specs.laws.Legality.{standing-facts}
+use Rattle.rules.specs.laws.Legal.{legal-pawnless}
 use Rattle.search.specs.declared.Opinion.{Opinion}
+use Rattle.search.specs.Tried.{Pawnless}
 use Rattle.search.specs.Opinions.{most, askedIn, decidedIn, leastDepth, searched, opinionOf}
 
 -- decided in none of the depths below n
@@ -112,6 +115,10 @@ module _ (p : Position) (k r : ℕ) (e : r ≡ standingRefusal p) where
   opinion-refused n = sym (rw (ne-eqb (standingRefusal p) 0 (λ q. n (e ∙ q)), ← e))
 
   module _ (z : r ≡ 0) where
+    -- what is not refused has no pawn
+    pub served-pawnless : Pawnless (boardOf p)
+    served-pawnless = legal-pawnless (boardOf p) (standing-facts p (sym e ∙ z) .1)
+
     pub opinion-deep : most < k → Opinion.Refused 16 ≡ opinionOf p k
     unfolding opinionOf
     opinion-deep h = sym (rw (eq-eqb (standingRefusal p) 0 (sym e ∙ z), lt-leb k most h))

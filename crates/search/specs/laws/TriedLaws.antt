@@ -24,7 +24,7 @@ use Rattle.position.specs.declared.Slot.{Slot}
 use Rattle.position.specs.declared.Slot.the-variants.{Absent, Present}
 use Rattle.position.specs.declared.Position.{Position}
 use Rattle.position.specs.Keyed.{slotMen, boardOf}
-use Rattle.search.specs.Tried.{losing, aims, HoldsChecks}
+use Rattle.search.specs.Tried.{Pawnless, losing, aims, HoldsChecks}
 
 -- ---- aim, piece by piece
 
@@ -64,12 +64,12 @@ module _ (occ : ℕ → Bool) (from at t : ℕ) where
 
 -- ---- the targets to try
 
-any-onto : (f : Move → Bool) (b : Board) (from : ℕ) (ts : List ℕ)
+any-onto : (f : Move → Bool) (b : Board) → Pawnless b → (from : ℕ) (ts : List ℕ)
     → any f (movesOnto b from ts) ≡ any (λ t. f (moveOn b from t)) ts
 unfolding any
-any-onto f b from [] = ap (any f) (onto-none b from)
-any-onto f b from (t ∷ ts) =
-    ap (any f) (onto-more b from t ts) ∙ ap (λ (x : Bool). f (moveOn b from t) || x) (any-onto f b from ts)
+any-onto f b none from [] = ap (any f) (onto-none b from)
+any-onto f b none from (t ∷ ts) =
+    ap (any f) (onto-more b none from t ts) ∙ ap (λ (x : Bool). f (moveOn b from t) || x) (any-onto f b none from ts)
 
 module _ (s : Position) (from k targets : ℕ) (e : targets ≡ setOf (canMove (boardOf s) from)) where
   abbrev b : Board
@@ -87,18 +87,18 @@ module _ (s : Position) (from k targets : ℕ) (e : targets ≡ setOf (canMove (
       let m : T (mated q) = subst (λ (j : ℕ). T (lost chess (j - 1) q)) z h in
       subst (λ (x : ℕ). T (inCheck q x)) (moved-side b from t) (and-left (inCheck q (q .side)) (empty (moves q)) m)
 
-  pub tried-checks : k ≡ 1 → (r : ℕ) → HoldsChecks s from r
+  pub tried-checks : Pawnless b → k ≡ 1 → (r : ℕ) → HoldsChecks s from r
       → any (losing k b) (movesOnto b from (members (bitAnd targets r)))
       ≡ any (losing k b) (movesOnto b from (members (setOf (canMove b from))))
   unfolding members
-  tried-checks z r h =
-      any-onto (losing k b) b from (members (bitAnd targets r))
+  tried-checks none z r h =
+      any-onto (losing k b) b none from (members (bitAnd targets r))
       ∙ ap (any wins)
       (filter-same (has (bitAnd targets r)) (λ t. canMove b from t && has r t) squares
       (λ t m. has-and targets r t ∙ ap (λ (x : Bool). x && has r t) (set-has _ e t (squares-out t m))))
       ∙ any-kept wins (canMove b from) (has r) squares (λ t m c l. h t c (mates-check z t l))
       ∙ ap (any wins) (sym (members-setOf (canMove b from)))
-      ∙ sym (any-onto (losing k b) b from (members (setOf (canMove b from))))
+      ∙ sym (any-onto (losing k b) b none from (members (setOf (canMove b from))))
     where
       wins : ℕ → Bool
       wins t = losing k b (moveOn b from t)

@@ -1,23 +1,27 @@
 -- Won and lost within k plies by the moves that are left to try: how each loop starts, one turn, and its ends.
-use mathlib.Core.Path.{_≡_, refl, sym, ap, _∙_}
+use mathlib.Core.Path.{_≡_, refl, sym, ap, subst⁻¹, _∙_}
 use mathlib.Core.Bool.{Bool, true, false, not, _&&_, _||_, and-true, and-false, or-false}
-use mathlib.Core.List.{List, [], _∷_}
+use mathlib.Core.List.{List, [], _∷_, map}
 use Prim.Native.Nat.{ℕ, zero, suc, _-_}
 use native.Mathlib.Omega.{arith}
+use lib.Dec.{T, eqb}
 use borrow.Author.Tests.{not-true, not-false}
-use Rattle.finite.specs.Members.{any, all, some?}
+use Rattle.finite.specs.Members.{any, all, some?, all-in, all-out, map-out}
+use Rattle.finite.specs.Filter.{filter-out}
 use Rattle.finite.specs.Tests.{any-map, all-map, some?-map, any-append}
 use Rattle.theory.specs.Value.{won, lost}
 use Rattle.board.specs.Sets.{members, setOf}
 use Rattle.board.specs.laws.LowestLaws.{Lowest}
+use Rattle.rules.specs.declared.Piece.{Piece}
 use Rattle.rules.specs.declared.Move.{Move}
-use Rattle.rules.specs.Rules.{Board, empty, inCheck, canMove, moveOn, movesOnto, moves, mated}
+use Rattle.rules.specs.Pawn.{pawn}
+use Rattle.rules.specs.Rules.{Board, empty, inCheck, carriedPiece, left, moved, canMove, moveOn, movesOnto, moves, mated}
 use Rattle.rules.specs.Chess.{chess, played}
 use Rattle.position.specs.declared.Position.{Position}
 use Rattle.position.specs.Keyed.{boardOf}
 use Rattle.movegen.specs.After.{after}
 use Rattle.movegen.specs.laws.Making.{after-moved}
-use Rattle.search.specs.Tried.{moversOf, movesOn, movesLeft, losing, winning}
+use Rattle.search.specs.Tried.{Pawnless, moversOf, movesOn, movesLeft, losing, winning}
 use Rattle.search.specs.laws.MoverLaws.{on-movers, on-none, on-turn, left-turn, left-none}
 
 -- ---- a list of moves, of which the first is tried
@@ -147,22 +151,39 @@ module _ (f : Move → Bool) (total : Bool) (b : Board) where
     unfolding all
     all-end w = sym (ap (all f) (on-none b rest z)) ∙ w
 
+-- no man becomes a pawn
+moved-pawnless : (b : Board) (from to : ℕ) → Pawnless b → Pawnless (moved b from to)
+unfolding moved
+moved-pawnless b from to none =
+    all-in (λ a. not (pawn a)) (map (carriedPiece from to) (left to (b .men)))
+    (λ n i. let w = map-out (carriedPiece from to) n (left to (b .men)) i in
+    let k = filter-out (λ m. not (eqb (m .square) to)) (w .0) (b .men) (w .1) .0 in
+    subst⁻¹ (λ (a : Piece). T (not (pawn a))) (w .2) (all-out (λ a. not (pawn a)) k none))
+
+pawnless-after : (s q : Position) (from to : ℕ) → q ≡ after s from to → Pawnless (boardOf s) → Pawnless (boardOf q)
+pawnless-after s q from to e none =
+    subst⁻¹ (λ (b : Board). Pawnless b) (ap boardOf e ∙ after-moved from to s) (moved-pawnless (boardOf s) from to none)
+
 -- one target: the position after the move, and what was found of it
-module _ (k : ℕ) (s q : Position) (total found : Bool) (from targets to others rest : ℕ)
+module _ (k : ℕ) (s q : Position) (none : Pawnless (boardOf s)) (total found : Bool) (from targets to others rest : ℕ)
     (low : Lowest targets to others) (made : q ≡ after s from to) where
   abbrev b : Board
   b = boardOf s
 
   turn : movesLeft b from targets rest ≡ moveOn b from to ∷ movesLeft b from others rest
-  turn = left-turn b from targets to others rest low
+  turn = left-turn b none from targets to others rest low
+
+  next : Pawnless (boardOf q)
+  next = pawnless-after s q from to made none
 
   board : boardOf q ≡ played b (moveOn b from to)
   board = ap boardOf made ∙ after-moved from to s
 
-  module _ (h : found ≡ lost chess (k - 1) (boardOf q)) (w : any (losing k b) (movesLeft b from targets rest) ≡ total)
+  module _ (h : Pawnless (boardOf q) → found ≡ lost chess (k - 1) (boardOf q))
+      (w : any (losing k b) (movesLeft b from targets rest) ≡ total)
     where
       same : losing k b (moveOn b from to) ≡ found
-      same = sym (h ∙ ap (lost chess (k - 1)) board)
+      same = sym (h next ∙ ap (lost chess (k - 1)) board)
 
       pub won-hit : found ≡ true → true ≡ total
       won-hit t = any-hit (losing k b) total _ _ _ turn w (same ∙ t)
@@ -170,10 +191,11 @@ module _ (k : ℕ) (s q : Position) (total found : Bool) (from targets to others
       pub won-miss : found ≡ false → any (losing k b) (movesLeft b from others rest) ≡ total
       won-miss t = any-miss (losing k b) total _ _ _ turn w (same ∙ t)
 
-  module _ (h : found ≡ won chess (k - 1) (boardOf q)) (w : all (winning k b) (movesLeft b from targets rest) ≡ total)
+  module _ (h : Pawnless (boardOf q) → found ≡ won chess (k - 1) (boardOf q))
+      (w : all (winning k b) (movesLeft b from targets rest) ≡ total)
     where
       same-won : winning k b (moveOn b from to) ≡ found
-      same-won = sym (h ∙ ap (won chess (k - 1)) board)
+      same-won = sym (h next ∙ ap (won chess (k - 1)) board)
 
       pub lost-miss : found ≡ false → false ≡ total
       lost-miss t = all-miss (winning k b) total _ _ _ turn w (same-won ∙ t)

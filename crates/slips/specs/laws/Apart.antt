@@ -10,7 +10,7 @@ use Rattle.finite.specs.Truth.{and-left, and-right}
 use Rattle.finite.specs.Members.{all}
 use Rattle.finite.specs.Below.{allBelow, below}
 use Rattle.ascii.specs.Bytes.{bytes}
-use Rattle.rules.specs.Rules.{moveOf}
+use Rattle.rules.specs.Rules.{moveOf, promotionOf}
 use Rattle.answers.specs.declared.BestMove.{BestMove}
 use Rattle.answers.specs.declared.BestMove.the-variants.{Play, NoMove}
 use Rattle.answers.specs.declared.Answer.{Answer}
@@ -93,7 +93,10 @@ advice-apart : (a c : BestMove) → AdviceFits a → AdviceFits c → withNewlin
     → a ≡ c
 unfolding adviceText gapped
 advice-apart (Play m) (Play v) h k e =
-    ap Play (moves-apart (m .takes) (v .takes) (m .from) (m .to) (v .from) (v .to) (h .0) (h .1) (k .0) (k .1) e)
+    ap Play
+    (ap (promotionOf (m .from) (m .to) (m .takes)) (h .2)
+    ∙ moves-apart (m .takes) (v .takes) (m .from) (m .to) (v .from) (v .to) (h .0) (h .1) (k .0) (k .1) e
+    ∙ ap (promotionOf (v .from) (v .to) (v .takes)) (sym (k .2)))
 advice-apart (Play m) NoMove h k e = let z = ap (λ (l : List ℕ). getD l 0 0) e in absurd (omega arith)
 advice-apart NoMove (Play v) h k e = let z = ap (λ (l : List ℕ). getD l 0 0) e in absurd (omega arith)
 advice-apart NoMove NoMove h k e = refl

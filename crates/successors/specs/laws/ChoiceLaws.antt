@@ -17,13 +17,14 @@ use Rattle.theory.specs.Play.{suits}
 use Rattle.board.specs.Sets.{has, squares, members, lowestSquare, setOf}
 use Rattle.board.specs.laws.SetLaws.{has-none, has-setOf, set-is, members-in, members-out, members-setOf, members-none}
 use Rattle.rules.specs.declared.Move.{Move}
-use Rattle.rules.specs.Rules.{Board, empty, moved, canMove, moveOn, movesOnto, movesFrom, allMoves, moves}
+use Rattle.rules.specs.Rules.{Board, moved, canMove, moveOn, movesOnto, movesFrom, allMoves, moves}
 use Rattle.rules.specs.Chess.{played}
 use Rattle.rules.specs.laws.MoveLists.{onto-none, onto-more}
 use Rattle.rules.specs.laws.CanMove.{can-on}
 use Rattle.movegen.specs.declared.Reach.{Reach}
 use Rattle.successors.specs.declared.Seen.{Seen}
 use Rattle.successors.specs.Successors.{seenFrom, earlier, seenIn, suitedFrom}
+use Rattle.successors.specs.laws.Plain.{Plain}
 use Rattle.successors.specs.laws.PlaceLaws.{StartsAt}
 
 -- ---- sets of a test
@@ -119,12 +120,13 @@ module _ (byte : Board → ℕ) (c : ℕ) (b : Board) where
   firstTo from [] = none
   firstTo from (t ∷ ts) = some (moveOn b from t)
 
-  onto-first : (from : ℕ) (ts : List ℕ)
+  onto-first : Plain b → (from : ℕ) (ts : List ℕ)
       → first passes (movesOnto b from ts) ≡ firstTo from (filter (λ t. suits c (byte (moved b from t))) ts)
   unfolding first filter firstTo
-  onto-first from [] = ap (first passes) (onto-none b from)
-  onto-first from (t ∷ ts) =
-      ap (first passes) (onto-more b from t ts) ∙ go (suits c (byte (moved b from t))) (onto-first from ts)
+  onto-first p from [] = ap (first passes) (onto-none b from)
+  onto-first p from (t ∷ ts) =
+      ap (first passes) (onto-more b (p .pawnless) from t ts)
+      ∙ go (suits c (byte (moved b from t))) (onto-first p from ts)
     where
       go : (x : Bool)
           → first passes (movesOnto b from ts) ≡ firstTo from (filter (λ t. suits c (byte (moved b from t))) ts)
@@ -133,9 +135,9 @@ module _ (byte : Board → ℕ) (c : ℕ) (b : Board) where
       go true e = refl
       go false e = e
 
-  from-first : (from : ℕ) → first passes (movesFrom b from) ≡ firstTo from (members (suitingSet from))
+  from-first : Plain b → (from : ℕ) → first passes (movesFrom b from) ≡ firstTo from (members (suitingSet from))
   unfolding movesFrom
-  from-first from = onto-first from (filter (canMove b from) squares)
+  from-first p from = onto-first p from (filter (canMove b from) squares)
       ∙ ap (firstTo from) (filter-both (canMove b from) (λ t. suits c (byte (moved b from t))) squares
       ∙ sym (members-setOf (suitsTo from)))
 
@@ -146,18 +148,18 @@ module _ (byte : Board → ℕ) (c : ℕ) (b : Board) where
     pub suiting : T (suits c (byte (moved b from to)))
     pub is-first : first passes (movesFrom b from) ≡ some (moveOn b from to)
 
-  pub shown : (from : ℕ)
+  pub shown : Plain b → (from : ℕ)
       → ((suitingSet from ≡ 0) × (first passes (movesFrom b from) ≡ none))
       ⊎ ((suitingSet from ≡ 0 → ⊥) × Shown from (lowestSquare (suitingSet from)))
   unfolding firstTo
-  shown from = go (eqb (suitingSet from) 0) refl
+  shown p from = go (eqb (suitingSet from) 0) refl
     where
       go : (x : Bool) → eqb (suitingSet from) 0 ≡ x
           → ((suitingSet from ≡ 0) × (first passes (movesFrom b from) ≡ none))
           ⊎ ((suitingSet from ≡ 0 → ⊥) × Shown from (lowestSquare (suitingSet from)))
       go true e =
           let z = eqb-true (suitingSet from) 0 e in
-          inl (z, from-first from ∙ ap (firstTo from) (ap members z ∙ members-none))
+          inl (z, from-first p from ∙ ap (firstTo from) (ap members z ∙ members-none))
       go false e =
           let n = eqb-false (suitingSet from) 0 e in
           let w = lowest-passes (suitsTo from) n in
@@ -169,7 +171,7 @@ module _ (byte : Board → ℕ) (c : ℕ) (b : Board) where
               on = can-on b from t m;
               can = m;
               suiting = and-right (canMove b from t) (suits c (byte (moved b from t))) (w .1);
-              is-first = from-first from ∙ ap (firstTo from) (w .2 .1);
+              is-first = from-first p from ∙ ap (firstTo from) (w .2 .1);
             },
           )
 
@@ -178,10 +180,10 @@ module _ (byte : Board → ℕ) (c : ℕ) (b : Board) where
   module _ (x y z : ℕ) (sets : Reach) (ex : sets .king ≡ suitingSet x) (ey : sets .first ≡ suitingSet y)
       (ez : sets .second ≡ suitingSet z) where
     -- a piece's own: 64 where it has none
-    own-from : (from set : ℕ) → set ≡ suitingSet from → seenFrom from set .from < 64
+    own-from : Plain b → (from set : ℕ) → set ≡ suitingSet from → seenFrom from set .from < 64
         → (seenFrom from set .from ≡ from) × Shown from (seenFrom from set .to)
     unfolding seenFrom
-    own-from from set e h = go (shown from)
+    own-from p from set e h = go (shown p from)
       where
         go : ((suitingSet from ≡ 0) × (first passes (movesFrom b from) ≡ none))
             ⊎ ((suitingSet from ≡ 0 → ⊥) × Shown from (lowestSquare (suitingSet from)))
@@ -239,12 +241,12 @@ module _ (byte : Board → ℕ) (c : ℕ) (b : Board) where
         }
 
     -- it is a suiting move ..
-    pub seen-shown : (t : Seen) → Least t → t .from < 64 → Shown (t .from) (t .to)
-    seen-shown t w h = go (w .one)
+    pub seen-shown : Plain b → (t : Seen) → Least t → t .from < 64 → Shown (t .from) (t .to)
+    seen-shown p t w h = go (w .one)
       where
         from-own : (from set : ℕ) → set ≡ suitingSet from → t ≡ seenFrom from set → Shown (t .from) (t .to)
         from-own from set e q =
-            let o = own-from from set e (subst (λ (r : Seen). r .from < 64) q h) in
+            let o = own-from p from set e (subst (λ (r : Seen). r .from < 64) q h) in
             subst (λ (r : Seen). Shown (r .from) (r .to)) (sym q)
             (subst (λ (f : ℕ). Shown f (seenFrom from set .to)) (sym (o .0)) (o .1))
 
@@ -265,13 +267,13 @@ module _ (byte : Board → ℕ) (c : ℕ) (b : Board) where
         omega (arith, w .least-second)
 
     module _ (starts : (from to : ℕ) → T (canMove b from to) → StartsAt x y z from) where
-      pub seen-first : (t : Seen) → Least t → t .from < 64 → empty (b .men) ≡ false
+      pub seen-first : Plain b → (t : Seen) → Least t → t .from < 64
           → suitedFrom byte c b ≡ some (moveOn b (t .from) (t .to))
       unfolding suitedFrom moves allMoves squares
-      seen-first t w h m =
-          rw m
+      seen-first p t w h =
+          rw (p .manned)
           (first-at passes (movesFrom b) 64 0 (t .from) (moveOn b (t .from) (t .to)) (omega arith) (omega arith) before
-          (seen-shown t w h .is-first))
+          (seen-shown p t w h .is-first))
         where
           before : (f : ℕ) → f < t .from → first passes (movesFrom b f) ≡ none
           before f l =
@@ -280,7 +282,7 @@ module _ (byte : Board → ℕ) (c : ℕ) (b : Board) where
               let i = seen-least t w f (lowestSquare (suitingSet f)) (starts f (lowestSquare (suitingSet f)) (r .can))
               (and-both (canMove b f (lowestSquare (suitingSet f)))
               (suits c (byte (moved b f (lowestSquare (suitingSet f))))) (r .can) (r .suiting)) in
-              absurd (omega arith)) (shown f)
+              absurd (omega arith)) (shown p f)
 
       -- with none seen no legal move suits
       pub none-seen : (t : Seen) → Least t → 64 ≤ t .from → (from to : ℕ) → T (canMove b from to)

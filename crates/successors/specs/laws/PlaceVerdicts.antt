@@ -16,12 +16,15 @@ use Rattle.position.specs.declared.Men.{Men}
 use Rattle.position.specs.declared.Place.{Place}
 use Rattle.position.specs.Keyed.{boardOf}
 use Rattle.position.specs.Posed.{posed, boardIn, Complete}
+use Rattle.position.specs.laws.BothSizes.{placed-men-with}
+use Rattle.four_men.specs.laws.Standing.{men-pawnless}
 use Rattle.answers.specs.declared.BestMove.{BestMove}
 use Rattle.movegen.specs.declared.Reach.{Reach}
 use Rattle.successors.specs.declared.Judged.{Judged}
 use Rattle.successors.specs.declared.Verdict.{Verdict}
 use Rattle.successors.specs.declared.Seen.{Seen}
 use Rattle.successors.specs.Successors.{bytesIn, kingAt, Reaches, judgedFrom, seenIn, verdictOf, noTargets, overOf}
+use Rattle.successors.specs.laws.Plain.{Plain}
 use Rattle.successors.specs.laws.PlaceLaws.{whole, manned, starts}
 use Rattle.successors.specs.laws.ChoiceLaws.{Shown, Least, least-seen, seen-shown, seen-first, none-seen}
 use Rattle.successors.specs.laws.VerdictLaws.{stuck, Sets, found-refuting, found-sets, verdict-refuted, verdict-met, verdict-unmet, depth-refuted, depth-told}
@@ -72,12 +75,15 @@ module _ (m : Men) (q : Place) where
   place-quiet e = sym (rw e)
 
   module _ (w : Complete m q) where
-    pub has-man : empty (boardIn m q .men) ≡ false
-    has-man = manned m q (whole m q w .first)
+    pub plain : Plain (boardIn m q)
+    plain = record {
+      manned = manned m q (whole m q w .first);
+      pawnless = men-pawnless (posed m q) (placed-men-with (posed m q) (w .placed));
+    }
 
     pub place-stuck : (r : Reach) → Reaches m q r → noTargets r ≡ empty (moves (boardIn m q))
     place-stuck r t =
-        stuck (λ b. 0) (boardIn m q) (kingAt q) (q .first) (q .second) (starts m q) has-man r (t .king) (t .first)
+        stuck (λ b. 0) (boardIn m q) (kingAt q) (q .first) (q .second) (starts m q) plain r (t .king) (t .first)
         (t .second)
 
     pub place-mated : (r : Reach) (x : Bool) → Reaches m q r → x ≡ noTargets r
@@ -95,7 +101,7 @@ module _ (m : Men) (q : Place) where
 
       pub place-refuted : (c ≡ 0 → ⊥) → judged ≡ Judged.Refuted → Verdict.Wrong ≡ verdictOf bytes c (boardIn m q)
       place-refuted n e =
-          verdict-refuted bytes (boardIn m q) c has-man n
+          verdict-refuted bytes (boardIn m q) c plain n
           (found-refuting bytes (boardIn m q) (kingAt q) (q .first) (q .second) (starts m q) c e)
 
       module _ (n : c ≡ 0 → ⊥) (sets : Reach) (e : judged ≡ Judged.Found sets) (s : Seen)
@@ -114,7 +120,7 @@ module _ (m : Men) (q : Place) where
 
         shows : s .from < 64 → Shown bytes c (boardIn m q) (s .from) (s .to)
         shows h = seen-shown bytes c (boardIn m q) (kingAt q) (q .first) (q .second) sets (f .of-king) (f .of-first)
-            (f .of-second) s l h
+            (f .of-second) plain s l h
 
         pub seen-on : s .from < 64 → s .to < 64
         seen-on h = shows h .on .1
@@ -124,15 +130,15 @@ module _ (m : Men) (q : Place) where
             → Verdict.Right (BestMove.Play v) ≡ verdictOf bytes c (boardIn m q)
         place-met h takes v t u =
             ap (λ (x : Move). Verdict.Right (BestMove.Play x)) (u ∙ ap (moveOf (s .from) (s .to)) t)
-            ∙ verdict-met bytes (boardIn m q) c has-man n (f .clear)
+            ∙ verdict-met bytes (boardIn m q) c plain n (f .clear)
             (s .from, s .to, shows h .can, shows h .suiting) (moveOn (boardIn m q) (s .from) (s .to))
             (seen-first bytes c (boardIn m q) (kingAt q) (q .first) (q .second) sets (f .of-king) (f .of-first)
-            (f .of-second) (starts m q) s l h has-man)
+            (f .of-second) (starts m q) plain s l h)
 
         pub place-unmet : 64 ≤ s .from → (r : Reach) → Reaches m q r
             → overOf c r (boardIn m q) ≡ verdictOf bytes c (boardIn m q)
         place-unmet h r t =
-            verdict-unmet bytes (boardIn m q) c has-man n r (place-stuck r t)
+            verdict-unmet bytes (boardIn m q) c plain n r (place-stuck r t)
             (λ v. none-seen bytes c (boardIn m q) (kingAt q) (q .first) (q .second) sets (f .of-king) (f .of-first)
             (f .of-second) (starts m q) s l h (v .0) (v .1) (v .2) (v .3))
 
@@ -143,7 +149,7 @@ module _ (m : Men) (q : Place) where
           ≡ Judged.Refuted
           → false ≡ eqb (requiredAt chess (bytesIn m first second table) (boardIn m q)) (2 + k)
       place-spoilt e =
-          depth-refuted (bytesIn m first second table) (boardIn m q) has-man k n
+          depth-refuted (bytesIn m first second table) (boardIn m q) plain k n
           (found-refuting (bytesIn m first second table) (boardIn m q) (kingAt q) (q .first) (q .second) (starts m q)
           (2 + k) e)
 
@@ -152,7 +158,7 @@ module _ (m : Men) (q : Place) where
           ≡ Judged.Found sets
           → not (noTargets sets) ≡ eqb (requiredAt chess (bytesIn m first second table) (boardIn m q)) (2 + k)
       place-depth sets e =
-          depth-told (bytesIn m first second table) (boardIn m q) (kingAt q) (q .first) (q .second) (starts m q) has-man
+          depth-told (bytesIn m first second table) (boardIn m q) (kingAt q) (q .first) (q .second) (starts m q) plain
           k n sets
           (found-sets (bytesIn m first second table) (boardIn m q) (kingAt q) (q .first) (q .second) (starts m q)
           (2 + k)

@@ -20,7 +20,7 @@ use Rattle.board.specs.Sets.{lowestSquare, setOf}
 use Rattle.rules.specs.declared.Move.{Move}
 use Rattle.rules.specs.Rules.{Board, empty, king, inCheck, moved, canMove, moveOn, moves, mated}
 use Rattle.rules.specs.laws.CanMove.{can-on}
-use Rattle.rules.specs.Chess.{chess, played, in-moves, of-moves}
+use Rattle.rules.specs.Chess.{chess, played, of-moves}
 use Rattle.answers.specs.declared.BestMove.{BestMove}
 use Rattle.endings.specs.Answers.{adviceOf}
 use Rattle.movegen.specs.declared.Reach.{Reach}
@@ -28,6 +28,7 @@ use Rattle.successors.specs.declared.Sifted.{Sifted}
 use Rattle.successors.specs.declared.Judged.{Judged}
 use Rattle.successors.specs.declared.Verdict.{Verdict}
 use Rattle.successors.specs.Successors.{siftedFrom, joined, judgedFrom, suitedFrom, verdictOf, noTargets, overOf}
+use Rattle.successors.specs.laws.Plain.{Plain, listed, leaves}
 use Rattle.successors.specs.laws.PlaceLaws.{StartsAt, starts}
 use Rattle.successors.specs.laws.SiftLaws.{told-refuted, told-suited}
 use Rattle.successors.specs.laws.ChoiceLaws.{zero-fails, fails-zero, suitingSet, suitsTo, shown}
@@ -100,16 +101,21 @@ module _ (byte : Board → ℕ) (b : Board) where
   abbrev Or : ℕ → ℕ → Type 0
   Or c from = (suitingSet byte c b from ≡ 0) ⊎ Suiting c
 
-  module _ (m : empty (b .men) ≡ false) (c : ℕ) (h : 1 ≤ c) where
+  module _ (m : Plain b) (c : ℕ) (h : 1 ≤ c) where
+    -- what a listed move leaves, by its squares
+    by-squares : (f : ℕ → Bool) (k : ℕ) (v : Move) → v ∈ moves b → k ≡ after v → T (f k)
+        → T (f (byte (moved b (v .from) (v .to))))
+    by-squares f k v i e t = subst (λ (n : ℕ). T (f n)) (e ∙ ap byte (leaves b m v i)) t
+
     refuted-other : Refuting c → requiredAt chess byte b ≡ c → ⊥
     refuted-other r q =
-        let i = in-moves b (r .0) (r .1) m (r .2) in
+        let i = listed b m (r .0) (r .1) (r .2) in
         judging.refuted c (map after (moves b)) h (any-in (refutes c) (map-in after i) (r .3))
         (sym (required-more (moveOn b (r .0) (r .1)) i) ∙ q)
 
     met-required : (Refuting c → ⊥) → Suiting c → requiredAt chess byte b ≡ c
     met-required clear s =
-        let i = in-moves b (s .0) (s .1) m (s .2) in
+        let i = listed b m (s .0) (s .1) (s .2) in
         required-more (moveOn b (s .0) (s .1)) i
         ∙ judging.judged c (map after (moves b)) h
         (λ t. let o = any-out (refutes c) (map after (moves b)) t in
@@ -118,7 +124,7 @@ module _ (byte : Board → ℕ) (b : Board) where
           p .0 .from,
           p .0 .to,
           of-moves b (p .0) (p .1) .1 .can,
-          subst (λ (k : ℕ). T (refutes c k)) (p .2) (o .2),
+          by-squares (refutes c) (o .0) (p .0) (p .1) (p .2) (o .2),
         ))
         (any-in (suits c) (map-in after i) (s .3))
 
@@ -133,8 +139,12 @@ module _ (byte : Board → ℕ) (b : Board) where
             (sym (required-more x i) ∙ q) in
             let o = any-out (suits c) (map after (moves b)) t in
             let p = map-out after (o .0) (moves b) (o .1) in
-            absurd (none-suits
-            (p .0 .from, p .0 .to, of-moves b (p .0) (p .1) .1 .can, subst (λ (k : ℕ). T (suits c k)) (p .2) (o .2)))
+            absurd (none-suits (
+              p .0 .from,
+              p .0 .to,
+              of-moves b (p .0) (p .1) .1 .can,
+              by-squares (suits c) (o .0) (p .0) (p .1) (p .2) (o .2),
+            ))
 
   -- ---- the verdict
 
@@ -152,7 +162,7 @@ module _ (byte : Board → ℕ) (b : Board) where
     verdict-zero z = wrong (λ e. let h = required-pos (mated b) (map after (moves b)) in
         let q = required-moves chess byte b in omega arith)
 
-    module _ (m : empty (b .men) ≡ false) (n : c ≡ 0 → ⊥) where
+    module _ (m : Plain b) (n : c ≡ 0 → ⊥) where
       pub verdict-refuted : Refuting c → Verdict.Wrong ≡ verdictOf byte c b
       verdict-refuted r = wrong (refuted-other m c (omega arith) r)
 
@@ -205,7 +215,7 @@ module _ (byte : Board → ℕ) (b : Board) where
   pub depth-mate : (k : ℕ) → k ≡ 0 → mated b ≡ eqb (requiredAt chess byte b) (2 + k)
   depth-mate k e = rw e (sym (two-mate (mated b) _))
 
-  module _ (m : empty (b .men) ≡ false) (k : ℕ) (n : k ≡ 0 → ⊥) where
+  module _ (m : Plain b) (k : ℕ) (n : k ≡ 0 → ⊥) where
     pub depth-refuted : Refuting (2 + k) → false ≡ eqb (requiredAt chess byte b) (2 + k)
     depth-refuted r = sym (ne-eqb (requiredAt chess byte b) (2 + k) (refuted-other m (2 + k) (omega arith) r))
 
@@ -259,10 +269,10 @@ module _ (byte : Board → ℕ) (b : Board) where
         at from to u v (inr (inl e)) f g h = subst (Clear c) (sym e) g to u v
         at from to u v (inr (inr e)) f g h = subst (Clear c) (sym e) h to u v
 
-    suiting-or : (c from : ℕ) → Or c from
-    suiting-or c from =
+    suiting-or : Plain b → (c from : ℕ) → Or c from
+    suiting-or m c from =
         ⊎-elim (λ o. inl (o .0)) (λ o. inr (from, lowestSquare (suitingSet byte c b from), o .1 .can, o .1 .suiting))
-        (shown byte c b from)
+        (shown byte c b m from)
 
     -- three sets are empty exactly where nothing passes
     module _ (p : ℕ → ℕ → Bool) (can : (from to : ℕ) → T (p from to) → T (canMove b from to)) (sets : Reach)
@@ -292,14 +302,14 @@ module _ (byte : Board → ℕ) (b : Board) where
           )
 
     -- no piece has a target: no move is left
-    pub stuck : (m : empty (b .men) ≡ false) (reach : Reach) → reach .king ≡ setOf (canMove b x)
+    pub stuck : (m : Plain b) (reach : Reach) → reach .king ≡ setOf (canMove b x)
         → reach .first ≡ setOf (canMove b y) → reach .second ≡ setOf (canMove b z)
         → noTargets reach ≡ empty (moves b)
     stuck m reach ex ey ez =
         same-test (noTargets reach) (empty (moves b))
         (λ t. go (moves b) refl (none-pass (canMove b) (λ f g u. u) reach ex ey ez (true-of t)))
         (λ t. of-true (all-empty (canMove b) (λ f g u. u) reach ex ey ez
-        (λ f g u. gone (moves b) (moveOn b f g) t (in-moves b f g m u))))
+        (λ f g u. gone (moves b) (moveOn b f g) t (listed b m f g u))))
       where
         go : (l : List Move) → moves b ≡ l → ((from to : ℕ) → T (canMove b from to) → ⊥) → T (empty l)
         go [] e f = tt
@@ -311,7 +321,7 @@ module _ (byte : Board → ℕ) (b : Board) where
         gone [] v t i = none-in refl i
         gone (w ∷ l) v t i = t
 
-    pub depth-told : (m : empty (b .men) ≡ false) (k : ℕ) (n : k ≡ 0 → ⊥) (sets : Reach) → Sets (2 + k) sets
+    pub depth-told : (m : Plain b) (k : ℕ) (n : k ≡ 0 → ⊥) (sets : Reach) → Sets (2 + k) sets
         → not (noTargets sets) ≡ eqb (requiredAt chess byte b) (2 + k)
     depth-told m k n sets w = go (noTargets sets) refl
       where
@@ -322,7 +332,7 @@ module _ (byte : Board → ℕ) (b : Board) where
             (λ f g t. and-left (canMove b f g) (suits (2 + k) (byte (moved b f g))) t) sets (w .of-king) (w .of-first)
             (w .of-second) e (s .0) (s .1)
             (and-both (canMove b (s .0) (s .1)) (suits (2 + k) (byte (moved b (s .0) (s .1)))) (s .2) (s .3)))
-        go false e = at (suiting-or (2 + k) x) (suiting-or (2 + k) y) (suiting-or (2 + k) z)
+        go false e = at (suiting-or m (2 + k) x) (suiting-or m (2 + k) y) (suiting-or m (2 + k) z)
           where
             at : Or (2 + k) x → Or (2 + k) y → Or (2 + k) z → true ≡ eqb (requiredAt chess byte b) (2 + k)
             at (inr s) v r = depth-met m k n (w .clear) s

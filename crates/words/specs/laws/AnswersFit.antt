@@ -19,9 +19,9 @@ use Rattle.symmetry.specs.Symmetry.{Symmetry, inverse}
 use Rattle.symmetry.specs.laws.SymmetryLaws.{mapped-on}
 use Rattle.rules.specs.declared.Piece.{Piece}
 use Rattle.rules.specs.declared.Move.{Move}
-use Rattle.rules.specs.Rules.{Board, empty, moves}
+use Rattle.rules.specs.Rules.{Board, empty, legal, moves}
 use Rattle.rules.specs.laws.CanMove.{can-on}
-use Rattle.rules.specs.Chess.{chess, played, of-moves}
+use Rattle.rules.specs.Chess.{chess, played, of-moves, plain-move}
 use Rattle.numbering.specs.declared.Material.{Material}
 use Rattle.numbering.specs.Men.{materialOf}
 use Rattle.numbering.specs.Material.{known, menOf, materialIn, sizeOf}
@@ -54,6 +54,9 @@ use Rattle.four_men.specs.Answers.{lengthsFit, lentAccepted, checkWith, fillWit
 use Rattle.four_men.specs.Truth.{FillTrueOf, LentBytes}
 use Rattle.four_men.specs.laws.Filling.{filled-1, filled-7, filled-17, filled-true-with}
 use Rattle.four_men.specs.laws.Numbers.{used-bears-with}
+use Rattle.four_men.specs.laws.Materials.{few-of}
+use Rattle.four_men.specs.laws.Standing.{standing-with-facts}
+use Rattle.four_men.specs.laws.Turned.{normal-legal}
 use Rattle.fifty.specs.Marks.{isRefused, atCount, lookUpAtWith}
 use Rattle.words.specs.Words.{numberWord, secondSquare, placedWord, countWord, filledWord, checkedWord, markedWord}
 use Rattle.words.specs.Reading.{numberRead, seated, placedRead, countRead, filledRead, checkedRead, markedRead, Byte, TableBytes, SmallBytes, RefusalFits, NumberFits, PositionFits, PlacedFits, CountFits, FilledFits, CheckedFits, AdviceFits, AnswerFits, MarkedFits}
@@ -216,25 +219,30 @@ module _ (m : Material) (l : Lent) (t : List ℕ) where
 
 -- ---- look-up
 
--- the squares of a suited move are on the board
-suited-on : (bytes : Board → ℕ) (b : Board) (m : Move) → firstSuited chess bytes b ≡ some m
-    → (m .from < 64) × (m .to < 64)
+-- the squares of a suited move are on the board, and without a pawn it promotes nothing
+suited-on : (bytes : Board → ℕ) (b : Board) → T (legal b) → (m : Move) → firstSuited chess bytes b ≡ some m
+    → (m .from < 64) × (m .to < 64) × (m .becomes ≡ 0)
 unfolding firstSuited
-suited-on bytes b m e =
-    can-on b (m .from) (m .to)
-    (of-moves b m (first-out (λ v. suits (bytes b) (bytes (played b v))) (moves b) m e .0) .1 .can)
+suited-on bytes b l m e =
+    let i = first-out (λ v. suits (bytes b) (bytes (played b v))) (moves b) m e .0 in
+    let on = can-on b (m .from) (m .to) (of-moves b m i .1 .can) in (on .0, on .1, plain-move b m l i)
 
 -- and stay there under a map
-advice-fits : (k : Symmetry) (o : Option Move) → ((m : Move) → o ≡ some m → (m .from < 64) × (m .to < 64))
+advice-fits : (k : Symmetry) (o : Option Move)
+    → ((m : Move) → o ≡ some m → (m .from < 64) × (m .to < 64) × (m .becomes ≡ 0))
     → AdviceFits (mappedAdvice k (adviceOf o))
 advice-fits k none h = tt
 advice-fits k (some m) h =
-    let r = h m refl in (omega (arith, mapped-on k (m .from) (r .0)), omega (arith, mapped-on k (m .to) (r .1)))
+    let r = h m refl in (
+      omega (arith, mapped-on k (m .from) (r .0)),
+      omega (arith, mapped-on k (m .to) (r .1)),
+      r .2,
+    )
 
-chosen-fits : (bytes : Board → ℕ) (b : Board) → AdviceFits (chosen bytes b)
+chosen-fits : (bytes : Board → ℕ) (b : Board) → T (legal (normalised b)) → AdviceFits (chosen bytes b)
 unfolding chosen
-chosen-fits bytes b =
-    advice-fits (inverse (normalBy b)) (firstSuited chess bytes (normalised b)) (suited-on bytes (normalised b))
+chosen-fits bytes b l =
+    advice-fits (inverse (normalBy b)) (firstSuited chess bytes (normalised b)) (suited-on bytes (normalised b) l)
 
 byte-fits : (t : List ℕ) (b : Board) → TableBytes t → Byte (byteOf t b)
 unfolding byteOf
@@ -282,23 +290,29 @@ module _ (l : Lent) (t : List ℕ) (p : Position) where
   abbrev bytes : Board → ℕ
   bytes = reads chess (numbered own l) t
 
+  normal-stands : standingWith p ≡ 0 → T (legal (normalised (boardOf p)))
+  normal-stands z =
+      let w = standing-with-facts p z in
+      normal-legal (boardOf p) (record { legality = w .0; few = few-of own (boardOf p .men) (w .1) })
+
   look-up-fits : SmallBytes l → TableBytes t → AnswerFits (lookUpWith l t p)
   unfolding lookUpWith
   look-up-fits h g =
       go (eqb (standingWith p) 0) refl (lengthsFit own l t)
       (eqb (bytes (boardOf p)) (requiredAt chess bytes (boardOf p)))
       (answerOf (bytes (boardOf p)) (chosen bytes (boardOf p)))
-      (value-fits (bytes (boardOf p)) (chosen bytes (boardOf p)) (reads-fit own l t (boardOf p) h g)
-      (chosen-fits bytes (boardOf p)))
+      (λ e. value-fits (bytes (boardOf p)) (chosen bytes (boardOf p)) (reads-fit own l t (boardOf p) h g)
+      (chosen-fits bytes (boardOf p) (normal-stands (eqb-true (standingWith p) 0 e))))
     where
-      go : (a : Bool) → eqb (standingWith p) 0 ≡ a → (f c : Bool) (x : Answer) → AnswerFits x
+      go : (a : Bool) → eqb (standingWith p) 0 ≡ a → (f c : Bool) (x : Answer)
+          → (eqb (standingWith p) 0 ≡ true → AnswerFits x)
           → AnswerFits
           (cond (not a) (Answer.Refused (standingWith p))
           (cond (not f) (Answer.Refused 7) (cond (not c) (Answer.Refused 11) x)))
       go false e f c x k = refusal-fits (standingWith p) 6 e (standing-with-most p) (omega arith)
       go true e false c x k = (omega arith, omega arith)
       go true e true false x k = (omega arith, omega arith)
-      go true e true true x k = k
+      go true e true true x k = k e
 
 -- refusal 19 fits like the others
 pub counted-fits : (l : Lent) (t : List ℕ) (c : ℕ) (p : Position) → SmallBytes l → TableBytes t

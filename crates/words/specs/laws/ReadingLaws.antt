@@ -7,6 +7,7 @@ use native.Mathlib.Omega.{arith}
 use lib.Dec.{eqb}
 use borrow.Author.Tests.{ne-eqb}
 use Rattle.rules.specs.declared.Move.{Move}
+use Rattle.rules.specs.Rules.{promotionOf}
 use Rattle.answers.specs.declared.BestMove.{BestMove}
 use Rattle.answers.specs.declared.Answer.{Answer}
 use Rattle.answers.specs.declared.Checked.{Checked}
@@ -195,6 +196,10 @@ flag-read false = refl
 abbrev marked : Bool → ℕ → ℕ
 marked x word = word + flagOf x * 2 ^ 25
 
+-- a move that promotes nothing is its squares and its mark
+abbrev named : Move → ℕ → BestMove
+named m k = BestMove.Play (promotionOf (m .from) (m .to) (m .takes) k)
+
 module _ (x : Bool) where
   play-bits : (v n : ℕ) (m : Move) → Byte v → Byte n → AdviceFits (BestMove.Play m)
       → ValueBits v n 1 (m .from) (m .to) (flagOf (m .takes)) (flagOf x)
@@ -212,7 +217,7 @@ module _ (x : Bool) where
       → adviceRead (marked x (v * 2 ^ 8 + n * 2 ^ 16 + adviceWord a)) ≡ a
   advice-back v n (BestMove.Play m) hv hn h =
       let b = play-bits v n m hv hn h in
-      rw (b .given-read, b .from-read, b .to-read, b .takes-read, flag-read (m .takes))
+      rw (b .given-read, b .from-read, b .to-read, b .takes-read, flag-read (m .takes)) (ap (named m) (sym (h .2)))
   advice-back v n BestMove.NoMove hv hn h = let b = none-bits v n hv hn in rw (b .given-read)
 
   value-back : (v n : ℕ) (a : BestMove) → Byte v → Byte n → AdviceFits a
@@ -232,6 +237,7 @@ module _ (x : Bool) where
         b .mark-read,
         flag-read x,
       )
+      (ap (λ (k : ℕ). record { answer = valueRead v n (named m k); «within_fifty» = x }) (sym (h .2)))
   value-back v n BestMove.NoMove hv hn h =
       let b = none-bits v n hv hn in
       rw (b .none, b .value-read, b .depth-read, b .given-read, b .mark-read, flag-read x)

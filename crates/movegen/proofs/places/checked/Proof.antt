@@ -8,7 +8,7 @@ men-check-requires : tie.Need-men-check-requires
 men-check-requires c κs = search needs
 
 returns : tie.Need-returns
-returns c = λ k. c .men-check .ensures (complete-spread k .kings)
+returns c = λ k. let w = complete-spread k in c .men-check .ensures (w .pawnless) (w .kings)
 
 pub checked-spec : {M : Type 1} → statement M
 checked-spec = tie.close (tie.spec men-check-requires returns)

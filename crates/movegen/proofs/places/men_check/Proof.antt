@@ -26,10 +26,10 @@ unfolding boardOf posed
 returns c =
     let o = c .before .before .before in
     let x = o .before .args in
-    λ apart. c .men-strike .ensures
+    λ none apart. c .men-strike .ensures
     ∙ ap₂ (menStrike (x .m) (x .q) (has (o .occupied-at .result))) (c .before .before .other .ensures)
     (c .before .king-at .ensures)
-    ∙ sym (check-men (x .m) (x .q) apart (x .side) _ (o .occupied-at .ensures (x .m)))
+    ∙ sym (check-men (x .m) (x .q) none apart (x .side) _ (o .occupied-at .ensures (x .m)))
 
 pub men-check-spec : {M : Type 1} → statement M
 men-check-spec =

@@ -10,7 +10,7 @@ king-square-requires : tie.Need-king-square-requires
 king-square-requires c κs = tt
 
 returns : tie.Need-returns
-returns c = all-checks _ _
+returns c none = all-checks _ _
 
 occupied-requires : tie.Need-occupied-requires
 occupied-requires c κs = tt
@@ -25,13 +25,13 @@ attacked-over-requires : tie.Need-attacked-over-requires
 attacked-over-requires c κs = tt
 
 returns-2 : tie.Need-returns-2
-returns-2 c = all-checks _ _
+returns-2 c none = all-checks _ _
 
 aimed-all-requires : tie.Need-aimed-all-requires
 aimed-all-requires c κs = tt
 
 returns-3 : tie.Need-returns-3
-returns-3 c =
+returns-3 c none =
     let a = c .before .before in
     let o = a .before in
     let w = o .before in
@@ -39,7 +39,7 @@ returns-3 c =
     let i = p .before in
     let k = i .before in
     aimed-checks _ _ _ _ _ _ _ (k .before .other .ensures) (k .king-square .ensures) (o .other2 .ensures)
-    (p .occupied .ensures) (w .without .ensures) (i .if1 .left) _ (a .attacked-over .ensures)
+    (p .occupied .ensures) (w .without .ensures) none (i .if1 .left) _ (a .attacked-over .ensures)
     (c .before .if2 .left) _ (c .aimed-all .ensures)
 
 pub checking-spec : {M : Type 1} → statement M

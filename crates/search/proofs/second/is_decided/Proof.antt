@@ -7,13 +7,13 @@ won-within-requires : tie.Need-won-within-requires
 won-within-requires c κs = tt
 
 returns : tie.Need-returns
-returns c = asked-odd _ _ _ (c .before .if1 .taken) (c .won-within .ensures)
+returns c none = asked-odd _ _ _ (c .before .if1 .taken) (c .won-within .ensures none)
 
 lost-within-requires : tie.Need-lost-within-requires
 lost-within-requires c κs = tt
 
 returns-2 : tie.Need-returns-2
-returns-2 c = asked-even _ _ _ (c .before .if1 .left) (c .lost-within .ensures)
+returns-2 c none = asked-even _ _ _ (c .before .if1 .left) (c .lost-within .ensures none)
 
 pub is-decided-spec : {M : Type 1} → statement M
 is-decided-spec = tie.close (tie.spec won-within-requires returns lost-within-requires returns-2)

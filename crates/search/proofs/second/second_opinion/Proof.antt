@@ -2,7 +2,8 @@
 use Prim.Native.Nat.{_+_, _-_}
 use native.Mathlib.Omega.{arith}
 use Rattle.position.specs.Keyed.{boardOf}
-use Rattle.search.specs.laws.OpinionLaws.{NoneBelow, below-none, below-more, found-none, found-win, found-loss, opinion-refused, opinion-deep, opinion-searched}
+use Rattle.search.specs.Tried.{Pawnless}
+use Rattle.search.specs.laws.OpinionLaws.{NoneBelow, served-pawnless, below-none, below-more, found-none, found-win, found-loss, opinion-refused, opinion-deep, opinion-searched}
 use Rattle.search.proofs.second.second_opinion.Statement.{statement}
 use Rattle.search.proofs.second.second_opinion.Tie as tie
 
@@ -24,6 +25,12 @@ returns-2 c = opinion-deep _ _ _ (c .before .before .standing-refusal .ensures) 
 loop-holds : tie.Need-loop-holds Inv-loop μ-loop
 loop-holds c = below-none _
 
+-- the search is asked only of a position that is not refused
+pawnless : (d : tie.After-is-decided Inv-loop μ-loop)
+    → Pawnless (boardOf (d .before .before .before .before .before .before .args .p))
+pawnless d = let e = d .before .before .before in
+    served-pawnless _ 0 _ (e .before .before .standing-refusal .ensures) (e .before .if1 .left)
+
 is-decided-requires : tie.Need-is-decided-requires Inv-loop μ-loop
 is-decided-requires c κs = tt
 
@@ -33,7 +40,7 @@ returns-3 c =
     let l = d .before .before in
     let e = l .before in
     opinion-searched _ _ _ (e .before .before .standing-refusal .ensures) (e .before .if1 .left) _ (e .if2 .left)
-    (found-win _ _ (l .loop .inv) _ (d .before .loop-test .taken) _ (d .is-decided .ensures)
+    (found-win _ _ (l .loop .inv) _ (d .before .loop-test .taken) _ (d .is-decided .ensures (pawnless d))
     (c .before .if3 .taken) (c .if4 .taken))
 
 returns-4 : tie.Need-returns-4 Inv-loop μ-loop
@@ -42,7 +49,7 @@ returns-4 c =
     let l = d .before .before in
     let e = l .before in
     opinion-searched _ _ _ (e .before .before .standing-refusal .ensures) (e .before .if1 .left) _ (e .if2 .left)
-    (found-loss _ _ (l .loop .inv) _ (d .before .loop-test .taken) _ (d .is-decided .ensures)
+    (found-loss _ _ (l .loop .inv) _ (d .before .loop-test .taken) _ (d .is-decided .ensures (pawnless d))
     (c .before .if3 .taken) (c .if4 .left))
 
 add-n : tie.Need-add-n Inv-loop μ-loop
@@ -52,7 +59,9 @@ loop-less : tie.Need-loop-less Inv-loop μ-loop
 loop-less c = omega arith
 
 loop-again : tie.Need-loop-again Inv-loop μ-loop
-loop-again c = below-more _ _ (c .before .before .before .loop .inv) _ (c .before .is-decided .ensures) (c .if3 .left)
+loop-again c =
+    let d = c .before in
+    below-more _ _ (d .before .before .loop .inv) _ (d .is-decided .ensures (pawnless d)) (c .if3 .left)
 
 returns-5 : tie.Need-returns-5 Inv-loop μ-loop
 returns-5 c =

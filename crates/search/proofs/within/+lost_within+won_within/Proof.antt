@@ -11,7 +11,7 @@ use Rattle.board.specs.Sets.{members}
 use Rattle.board.specs.laws.LowestLaws.{lowest-of}
 use Rattle.rules.specs.Chess.{chess}
 use Rattle.position.specs.Keyed.{boardOf}
-use Rattle.search.specs.Tried.{movesOn, movesLeft, losing, winning}
+use Rattle.search.specs.Tried.{Pawnless, movesOn, movesLeft, losing, winning}
 use Rattle.search.specs.laws.WithinLaws.{won-none, won-start, won-hit, won-miss, any-piece, any-piece-end, any-end, lost-mate, lost-stalemate, lost-none, lost-start, lost-miss, lost-hit, all-piece, all-piece-end, all-end}
 use borrow.Fn.Kinds.{In}
 use borrow.Fn.PlainCycle.{Measures, is, falls, and}
@@ -77,14 +77,16 @@ lost-within-claims t = (
 
 abbrev lost-within-Inv-loop2 : lost-within-lts.InvT-loop2
 lost-within-Inv-loop2 s k rest from targets₀ targets = (targets < 2 ^ 64)
-    × (all (winning k (boardOf s)) (movesLeft (boardOf s) from targets rest) ≡ lost chess k (boardOf s))
+    × (Pawnless (boardOf s)
+    → all (winning k (boardOf s)) (movesLeft (boardOf s) from targets rest) ≡ lost chess k (boardOf s))
 
 abbrev lost-within-μ-loop2 : lost-within-lts.MeasureT-loop2
 lost-within-μ-loop2 s k rest from targets₀ targets = length (members targets)
 
 abbrev lost-within-Inv-loop : lost-within-lts.InvT-loop
 lost-within-Inv-loop s k rest₀ rest =
-    (rest < 2 ^ 64) × (all (winning k (boardOf s)) (movesOn (boardOf s) rest) ≡ lost chess k (boardOf s))
+    (rest < 2 ^ 64)
+    × (Pawnless (boardOf s) → all (winning k (boardOf s)) (movesOn (boardOf s) rest) ≡ lost chess k (boardOf s))
 
 abbrev lost-within-μ-loop : lost-within-lts.MeasureT-loop
 lost-within-μ-loop s k rest₀ rest = length (members rest)
@@ -102,21 +104,21 @@ lost-within-in-check-requires t c κs = tt
 lost-within-returns : (t : ℕ)
     → lost-within-lts.Need-returns (lost-within-claims t) (lost-within-at t) lost-within.Post lost-within-Inv-loop2
     lost-within-μ-loop2 lost-within-Inv-loop lost-within-μ-loop
-lost-within-returns t c =
+lost-within-returns t c none =
     lost-mate _ _ _ _ (c .before .before .before .can-move .ensures) (c .before .before .if1 .taken)
     (c .before .in-check .ensures) (c .if2 .taken)
 
 lost-within-returns-2 : (t : ℕ)
     → lost-within-lts.Need-returns-2 (lost-within-claims t) (lost-within-at t) lost-within.Post lost-within-Inv-loop2
     lost-within-μ-loop2 lost-within-Inv-loop lost-within-μ-loop
-lost-within-returns-2 t c =
+lost-within-returns-2 t c none =
     lost-stalemate _ _ _ _ (c .before .before .before .can-move .ensures) (c .before .before .if1 .taken)
     (c .before .in-check .ensures) (c .if2 .left)
 
 lost-within-returns-3 : (t : ℕ)
     → lost-within-lts.Need-returns-3 (lost-within-claims t) (lost-within-at t) lost-within.Post lost-within-Inv-loop2
     lost-within-μ-loop2 lost-within-Inv-loop lost-within-μ-loop
-lost-within-returns-3 t c =
+lost-within-returns-3 t c none =
     lost-none _ _ _ (c .before .before .can-move .ensures) (c .before .if1 .left) (c .if3 .taken)
 
 lost-within-movers-requires : (t : ℕ)
@@ -129,7 +131,7 @@ lost-within-loop-holds : (t : ℕ)
     lost-within-μ-loop2 lost-within-Inv-loop lost-within-μ-loop
 lost-within-loop-holds t c = let e = c .before .before in (
   c .movers .ok,
-  lost-start _ _ _ (e .before .can-move .ensures) (e .if1 .left) _ (c .before .if3 .left) (c .movers .ensures),
+  λ none. lost-start _ _ _ (e .before .can-move .ensures) (e .if1 .left) _ (c .before .if3 .left) (c .movers .ensures),
 )
 
 lost-within-lowest-requires : (t : ℕ)
@@ -155,9 +157,9 @@ lost-within-loop2-holds t c =
     let i = x .before .before in
     let l = i .before .loop in (
       c .legal-targets .ok,
-      all-piece _ _ _ (l .rest) _ _ _
+      λ none. all-piece _ _ _ (l .rest) _ _ _
           (lowest-of (l .rest) _ _ (l .inv .0) (i .loop-test .taken) (x .before .lowest .ensures) (x .without .ensures))
-          (c .legal-targets .ensures) (l .inv .1),
+          (c .legal-targets .ensures) (l .inv .1 none),
     )
 
 lost-within-loop-less : (t : ℕ)
@@ -175,7 +177,7 @@ lost-within-loop-again : (t : ℕ)
     lost-within-μ-loop2 lost-within-Inv-loop lost-within-μ-loop
 lost-within-loop-again t c = (
   c .before .before .before .without .ok,
-  all-piece-end _ _ _ _ (c .before .loop2 .targets) _ (c .loop2-test .left) (c .before .loop2 .inv .1),
+  λ none. all-piece-end _ _ _ _ (c .before .loop2 .targets) _ (c .loop2-test .left) (c .before .loop2 .inv .1 none),
 )
 
 lost-within-lowest-requires-2 : (t : ℕ)
@@ -201,13 +203,13 @@ lost-within-won-within-requires t c κs = omega arith
 lost-within-returns-4 : (t : ℕ)
     → lost-within-lts.Need-returns-4 (lost-within-claims t) (lost-within-at t) lost-within.Post lost-within-Inv-loop2
     lost-within-μ-loop2 lost-within-Inv-loop lost-within-μ-loop
-lost-within-returns-4 t c =
+lost-within-returns-4 t c none =
     let m = c .before .before in
     let i = m .before .before in
     let l = i .before .loop2 in
-    lost-miss _ _ _ _ _ _ (l .targets) _ _ _
+    lost-miss _ _ _ none _ _ _ (l .targets) _ _ _
     (lowest-of (l .targets) _ _ (l .inv .0) (i .loop2-test .taken) (m .before .lowest2 .ensures) refl)
-    (m .make .ensures) (c .before .won-within .ensures) (l .inv .1) (not-true _ (c .if4 .taken))
+    (m .make .ensures) (c .before .won-within .ensures) (l .inv .1 none) (not-true _ (c .if4 .taken))
 
 lost-within-without-requires-2 : (t : ℕ)
     → lost-within-lts.Need-without-requires-2 (lost-within-claims t) (lost-within-at t) lost-within.Post
@@ -232,16 +234,17 @@ lost-within-loop2-again t c =
     let i = m .before .before in
     let l = i .before .loop2 in (
       c .without2 .ok,
-      lost-hit _ _ _ _ _ _ (l .targets) _ _ _
+      λ none. lost-hit _ _ _ none _ _ _ (l .targets) _ _ _
           (lowest-of (l .targets) _ _ (l .inv .0) (i .loop2-test .taken) (m .before .lowest2 .ensures)
-          (c .without2 .ensures)) (m .make .ensures) (c .before .before .won-within .ensures) (l .inv .1)
+          (c .without2 .ensures)) (m .make .ensures) (c .before .before .won-within .ensures) (l .inv .1 none)
           (not-false _ (c .before .if4 .left)),
     )
 
 lost-within-returns-5 : (t : ℕ)
     → lost-within-lts.Need-returns-5 (lost-within-claims t) (lost-within-at t) lost-within.Post lost-within-Inv-loop2
     lost-within-μ-loop2 lost-within-Inv-loop lost-within-μ-loop
-lost-within-returns-5 t c = all-end _ _ _ (c .before .loop .rest) (c .loop-test .left) (c .before .loop .inv .1)
+lost-within-returns-5 t c none =
+    all-end _ _ _ (c .before .loop .rest) (c .loop-test .left) (c .before .loop .inv .1 none)
 
 -- what its callees ask and give; of the other function of the cycle, at fewer plies than t
 abbrev won-within-claims : ℕ → won-within-lts.Claims
@@ -262,14 +265,16 @@ won-within-claims t = (
 
 abbrev won-within-Inv-loop2 : won-within-lts.InvT-loop2
 won-within-Inv-loop2 s k rest from targets₀ targets = (targets < 2 ^ 64)
-    × (any (losing k (boardOf s)) (movesLeft (boardOf s) from targets rest) ≡ won chess k (boardOf s))
+    × (Pawnless (boardOf s)
+    → any (losing k (boardOf s)) (movesLeft (boardOf s) from targets rest) ≡ won chess k (boardOf s))
 
 abbrev won-within-μ-loop2 : won-within-lts.MeasureT-loop2
 won-within-μ-loop2 s k rest from targets₀ targets = length (members targets)
 
 abbrev won-within-Inv-loop : won-within-lts.InvT-loop
 won-within-Inv-loop s k rest₀ rest =
-    (rest < 2 ^ 64) × (any (losing k (boardOf s)) (movesOn (boardOf s) rest) ≡ won chess k (boardOf s))
+    (rest < 2 ^ 64)
+    × (Pawnless (boardOf s) → any (losing k (boardOf s)) (movesOn (boardOf s) rest) ≡ won chess k (boardOf s))
 
 abbrev won-within-μ-loop : won-within-lts.MeasureT-loop
 won-within-μ-loop s k rest₀ rest = length (members rest)
@@ -277,7 +282,7 @@ won-within-μ-loop s k rest₀ rest = length (members rest)
 won-within-returns : (t : ℕ)
     → won-within-lts.Need-returns (won-within-claims t) (won-within-at t) won-within.Post won-within-Inv-loop2
     won-within-μ-loop2 won-within-Inv-loop won-within-μ-loop
-won-within-returns t c = won-none _ _ (c .if1 .taken)
+won-within-returns t c none = won-none _ _ (c .if1 .taken)
 
 won-within-movers-requires : (t : ℕ)
     → won-within-lts.Need-movers-requires (won-within-claims t) (won-within-at t) won-within.Post won-within-Inv-loop2
@@ -287,7 +292,7 @@ won-within-movers-requires t c κs = tt
 won-within-loop-holds : (t : ℕ)
     → won-within-lts.Need-loop-holds (won-within-claims t) (won-within-at t) won-within.Post won-within-Inv-loop2
     won-within-μ-loop2 won-within-Inv-loop won-within-μ-loop
-won-within-loop-holds t c = (c .movers .ok, won-start _ _ _ (c .before .if1 .left) (c .movers .ensures))
+won-within-loop-holds t c = (c .movers .ok, λ none. won-start _ _ _ (c .before .if1 .left) (c .movers .ensures))
 
 won-within-lowest-requires : (t : ℕ)
     → won-within-lts.Need-lowest-requires (won-within-claims t) (won-within-at t) won-within.Post won-within-Inv-loop2
@@ -312,9 +317,9 @@ won-within-loop2-holds t c =
     let i = x .before .before in
     let l = i .before .loop in (
       c .tried .ok,
-      any-piece _ _ _ (l .rest) _ _ _
+      λ none. any-piece _ _ _ (l .rest) _ _ _
           (lowest-of (l .rest) _ _ (l .inv .0) (i .loop-test .taken) (x .before .lowest .ensures) (x .without .ensures))
-          (c .tried .ensures) (l .inv .1),
+          (c .tried .ensures none) (l .inv .1 none),
     )
 
 won-within-loop-less : (t : ℕ)
@@ -332,7 +337,7 @@ won-within-loop-again : (t : ℕ)
     won-within-μ-loop2 won-within-Inv-loop won-within-μ-loop
 won-within-loop-again t c = (
   c .before .before .before .without .ok,
-  any-piece-end _ _ _ _ (c .before .loop2 .targets) _ (c .loop2-test .left) (c .before .loop2 .inv .1),
+  λ none. any-piece-end _ _ _ _ (c .before .loop2 .targets) _ (c .loop2-test .left) (c .before .loop2 .inv .1 none),
 )
 
 won-within-lowest-requires-2 : (t : ℕ)
@@ -358,13 +363,13 @@ won-within-lost-within-requires t c κs = omega arith
 won-within-returns-2 : (t : ℕ)
     → won-within-lts.Need-returns-2 (won-within-claims t) (won-within-at t) won-within.Post won-within-Inv-loop2
     won-within-μ-loop2 won-within-Inv-loop won-within-μ-loop
-won-within-returns-2 t c =
+won-within-returns-2 t c none =
     let m = c .before .before in
     let i = m .before .before in
     let l = i .before .loop2 in
-    won-hit _ _ _ _ _ _ (l .targets) _ _ _
+    won-hit _ _ _ none _ _ _ (l .targets) _ _ _
     (lowest-of (l .targets) _ _ (l .inv .0) (i .loop2-test .taken) (m .before .lowest2 .ensures) refl)
-    (m .make .ensures) (c .before .lost-within .ensures) (l .inv .1) (c .if2 .taken)
+    (m .make .ensures) (c .before .lost-within .ensures) (l .inv .1 none) (c .if2 .taken)
 
 won-within-without-requires-2 : (t : ℕ)
     → won-within-lts.Need-without-requires-2 (won-within-claims t) (won-within-at t) won-within.Post
@@ -389,16 +394,17 @@ won-within-loop2-again t c =
     let i = m .before .before in
     let l = i .before .loop2 in (
       c .without2 .ok,
-      won-miss _ _ _ _ _ _ (l .targets) _ _ _
+      λ none. won-miss _ _ _ none _ _ _ (l .targets) _ _ _
           (lowest-of (l .targets) _ _ (l .inv .0) (i .loop2-test .taken) (m .before .lowest2 .ensures)
-          (c .without2 .ensures)) (m .make .ensures) (c .before .before .lost-within .ensures) (l .inv .1)
+          (c .without2 .ensures)) (m .make .ensures) (c .before .before .lost-within .ensures) (l .inv .1 none)
           (c .before .if2 .left),
     )
 
 won-within-returns-3 : (t : ℕ)
     → won-within-lts.Need-returns-3 (won-within-claims t) (won-within-at t) won-within.Post won-within-Inv-loop2
     won-within-μ-loop2 won-within-Inv-loop won-within-μ-loop
-won-within-returns-3 t c = any-end _ _ _ (c .before .loop .rest) (c .loop-test .left) (c .before .loop .inv .1)
+won-within-returns-3 t c none =
+    any-end _ _ _ (c .before .loop .rest) (c .loop-test .left) (c .before .loop .inv .1 none)
 
 pub +lost-within+won-within-spec : {M : Type 1} → statement M
 +lost-within+won-within-spec =
