@@ -1,9 +1,12 @@
 // The men of a position in standard order and colours, and the normal place of its class.
 use super::Arranged;
 use super::NormalPlace;
-use super::least::least_at;
+use super::least::alike;
+use super::least::lesser;
 use super::least::place_from;
-use super::least::swaps_at;
+use super::least::rising_key;
+use super::least::transposed_key;
+use super::least::turned_key;
 use position::Map;
 use position::Men;
 use position::Place;
@@ -80,16 +83,18 @@ fn normal_of(men: Men, q: Place) -> NormalPlace
     ensures { λ r. ⌜ r ≡ normalAs (record { men = men; place = q }) ⌝ }
 {
     let white = q.white;
-    let least = least_at(men, q);
-    let place = place_from(64 <= q.second, q.side, least);
-    let swap = swaps_at(men, q);
+    let like = alike(men);
+    let k = turned_key(q.white, q.black, q.first, q.second);
+    let t = rising_key(like, transposed_key(k));
+    let s = rising_key(like, k);
+    let place = place_from(64 <= q.second, q.side, lesser(s, t));
     NormalPlace {
         men: men,
         place: place,
         via: Map {
             files: 3 < white % 8,
             ranks: 3 < white / 8,
-            swap: swap,
+            swap: t < s,
         },
     }
 }

@@ -17,7 +17,6 @@ ghost use Rattle.position.specs.Keyed.{boardOf, oneMan};
 ghost use Rattle.position.specs.Posed.{boardIn};
 ghost use Rattle.index.specs.Least.{flipOf, packed as packedOf, turnedKey, transposedKey, risingKey, leastOf};
 ghost use Rattle.index.specs.Seats.{Seated, alike as alikeMen, leastAt, placeFrom, numberBy, numberFrom};
-ghost use Rattle.index.specs.Arranging.{swapsAt};
 
 // The files of all four squares.
 const FILES: u32 = 1864135;
@@ -46,7 +45,7 @@ fn packed(w: u8, b: u8, x: u8, y: u8) -> u32
 }
 
 // The squares with the reversals for this white king; 0 for a second man who is not there.
-fn turned_key(white: u8, black: u8, first: u8, second: u8) -> u32
+pub fn turned_key(white: u8, black: u8, first: u8, second: u8) -> u32
     ensures { λ r. ⌜ r ≡ turnedKey white black first second ⌝ }
 {
     let flip = flip_of(white);
@@ -57,14 +56,14 @@ fn turned_key(white: u8, black: u8, first: u8, second: u8) -> u32
 }
 
 // File and rank exchanged in each of the squares.
-fn transposed_key(k: u32) -> u32
+pub fn transposed_key(k: u32) -> u32
     ensures { λ r. ⌜ r ≡ transposedKey k ⌝ }
 {
     (k / 8 & FILES) + (k & FILES) * 8
 }
 
 // Like men, the lower square first.
-fn rising_key(like: bool, k: u32) -> u32
+pub fn rising_key(like: bool, k: u32) -> u32
     ensures { λ r. ⌜ r ≡ risingKey like k ⌝ }
 {
     let x = k / 64 % 64;
@@ -76,7 +75,7 @@ fn rising_key(like: bool, k: u32) -> u32
 }
 
 // The lesser of two keys.
-fn lesser(k: u32, t: u32) -> u32
+pub fn lesser(k: u32, t: u32) -> u32
     ensures { λ r. ⌜ r ≡ cond (ltb t k) t k ⌝ }
 {
     if t < k {
@@ -104,19 +103,10 @@ pub fn alike(m: Men) -> bool
 }
 
 // The least key of a place's class.
-pub fn least_at(m: Men, q: Place) -> u32
+fn least_at(m: Men, q: Place) -> u32
     ensures { λ r. ⌜ r ≡ leastAt m q ⌝ }
 {
     least_of(alike(m), turned_key(q.white, q.black, q.first, q.second))
-}
-
-// Whether file and rank are exchanged to reach it.
-pub fn swaps_at(m: Men, q: Place) -> bool
-    ensures { λ r. ⌜ r ≡ swapsAt m q ⌝ }
-{
-    let like = alike(m);
-    let k = turned_key(q.white, q.black, q.first, q.second);
-    rising_key(like, transposed_key(k)) < rising_key(like, k)
 }
 
 // The second man's square that a key tells; 64 where there is none.
@@ -160,11 +150,31 @@ fn number_from(single: bool, side: u8, k: u32) -> u32
     number_by(single, side, pairs::pair_by((k / 4096 % 4096) as u16), k)
 }
 
+// The number of squares given one by one, since a place handed through memory costs time.
+fn number_on(single: bool, like: bool, side: u8, white: u8, black: u8, first: u8, second: u8) -> u32
+    ensures { λ r. ⌜ (T (inTriangle (leastOf like (turnedKey white black first second) / 4096 % 4096 / 64)) → r ≡ numberFrom single side (leastOf like (turnedKey white black first second))) ⌝ }
+{
+    number_from(
+        single,
+        side,
+        least_of(like, turned_key(white, black, first, second)),
+    )
+}
+
 // The number of an ending's men on the board.
 pub fn number_at(m: Men, q: Place) -> u32
     ensures { λ r. ⌜ (Seated m q → r ≡ numberOf (boardIn m q)) ⌝ }
 {
-    number_from(64 <= q.second, q.side, least_at(m, q))
+    let like = alike(m);
+    number_on(
+        64 <= q.second,
+        like,
+        q.side,
+        q.white,
+        q.black,
+        q.first,
+        q.second,
+    )
 }
 
 // The same, the pair by the constant list.

@@ -1,3 +1,4 @@
 pub mod Framing
 pub mod Successors
+pub mod Quiet
 pub mod laws

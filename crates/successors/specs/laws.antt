@@ -3,6 +3,7 @@ pub mod PlaceLaws
 pub mod FramingLaws
 pub mod ByteLaws
 pub mod SiftLaws
+pub mod QuietLaws
 pub mod JudgeLaws
 pub mod ChoiceLaws
 pub mod VerdictLaws

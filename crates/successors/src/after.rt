@@ -19,7 +19,7 @@ ghost use Rattle.successors.specs.Framing.{frameFor};
 ghost use Rattle.successors.specs.Successors.{bytesIn, Remains, framedAfter};
 
 // The byte at a number; 0 beyond the table's end.
-fn read_at(table: &[u8], n: usize) -> u8
+pub fn read_at(table: &[u8], n: usize) -> u8
     ensures { λ r. ⌜ r ≡ getD (now (table .entry)) n 0 ⌝ }
 {
     if table.len() <= n {
@@ -28,7 +28,7 @@ fn read_at(table: &[u8], n: usize) -> u8
     table[n]
 }
 
-fn read(table: &[u8], n: u32) -> u8
+pub fn read(table: &[u8], n: u32) -> u8
     ensures { λ r. ⌜ r ≡ getD (now (table .entry)) n 0 ⌝ }
 {
     read_at(table, n as usize)

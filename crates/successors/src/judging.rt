@@ -1,7 +1,8 @@
 // A byte compared with all successors: the king's moves, the first man's and the second's.
 use super::Judged;
 use super::Sifted;
-use super::sifting::sift;
+use super::quiet::sift;
+use super::quiet::sift_some;
 use movegen::Reach;
 use movegen::king_at;
 use position::Men;
@@ -22,7 +23,7 @@ pub fn judge(
     ensures { λ r. ⌜ (Complete m q → Reaches m q reach → r ≡ judgedFrom (bytesIn m (now (first .entry)) (now (second .entry)) (now (table .entry))) byte (boardIn m q) (kingAt q) (q .first) (q .second)) ⌝ }
 {
     let king = king_at(q, q.side);
-    let by_king = sift(m, q, king, reach.king, byte, table, first, second);
+    let by_king = sift_some(m, q, king, reach.king, byte, table, first, second);
     match by_king {
         Sifted::Refuted => Judged::Refuted,
         Sifted::Suited(a) => {

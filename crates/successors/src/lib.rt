@@ -5,10 +5,13 @@ use movegen::Reach;
 use position::Place;
 
 mod after;
+mod along;
+mod by_king;
 mod choosing;
 mod framing;
 mod judging;
 mod numbers;
+mod quiet;
 mod sifting;
 mod verdicts;
 

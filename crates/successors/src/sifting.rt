@@ -1,4 +1,5 @@
-// A byte compared with the successors by one piece's moves, in one pass that stops at the first that refutes it.
+// A byte compared with the successors by one piece's moves, whichever they are, in one pass that stops at the first that
+// refutes it.
 use super::Sifted;
 use super::after::byte_after;
 use super::framing::frame_for;
@@ -20,7 +21,7 @@ ghost use Rattle.position.specs.Posed.{boardIn, Complete};
 ghost use Rattle.successors.specs.Successors.{bytesIn, siftedFrom};
 
 // The set with one more target, if it suits.
-fn with_suited(found: u64, suited: bool, to: u8) -> u64
+pub fn with_suited(found: u64, suited: bool, to: u8) -> u64
     ensures { λ r. ⌜ r ≡ cond suited (setOf (λ (u : ℕ). has found u || eqb u to)) found ⌝ }
 {
     if suited {
@@ -30,7 +31,7 @@ fn with_suited(found: u64, suited: bool, to: u8) -> u64
 }
 
 // The moves of the piece on a square to all its legal targets.
-pub fn sift(
+pub fn sift_each(
     m: Men,
     q: Place,
     from: u8,
@@ -42,9 +43,6 @@ pub fn sift(
 ) -> Sifted
     ensures { λ r. ⌜ (Complete m q → targets ≡ setOf (canMove (boardIn m q) from) → r ≡ siftedFrom (bytesIn m (now (first .entry)) (now (second .entry)) (now (table .entry))) byte (boardIn m q) from) ⌝ }
 {
-    if targets == 0 {
-        return Sifted::Suited(0);
-    }
     let f = frame_for(other(q.side), q.white, q.black);
     let mut found: u64 = 0;
     let mut rest = targets;

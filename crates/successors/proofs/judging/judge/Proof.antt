@@ -7,8 +7,8 @@ use Rattle.successors.proofs.judging.judge.Tie as tie
 king-at-requires : tie.Need-king-at-requires
 king-at-requires c κs = search needs
 
-sift-requires : tie.Need-sift-requires
-sift-requires c κs = search needs
+sift-some-requires : tie.Need-sift-some-requires
+sift-some-requires c κs = search needs
 
 enum-told : tie.Need-enum-told
 enum-told c = search needs
@@ -16,8 +16,8 @@ enum-told c = search needs
 enum-known-by-king : tie.Need-enum-known-by-king
 enum-known-by-king c = search needs
 
-sift-requires-2 : tie.Need-sift-requires-2
-sift-requires-2 c κs = search needs
+sift-requires : tie.Need-sift-requires
+sift-requires c κs = search needs
 
 enum-told-2 : tie.Need-enum-told-2
 enum-told-2 c = search needs
@@ -25,8 +25,8 @@ enum-told-2 c = search needs
 enum-known-by-first : tie.Need-enum-known-by-first
 enum-known-by-first c = search needs
 
-sift-requires-3 : tie.Need-sift-requires-3
-sift-requires-3 c κs = search needs
+sift-requires-2 : tie.Need-sift-requires-2
+sift-requires-2 c κs = search needs
 
 enum-told-3 : tie.Need-enum-told-3
 enum-told-3 c = search needs
@@ -38,7 +38,7 @@ returns : tie.Need-returns
 returns c =
     let k = c .before .before in
     λ w t. king-refuted _ _ _ _ _ _ _
-    (sifted-at _ _ _ _ _ _ _ (k .before .king-at .ensures) (t .king) (k .sift .ensures w)) (c .enum-told .given .1)
+    (sifted-at _ _ _ _ _ _ _ (k .before .king-at .ensures) (t .king) (k .sift-some .ensures w)) (c .enum-told .given .1)
 
 returns-2 : tie.Need-returns-2
 returns-2 c =
@@ -46,8 +46,8 @@ returns-2 c =
     let o = f .before .before in
     let k = o .before .before in
     λ w t. first-refuted _ _ _ _ _ _ _
-    (sifted-at _ _ _ _ _ _ _ (k .before .king-at .ensures) (t .king) (k .sift .ensures w)) _ (o .by-king .given .1) _
-    (f .sift2 .ensures w (t .first)) (c .enum-told2 .given .1)
+    (sifted-at _ _ _ _ _ _ _ (k .before .king-at .ensures) (t .king) (k .sift-some .ensures w)) _ (o .by-king .given .1) _
+    (f .sift .ensures w (t .first)) (c .enum-told2 .given .1)
 
 returns-3 : tie.Need-returns-3
 returns-3 c =
@@ -57,8 +57,8 @@ returns-3 c =
     let o = f .before .before in
     let k = o .before .before in
     λ w t. second-refuted _ _ _ _ _ _ _
-    (sifted-at _ _ _ _ _ _ _ (k .before .king-at .ensures) (t .king) (k .sift .ensures w)) _ (o .by-king .given .1) _
-    (f .sift2 .ensures w (t .first)) _ (p .by-first .given .1) _ (s .sift3 .ensures w (t .second))
+    (sifted-at _ _ _ _ _ _ _ (k .before .king-at .ensures) (t .king) (k .sift-some .ensures w)) _ (o .by-king .given .1) _
+    (f .sift .ensures w (t .first)) _ (p .by-first .given .1) _ (s .sift2 .ensures w (t .second))
     (c .enum-told3 .given .1)
 
 returns-4 : tie.Need-returns-4
@@ -70,8 +70,8 @@ returns-4 c =
     let o = f .before .before in
     let k = o .before .before in
     λ w t. all-suited _ _ _ _ _ _ _
-    (sifted-at _ _ _ _ _ _ _ (k .before .king-at .ensures) (t .king) (k .sift .ensures w)) _ (o .by-king .given .1) _
-    (f .sift2 .ensures w (t .first)) _ (p .by-first .given .1) _ (s .sift3 .ensures w (t .second)) _
+    (sifted-at _ _ _ _ _ _ _ (k .before .king-at .ensures) (t .king) (k .sift-some .ensures w)) _ (o .by-king .given .1) _
+    (f .sift .ensures w (t .first)) _ (p .by-first .given .1) _ (s .sift2 .ensures w (t .second)) _
     (r .by-second .given .1)
 
 pub judge-spec : {M : Type 1} → statement M
@@ -79,13 +79,13 @@ judge-spec =
     tie.close
     (tie.spec
     king-at-requires
-    sift-requires
+    sift-some-requires
     enum-told
     enum-known-by-king
-    sift-requires-2
+    sift-requires
     enum-told-2
     enum-known-by-first
-    sift-requires-3
+    sift-requires-2
     enum-told-3
     enum-known-by-second
     returns

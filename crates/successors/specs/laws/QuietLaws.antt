@@ -1,0 +1,197 @@
+-- The byte after a move that takes no man: of a man at equal steps from a base, of a king at the number.
+use mathlib.Core.Path.{_≡_, refl, sym, ap, subst⁻¹, _∙_}
+use mathlib.Core.Bool.{Bool, true, false, cond, not, _&&_, _||_}
+use mathlib.Core.Logic.{_⊎_, inl, inr}
+use mathlib.Core.List.{List}
+use Prim.Native.Nat.{ℕ, _+_, _*_, _-_, _/_, _≤_, _<_}
+use native.Mathlib.Omega.{arith}
+use lib.Bits.{bitXor}
+use lib.Dec.{T, leb, ltb, eqb}
+use lib.ListN.{getD}
+use borrow.Author.Tests.{lt-ltb, le-leb, lt-leb, eq-eqb, ne-eqb, eqb-true}
+use Rattle.finite.specs.Truth.{true-of, refuted}
+use Rattle.board.specs.Sets.{has, setOf}
+use Rattle.board.specs.laws.SetLaws.{set-has}
+use Rattle.rules.specs.Rules.{moved, canMove}
+use Rattle.rules.specs.laws.CanMove.{can-on}
+use Rattle.numbering.specs.Number.{numberOf}
+use Rattle.position.specs.declared.Men.{Men}
+use Rattle.position.specs.declared.Place.{Place}
+use Rattle.position.specs.Posed.{boardIn, Complete}
+use Rattle.index.specs.Seats.{Seated, alike}
+use Rattle.index.specs.laws.LeastLaws.{menDigits}
+use Rattle.movegen.specs.Places.{squareAfter, placeAfter}
+use Rattle.successors.specs.declared.Frame.{Frame}
+use Rattle.successors.specs.Framing.{frameFor, chosenDigits, numberOn}
+use Rattle.successors.specs.Successors.{bytesIn, framedAfter}
+use Rattle.successors.specs.Quiet.{takesMan, ofMan, plainFor, kingTo}
+use Rattle.successors.specs.laws.PlaceLaws.{whole}
+use Rattle.successors.specs.laws.FramingLaws.{cond-yes, cond-no}
+use Rattle.successors.specs.laws.ByteLaws.{AllThere, all-there, own-seated, byte-own, byte-moved, byte-framed}
+
+-- ---- tests
+
+none : (a b : Bool) → (a || b) ≡ false → (a ≡ false) × (b ≡ false)
+none true b e = absurd (refuted e tt)
+none false b e = (refl, e)
+
+plain-facts : (a b c d : Bool) → (a && (not b && (not c && not d))) ≡ true
+    → (a ≡ true) × (b ≡ false) × (c ≡ false) × (d ≡ false)
+plain-facts true false false false e = (refl, refl, refl, refl)
+plain-facts true false false true e = absurd (refuted (sym e) tt)
+plain-facts true false true d e = absurd (refuted (sym e) tt)
+plain-facts true true c d e = absurd (refuted (sym e) tt)
+plain-facts false b c d e = absurd (refuted (sym e) tt)
+
+not-both : (a b : Bool) → (a && b) ≡ false → a ≡ true → b ≡ false
+not-both true b e h = e
+not-both false b e h = absurd (refuted (sym h) tt)
+
+other-one : (a b : Bool) → (a || b) ≡ true → b ≡ false → a ≡ true
+other-one true b e h = refl
+other-one false b e h = sym h ∙ e
+
+other-two : (a b : Bool) → (a || b) ≡ true → a ≡ false → b ≡ true
+other-two true b e h = absurd (refuted h tt)
+other-two false b e h = e
+
+-- ---- the number, where nothing is exchanged
+
+plain-digits : (like : Bool) (x y : ℕ) → like ≡ false → menDigits like x y ≡ x * 64 + y
+plain-digits like x y e = rw e (go (ltb y x))
+  where
+    go : (b : Bool) → cond (b && false) (y * 64 + x) (x * 64 + y) ≡ x * 64 + y
+    go true = refl
+    go false = refl
+
+module _ (f : Frame) (single like : Bool) (x y : ℕ) (e : f .exchange ≡ 0) (l : like ≡ false) where
+  chosen : (u v : ℕ) → chosenDigits (f .exchange) like u v ≡ u * 64 + v
+  unfolding chosenDigits
+  chosen u v = rw e (plain-digits like u v l)
+
+  high : (u : ℕ) → u * 1 ≡ (u * 64 + 0) / 64
+  high u = omega arith
+
+  number-one : single ≡ true → f .kings * 64 + bitXor x (f .flip) * 1 ≡ numberOn f single like x y
+  unfolding numberOn
+  number-one s =
+      ap (λ (d : ℕ). f .kings * 64 + d) (high (bitXor x (f .flip))
+      ∙ ap (λ (d : ℕ). d / 64) (sym (chosen (bitXor x (f .flip)) 0))) ∙ cond-yes single _ _ s
+
+  number-two : single ≡ false
+      → f .kings * 4096 + (bitXor x (f .flip) * 64 + bitXor y (f .flip)) ≡ numberOn f single like x y
+  unfolding numberOn
+  number-two s =
+      ap (λ (d : ℕ). f .kings * 4096 + d) (sym (chosen (bitXor x (f .flip)) (bitXor y (f .flip))))
+      ∙ cond-no single _ _ s
+
+-- ---- the squares of quiet moves
+
+module _ (m : Men) (q : Place) (from : ℕ) (targets : ℕ) (e : targets ≡ setOf (canMove (boardIn m q) from))
+    (k : takesMan targets q ≡ false) (t : ℕ) (c : T (canMove (boardIn m q) from t)) where
+  off : (s : ℕ) → has targets s ≡ false → eqb s t ≡ false
+  off s h = ne-eqb s t (λ z. refuted (sym (set-has (canMove (boardIn m q) from) e t (can-on (boardIn m q) from t c .1))
+      ∙ ap (has targets) (sym z) ∙ h) c)
+
+  first-off : eqb (q .first) t ≡ false
+  first-off = off (q .first) (none (has targets (q .first)) (has targets (q .second)) k .0)
+
+  second-off : eqb (q .second) t ≡ false
+  second-off = off (q .second) (none (has targets (q .first)) (has targets (q .second)) k .1)
+
+  goes : (s : ℕ) → eqb s t ≡ false → eqb s from ≡ true → t ≡ squareAfter from t s
+  goes s h y = sym (rw (h, y))
+
+  stays : (s : ℕ) → eqb s t ≡ false → eqb s from ≡ false → s ≡ squareAfter from t s
+  stays s h y = sym (rw (h, y))
+
+  -- ---- a king's
+
+  king-place : ofMan q from ≡ false → kingTo q from t ≡ placeAfter q from t
+  unfolding placeAfter
+  king-place n =
+      let d = none (eqb (q .first) from) (eqb (q .second) from) n in
+      sym (rw (first-off, second-off, d .0, d .1))
+
+  pub byte-king : Complete m q → (first second table : List ℕ) → ofMan q from ≡ false → (next : Place) (n r : ℕ)
+      → next ≡ kingTo q from t → (Seated m next → n ≡ numberOf (boardIn m next)) → r ≡ getD table n 0
+      → r ≡ bytesIn m first second table (moved (boardIn m q) from t)
+  byte-king w first second table o next n r z hn hr =
+      let a : AllThere m next = subst⁻¹ (AllThere m) z (all-there m q w) in
+      byte-moved m q w first second table from t r next c (z ∙ king-place o)
+      (λ i. byte-own m next i first second table a n r (hn (own-seated m next i a)) hr)
+
+  -- ---- a man's
+
+  module _ (w : Complete m q) (first second table : List ℕ) (f : Frame)
+      (hf : f ≡ frameFor (1 - q .side) (q .white) (q .black)) (p : plainFor m q f from ≡ true) where
+    abbrev byte : ℕ
+    byte = bytesIn m first second table (moved (boardIn m q) from t)
+
+    facts : (eqb (f .exchange) 0 ≡ true)
+        × (alike m ≡ false)
+        × ((eqb (q .white) from || eqb (q .black) from) ≡ false)
+        × ((eqb (q .first) from && eqb (q .second) from) ≡ false)
+    facts = plain-facts (eqb (f .exchange) 0) (alike m) (eqb (q .white) from || eqb (q .black) from)
+        (eqb (q .first) from && eqb (q .second) from) p
+
+    unexchanged : f .exchange ≡ 0
+    unexchanged = eqb-true (f .exchange) 0 (facts .0)
+
+    on : t < 64
+    on = can-on (boardIn m q) from t c .1
+
+    framed-one : (x y : ℕ) → x < 64 → 4 ≤ m .second → framedAfter m q from x y ≡ true
+    framed-one x y hx h = rw (facts .2, lt-ltb x 64 hx, le-leb 4 (m .second) h)
+
+    framed-two : (x y : ℕ) → x < 64 → y < 64 → m .second < 4 → framedAfter m q from x y ≡ true
+    framed-two x y hx hy h = rw (facts .2, lt-ltb x 64 hx, lt-leb 4 (m .second) h, lt-ltb y 64 hy)
+
+    single-first : 4 ≤ m .second → ofMan q from ≡ true → eqb (q .first) from ≡ true
+    single-first h o = other-one (eqb (q .first) from) (eqb (q .second) from) o
+        (ne-eqb (q .second) from
+        (λ z. let a = whole m q w .alone h in let b = can-on (boardIn m q) from t c .0 in omega arith))
+
+    pub byte-one : 4 ≤ m .second → ofMan q from ≡ true → (base : ℕ) → base ≡ f .kings * 64
+        → getD table (base + bitXor t (f .flip) * 1) 0 ≡ byte
+    byte-one h o base z =
+        byte-framed m q w first second table from t t (squareAfter from t (q .second)) _ _ f c hf
+        (goes (q .first) first-off (single-first h o)) refl (framed-one t (squareAfter from t (q .second)) on h)
+        (ap (λ (n : ℕ). n + bitXor t (f .flip) * 1) z
+        ∙ number-one f (leb 4 (m .second)) (alike m) t (squareAfter from t (q .second)) unexchanged (facts .1)
+        (le-leb 4 (m .second) h)) refl
+
+    there : m .second < 4 → q .second < 64
+    there h = go (all-there m q w .1)
+      where
+        go : (4 ≤ m .second) ⊎ (q .second < 64) → q .second < 64
+        go (inl k) = absurd (omega arith)
+        go (inr k) = k
+
+    pub byte-of-first : m .second < 4 → q .first ≡ from
+        → (base : ℕ) → base ≡ f .kings * 4096 + bitXor (q .second) (f .flip)
+        → getD table (base + bitXor t (f .flip) * 64) 0 ≡ byte
+    byte-of-first h o base z =
+        let a = eq-eqb (q .first) from o in
+        byte-framed m q w first second table from t t (q .second) _ _ f c hf
+        (goes (q .first) first-off a) (stays (q .second) second-off (not-both (eqb (q .first) from) (eqb (q .second) from) (facts .3) a))
+        (framed-two t (q .second) on (there h) h)
+        (moved-base base (f .kings * 4096) (bitXor t (f .flip)) (bitXor (q .second) (f .flip)) z
+        ∙ number-two f (leb 4 (m .second)) (alike m) t (q .second) unexchanged (facts .1) (lt-leb 4 (m .second) h)) refl
+      where
+        moved-base : (base k u v : ℕ) → base ≡ k + v → base + u * 64 ≡ k + (u * 64 + v)
+        moved-base base k u v z = omega arith
+
+    pub byte-of-second : m .second < 4 → ofMan q from ≡ true → (q .first ≡ from → ⊥)
+        → (base : ℕ) → base ≡ f .kings * 4096 + bitXor (q .first) (f .flip) * 64
+        → getD table (base + bitXor t (f .flip) * 1) 0 ≡ byte
+    byte-of-second h o n base z =
+        let a = ne-eqb (q .first) from n in
+        byte-framed m q w first second table from t (q .first) t _ _ f c hf
+        (stays (q .first) first-off a) (goes (q .second) second-off (other-two (eqb (q .first) from) (eqb (q .second) from) o a))
+        (framed-two (q .first) t (whole m q w .first) on h)
+        (moved-base base (f .kings * 4096) (bitXor (q .first) (f .flip)) (bitXor t (f .flip)) z
+        ∙ number-two f (leb 4 (m .second)) (alike m) (q .first) t unexchanged (facts .1) (lt-leb 4 (m .second) h)) refl
+      where
+        moved-base : (base k u v : ℕ) → base ≡ k + u * 64 → base + v * 1 ≡ k + (u * 64 + v)
+        moved-base base k u v z = omega arith

@@ -1,0 +1,138 @@
+// A man's moves that take none, where nothing is exchanged: one place in the table for each target, at equal steps from
+// a base. All others are looked at one by one (`sift_each`).
+use super::Frame;
+use super::Sifted;
+use super::after::read_at;
+use super::framing::frame_for;
+use super::sifting::sift_each;
+use super::sifting::with_suited;
+use board::lowest;
+use board::without;
+use byte_rule::refutes;
+use byte_rule::suits;
+use index::alike;
+use position::Men;
+use position::Place;
+use position::other;
+ghost use mathlib.Core.Path.{_≡_};
+ghost use mathlib.Core.Bool.{true, false};
+ghost use mathlib.Core.List.{List};
+ghost use Prim.Native.Nat.{ℕ, _+_, _*_, _-_, _^_, _<_};
+ghost use lib.Bits.{bitXor};
+ghost use lib.Dec.{T};
+ghost use lib.ListN.{getD};
+ghost use Rattle.board.specs.Sets.{setOf};
+ghost use Rattle.rules.specs.Rules.{Board, moved, canMove};
+ghost use Rattle.position.specs.Posed.{boardIn, Complete};
+ghost use Rattle.successors.specs.Framing.{frameFor};
+ghost use Rattle.successors.specs.Successors.{bytesIn, siftedFrom};
+ghost use Rattle.successors.specs.Quiet.{takesMan, ofMan, plainFor};
+
+// A target's place in the table.
+fn spot(base: usize, flip: u8, scale: u8, to: u8) -> usize
+    requires { ⌜ base < 2 ^ 48 ⌝ }
+    ensures { λ r. ⌜ r ≡ base + bitXor to flip * scale ⌝ }
+{
+    base + (to ^ flip) as usize * scale as usize
+}
+
+// The byte there.
+fn byte_on(base: usize, flip: u8, scale: u8, to: u8, table: &[u8]) -> u8
+    requires { ⌜ base < 2 ^ 48 ⌝ }
+    ensures { λ r. ⌜ r ≡ getD (now (table .entry)) (base + bitXor to flip * scale) 0 ⌝ }
+{
+    read_at(table, spot(base, flip, scale, to))
+}
+
+// A man's moves whose bytes lie at equal steps from a base.
+fn sift_plain(base: usize, flip: u8, scale: u8, targets: u64, byte: u16, table: &[u8]) -> Sifted
+    requires { ⌜ base < 2 ^ 48 ⌝ }
+    ensures { λ r. ⌜ ((bytes : Board → ℕ) (b : Board) (from : ℕ) → targets ≡ setOf (canMove b from) → ((t : ℕ) → T (canMove b from t) → getD (now (table .entry)) (base + bitXor t flip * scale) 0 ≡ bytes (moved b from t)) → r ≡ siftedFrom bytes byte b from) ⌝ }
+{
+    let mut found: u64 = 0;
+    let mut rest = targets;
+    while rest != 0 {
+        let to = lowest(rest);
+        let c = byte_on(base, flip, scale, to, table);
+        if refutes(byte, c) {
+            return Sifted::Refuted;
+        }
+        found = with_suited(found, suits(byte, c), to);
+        rest = without(rest, to);
+    }
+    Sifted::Suited(found)
+}
+
+// Whether neither the kings nor the men's likeness exchange anything, and no king stands on the square, nor both
+// men.
+fn is_plain(m: Men, q: Place, f: Frame, from: u8) -> bool
+    ensures { λ r. ⌜ r ≡ plainFor m q f from ⌝ }
+{
+    (f.exchange == 0)
+        & (!alike(m)
+            & (!((q.white == from) | (q.black == from))
+                & !((q.first == from) & (q.second == from))))
+}
+
+// A square with the reversals of a frame.
+fn turned(flip: u8, s: u8) -> u8
+    ensures { λ r. ⌜ r ≡ bitXor s flip ⌝ }
+{
+    s ^ flip
+}
+
+// Where the bytes of a frame begin: of one man; of the first of two, by the second's square; of the second, by the
+// first's.
+fn base_of_one(f: Frame) -> usize
+    ensures { λ r. ⌜ (r ≡ f .kings * 64) × (r < 2 ^ 48) ⌝ }
+{
+    f.kings as usize * 64
+}
+
+fn base_of_first(f: Frame, second: u8) -> usize
+    ensures { λ r. ⌜ (r ≡ f .kings * 4096 + bitXor second (f .flip)) × (r < 2 ^ 48) ⌝ }
+{
+    let s = turned(f.flip, second);
+    f.kings as usize * 4096 + s as usize
+}
+
+fn base_of_second(f: Frame, first: u8) -> usize
+    ensures { λ r. ⌜ (r ≡ f .kings * 4096 + bitXor first (f .flip) * 64) × (r < 2 ^ 48) ⌝ }
+{
+    let s = turned(f.flip, first);
+    f.kings as usize * 4096 + s as usize * 64
+}
+
+// The moves of a man who takes none, by the frame of his kings.
+fn sift_along(m: Men, q: Place, f: Frame, from: u8, targets: u64, byte: u16, table: &[u8]) -> Sifted
+    ensures { λ r. ⌜ (Complete m q → targets ≡ setOf (canMove (boardIn m q) from) → takesMan targets q ≡ false → ofMan q from ≡ true → f ≡ frameFor (1 - q .side) (q .white) (q .black) → plainFor m q f from ≡ true → (first second : List ℕ) → r ≡ siftedFrom (bytesIn m first second (now (table .entry))) byte (boardIn m q) from) ⌝ }
+{
+    let flip = f.flip;
+    if 4 <= m.second {
+        return sift_plain(base_of_one(f), flip, 1, targets, byte, table);
+    }
+    if q.first == from {
+        return sift_plain(base_of_first(f, q.second), flip, 64, targets, byte, table);
+    }
+    sift_plain(base_of_second(f, q.first), flip, 1, targets, byte, table)
+}
+
+// The moves of a man who takes none.
+pub fn sift_man(
+    m: Men,
+    q: Place,
+    from: u8,
+    targets: u64,
+    byte: u16,
+    table: &[u8],
+    first: &[u8],
+    second: &[u8],
+) -> Sifted
+    ensures { λ r. ⌜ (Complete m q → targets ≡ setOf (canMove (boardIn m q) from) → takesMan targets q ≡ false → ofMan q from ≡ true → r ≡ siftedFrom (bytesIn m (now (first .entry)) (now (second .entry)) (now (table .entry))) byte (boardIn m q) from) ⌝ }
+{
+    let f = frame_for(other(q.side), q.white, q.black);
+    if is_plain(m, q, f, from) {
+        return sift_along(m, q, f, from, targets, byte, table);
+    }
+    sift_each(m, q, from, targets, byte, table, first, second)
+}
