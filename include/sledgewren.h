@@ -274,6 +274,15 @@ uint32_t sledgewren_fill(uint32_t ending, const uint8_t *small_first, size_t sma
                          size_t len);
 
 /*
+ * The same, quicker: table, answer and refusals are sledgewren_fill's, on any values and bytes. It
+ * works back from the positions just settled, where sledgewren_fill goes over all numbers.
+ *   bits 0-7 refusal, bit 8 some position is decided, 16-23 greatest depth
+ */
+uint32_t sledgewren_fill_back(uint32_t ending, const uint8_t *small_first, size_t small_first_len,
+                              const uint8_t *small_second, size_t small_second_len,
+                              uint8_t *table, size_t len);
+
+/*
  * Filling in steps, for a caller that shows how far it is. Start sets every legal position's
  * number to 1 and every other one to 0, and hands back SLEDGEWREN_START. The small tables are not
  * asked for. Refusals 1 and 7 leave the table untouched.

@@ -115,6 +115,7 @@ static void answers(void)
     uint32_t count;
 
     same("filled", sledgewren_filled_depth(sledgewren_fill(SLEDGEWREN_QUEEN, SLEDGEWREN_NO_TABLES, table, sizeof table)), 20);
+    same("filled back", sledgewren_filled_depth(sledgewren_fill_back(SLEDGEWREN_QUEEN, SLEDGEWREN_NO_TABLES, table, sizeof table)), 20);
     same("accepted", sledgewren_check(SLEDGEWREN_QUEEN, SLEDGEWREN_NO_TABLES, table, sizeof table), 0);
     answer = sledgewren_look_up(0, 17, 0, queen, SLEDGEWREN_ABSENT, 0, SLEDGEWREN_NO_TABLES, table, sizeof table);
     same("value", sledgewren_answer_value(answer), SLEDGEWREN_WIN);

@@ -15,6 +15,7 @@ use sledgewren::{Keyed, Man, Side, TABLE_BYTES};
 use crate::four::{self, Ground, Small};
 use crate::moves::{library_count, library_moves, oracle_moves};
 use crate::positions::{legal, man_of, of_ending, second};
+use crate::timing::judged;
 
 /// Under valgrind a work takes some fifty times as long: of positions these are taken.
 const ONE_IN: usize = 20;
@@ -166,7 +167,7 @@ pub fn run(what: &str, other: bool, gaviota: &str, folder: &Path) -> Result<(), 
 }
 
 /// Instructions for each position, or for the whole; none where valgrind or the work is missing.
-fn counted(what: &str, side: &str, gaviota: &str, folder: &Path) -> Option<f64> {
+pub fn counted(what: &str, side: &str, gaviota: &str, folder: &Path) -> Option<f64> {
     let output = Command::new("valgrind")
         .args(["--tool=callgrind", "--callgrind-out-file=/dev/null"])
         .arg("--toggle-collect=bench_counted")
@@ -188,26 +189,36 @@ fn written(count: f64) -> String {
     }
 }
 
-pub fn print(gaviota: &str, folder: &Path, rows: &[Counted]) {
+/// The head of a table of instructions; whether valgrind is there to count them.
+pub fn begin(says: &str) -> bool {
     if Command::new("valgrind").arg("--version").output().is_err() {
         println!("\nNot counted: instructions, for which valgrind is missing.");
-        return;
+        return false;
     }
-    println!("\nInstructions, for one fill, check or position; one position in {ONE_IN}.\n");
+    println!("\n{says}\n");
     println!("| What | Library | Beside it | Its instructions | Ratio | Goal |");
     println!("|---|---|---|---|---|---|");
+    true
+}
+
+/// A line of it, where the library's were counted.
+pub fn line(what: &str, beside: &str, counts: (Option<f64>, Option<f64>), goal: Option<f64>) {
+    let (Some(ours), theirs) = counts else { return };
+    let (count, ratio) = match theirs {
+        Some(theirs) => (written(theirs), ours / theirs),
+        None => ("not counted".to_string(), f64::NAN),
+    };
+    let goal = judged(goal, ratio);
+    println!("| {what} | {} | {beside} | {count} | {ratio:.2} | {goal} |", written(ours));
+}
+
+pub fn print(gaviota: &str, folder: &Path, rows: &[Counted]) {
+    if !begin(&format!("Instructions, for one fill, check or position; one position in {ONE_IN}."))
+    {
+        return;
+    }
     for &Counted { what, beside, goal } in rows {
         let [ours, theirs] = ["library", "other"].map(|side| counted(what, side, gaviota, folder));
-        let counts = (ours, theirs);
-        let (Some(ours), theirs) = counts else { continue };
-        let (count, ratio, is_met) = match theirs {
-            Some(theirs) if ours <= goal * theirs => (written(theirs), ours / theirs, "met"),
-            Some(theirs) => (written(theirs), ours / theirs, "not met"),
-            None => ("not counted".to_string(), f64::NAN, "unknown"),
-        };
-        let ours = written(ours);
-        println!(
-            "| {what} | {ours} | {beside} | {count} | {ratio:.2} | at most {goal}: {is_met} |"
-        );
+        line(what, beside, (ours, theirs), Some(goal));
     }
 }

@@ -2,9 +2,11 @@
 //!
 //! usage: bench ORACLE DESK GAVIOTA-FOLDER OUTPUT-FOLDER, with - for what is not there
 //!        bench four OUTPUT-FOLDER, for the rows of two men alone
+//!        bench back OUTPUT-FOLDER, for those of the quick fill
 //!
 //! It runs itself as `bench count WORK SIDE GAVIOTA-FOLDER OUTPUT-FOLDER` to have instructions counted.
 
+mod back;
 mod counts;
 mod desk;
 mod four;
@@ -19,6 +21,7 @@ mod search;
 mod steps;
 mod tables;
 mod timing;
+mod twin;
 
 use std::path::Path;
 use std::process::ExitCode;
@@ -119,18 +122,26 @@ fn four_alone(folder: &Path) -> Result<(), String> {
     Ok(())
 }
 
+/// The quick fill beside the others.
+fn back_alone(folder: &Path) -> Result<(), String> {
+    says();
+    println!("With two men each fill is timed once.\n");
+    print(&back::rows(MANY)?);
+    back::print_counts(folder)
+}
+
 fn main() -> ExitCode {
     let words: Vec<String> = std::env::args().skip(1).collect();
     let words: Vec<&str> = words.iter().map(String::as_str).collect();
     let done = match words[..] {
         ["four", folder] => four_alone(Path::new(folder)),
-        ["count", what, side, gaviota, folder] => {
-            counts::run(what, side == "other", gaviota, Path::new(folder))
-        }
+        ["back", folder] => back_alone(Path::new(folder)),
+        ["count", what, side, gaviota, folder] => back::count(what, side)
+            .unwrap_or_else(|| counts::run(what, side == "other", gaviota, Path::new(folder))),
         [oracle, desk, gaviota, folder] => all(oracle, desk, gaviota, Path::new(folder)),
         _ => {
             eprintln!("usage: bench ORACLE DESK GAVIOTA-FOLDER OUTPUT-FOLDER");
-            eprintln!("       bench four OUTPUT-FOLDER");
+            eprintln!("       bench four OUTPUT-FOLDER, or bench back OUTPUT-FOLDER");
             return ExitCode::from(2);
         }
     };

@@ -126,12 +126,16 @@ fn written(time: f64, of: &Of) -> String {
     }
 }
 
-fn goal(row: &Row) -> String {
-    match row.goal {
-        None => String::new(),
-        Some(goal) if row.library <= goal * row.other => format!("at most {goal}: met"),
-        Some(goal) => format!("at most {goal}: not met"),
-    }
+/// The greatest ratio wanted, and whether it is met; a ratio that is not known is no number.
+pub fn judged(goal: Option<f64>, ratio: f64) -> String {
+    let Some(goal) = goal else { return String::new() };
+    let is_met = match ratio {
+        _ if ratio.is_nan() => "unknown",
+        _ if ratio <= goal => "met",
+        _ => "not met",
+    };
+    // Three places at most: a twelfth has more.
+    format!("at most {}: {is_met}", (goal * 1000.0).round() / 1000.0)
 }
 
 pub fn print(rows: &[Row]) {
@@ -139,7 +143,8 @@ pub fn print(rows: &[Row]) {
     println!("|---|---|---|---|---|---|");
     for row in rows {
         let (ours, theirs) = (written(row.library, &row.of), written(row.other, &row.of));
-        let (ratio, goal) = (row.library / row.other, goal(row));
+        let ratio = row.library / row.other;
+        let goal = judged(row.goal, ratio);
         println!("| {} | {ours} | {} | {theirs} | {ratio:.2} | {goal} |", row.what, row.beside);
     }
 }

@@ -159,6 +159,30 @@ pub fn fill(ending: impl Into<u32>, lent: Lent, table: &mut [u8]) -> Result<Opti
     Ok((bits(answer, 8) & 1 == 1).then_some(bits(answer, 16)))
 }
 
+/// The same table, answer and refusals, quicker: it works back from the positions just settled.
+pub fn fill_back(
+    ending: impl Into<u32>,
+    lent: Lent,
+    table: &mut [u8],
+) -> Result<Option<u8>, Refusal> {
+    let Lent { first, second } = lent;
+    // SAFETY: each pointer leads to as many bytes as its length says; the one that is written
+    // through is lent to us alone.
+    let answer = unsafe {
+        ffi::sledgewren_fill_back(
+            ending.into(),
+            first.as_ptr(),
+            first.len(),
+            second.as_ptr(),
+            second.len(),
+            table.as_mut_ptr(),
+            table.len(),
+        )
+    };
+    let answer = unless_refused("fill_back", answer as u64)?;
+    Ok((bits(answer, 8) & 1 == 1).then_some(bits(answer, 16)))
+}
+
 /// Starts filling in steps: every legal position's number is set to 1, every other one to 0.
 /// Refusals 1 and 7 leave the bytes untouched.
 pub fn fill_start(ending: impl Into<u32>, table: &mut [u8]) -> Result<Progress, Refusal> {

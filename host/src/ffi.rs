@@ -67,6 +67,17 @@ extern "C" {
         len: usize,
     ) -> u32;
 
+    /// As `sledgewren_fill`, quicker.
+    pub fn sledgewren_fill_back(
+        ending: u32,
+        small_first: *const u8,
+        small_first_len: usize,
+        small_second: *const u8,
+        small_second_len: usize,
+        table: *mut u8,
+        len: usize,
+    ) -> u32;
+
     /// Bits 0-7 refusal, 8-31 how many numbers were settled, which is 0, 32-63 the progress.
     pub fn sledgewren_fill_start(ending: u32, table: *mut u8, len: usize) -> u64;
 

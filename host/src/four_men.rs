@@ -40,7 +40,7 @@ impl<'a> FourMen<'a> {
         second: &'a Accepted,
     ) -> Result<FourMen<'a>, Refusal> {
         let mut four = FourMen::over(ending, first, second, zeros())?;
-        entry::fill(ending, lent(first, second), &mut four.bytes)?;
+        entry::fill_back(ending, lent(first, second), &mut four.bytes)?;
         Ok(four)
     }
 

@@ -27,7 +27,8 @@
 //! | `sledgewren_count` | [`entry::count`] | [`Position::count`] |
 //! | `sledgewren_moves` | [`entry::moves`] | [`Position::moves`] |
 //! | `sledgewren_play` | [`entry::play`] | [`Position::play`] |
-//! | `sledgewren_fill` | [`entry::fill`] | [`Table::fill`], [`Table::filled`], [`FourMen::filled`] |
+//! | `sledgewren_fill` | [`entry::fill`] | |
+//! | `sledgewren_fill_back` | [`entry::fill_back`] | [`Table::fill`], [`Table::filled`], [`FourMen::filled`] |
 //! | `sledgewren_fill_start` | [`entry::fill_start`] | [`Filling::start`], [`FourMen::filled_with_progress`] |
 //! | `sledgewren_fill_step` | [`entry::fill_step`] | [`Filling::step`], [`FourMen::filled_with_progress`] |
 //! | `sledgewren_check` | [`entry::check`] | [`Table::check`], [`Table::accept`], [`FourMen::accept`] |

@@ -34,7 +34,7 @@ impl Table {
     /// Writes the true table over these bytes and gives its greatest depth, or none if no
     /// position is decided. Refusal 10.
     pub fn fill(&mut self, man: Man) -> Result<Option<u8>, Refusal> {
-        entry::fill(man, Lent::NONE, &mut self.0[..])
+        entry::fill_back(man, Lent::NONE, &mut self.0[..])
     }
 
     /// Is this the true table of an ending?

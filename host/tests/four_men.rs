@@ -98,11 +98,14 @@ fn lent_tables() {
     let mut large = vec![9; LARGE_TABLE_BYTES];
     for lent in [Lent { first: r, second: q }, Lent { first: q, second: q }] {
         assert_eq!(entry::fill(ending, lent, &mut large), Err(Refusal::NotAccepted));
+        assert_eq!(entry::fill_back(ending, lent, &mut large), Err(Refusal::NotAccepted));
         assert_eq!(entry::check(ending, lent, &large), Err(Refusal::NotAccepted));
         assert_eq!(entry::fill(ending, lent, &mut large[1..]), Err(Refusal::TableLength));
+        assert_eq!(entry::fill_back(ending, lent, &mut large[1..]), Err(Refusal::TableLength));
     }
     let short = Lent { first: q, second: &r[1..] };
     assert_eq!(entry::fill(ending, short, &mut large), Err(Refusal::TableLength));
+    assert_eq!(entry::fill_back(ending, short, &mut large), Err(Refusal::TableLength));
     assert!(large.iter().all(|&byte| byte == 9));
     assert_eq!(entry::check(ending, Lent { first: q, second: r }, &large), Ok(Checked::Wrong(0)));
     let fills = FourMen::filled(ending, &rook, &queen);

@@ -106,6 +106,7 @@ fn one_before_all() {
         let mut table = Table::zeroed();
         table.bytes_mut().fill(165);
         assert_eq!(entry::fill(man, Lent::NONE, table.bytes_mut()), Err(Refusal::BadMan));
+        assert_eq!(entry::fill_back(man, Lent::NONE, table.bytes_mut()), Err(Refusal::BadMan));
         assert!(table.bytes().iter().all(|&byte| byte == 165));
     }
 }
@@ -116,6 +117,7 @@ fn seven() {
         for len in [0, 1, TABLE_BYTES - 1, TABLE_BYTES + 1, 2 * TABLE_BYTES] {
             let mut bytes = vec![165; len];
             assert_eq!(entry::fill(man, Lent::NONE, &mut bytes), Err(Refusal::TableLength));
+            assert_eq!(entry::fill_back(man, Lent::NONE, &mut bytes), Err(Refusal::TableLength));
             assert_eq!(entry::check(man, Lent::NONE, &bytes), Err(Refusal::TableLength));
             assert!(bytes.iter().all(|&byte| byte == 165));
         }

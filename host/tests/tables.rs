@@ -2,7 +2,7 @@
 
 use sledgewren::entry::Lent;
 use sledgewren::{
-    entry, Accepted, Answer, Checked, Man, Move, Position, Refusal, Side, Table, Value,
+    entry, Accepted, Answer, Checked, Man, Move, Position, Refusal, Side, Table, Value, TABLE_BYTES,
 };
 
 /// Greatest depth in plies, or none where nothing is decided.
@@ -123,6 +123,19 @@ fn bishop() {
 #[test]
 fn knight() {
     judge_all(Man::Knight);
+}
+
+#[test]
+fn both_fills_write_the_same() {
+    for man in Man::ALL {
+        let (mut first, mut second) = (vec![165; TABLE_BYTES], vec![90; TABLE_BYTES]);
+        let answers = [
+            entry::fill(man, Lent::NONE, &mut first),
+            entry::fill_back(man, Lent::NONE, &mut second),
+        ];
+        assert_eq!(answers, [Ok(published(man)); 2], "{man}");
+        assert!(first == second, "{man}");
+    }
 }
 
 #[test]

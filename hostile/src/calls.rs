@@ -188,6 +188,14 @@ pub fn lengths(tally: &mut Tally) {
                 };
                 tally.add("fill", &(man, len), lent::fill(man as u32, NONE, &mut one), due);
                 tally.add("filled bytes", &(man, len), one == other, true);
+                let mut back = vec![dirt; len];
+                tally.add(
+                    "fill back",
+                    &(man, len),
+                    lent::fill_back(man as u32, NONE, &mut back),
+                    due,
+                );
+                tally.add("bytes filled back", &(man, len), back == other, true);
                 compare_check(man, &one, tally);
             }
             for keyed in [[man, 0, 17, 15, 0], [man, 2, 64, 64, 64], [man, 0, 0, 7, 63]] {

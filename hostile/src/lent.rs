@@ -80,6 +80,13 @@ pub fn fill(ending: u32, [one, two]: Small, table: &mut [u8]) -> u32 {
     unsafe { c::sledgewren_fill(ending, first, m, second, n, start, len) }
 }
 
+pub fn fill_back(ending: u32, [one, two]: Small, table: &mut [u8]) -> u32 {
+    let (start, len) = (table.as_mut_ptr(), table.len());
+    let ([first, second], [m, n]) = ([one.as_ptr(), two.as_ptr()], [one.len(), two.len()]);
+    // SAFETY: each pointer leads to as many bytes as its length says; `start` is lent alone.
+    unsafe { c::sledgewren_fill_back(ending, first, m, second, n, start, len) }
+}
+
 pub fn fill_start(ending: u32, table: &mut [u8]) -> u64 {
     // SAFETY: the pointer leads to as many bytes as its length says and is lent alone.
     unsafe { c::sledgewren_fill_start(ending, table.as_mut_ptr(), table.len()) }

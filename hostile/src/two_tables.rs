@@ -49,6 +49,10 @@ fn compare_tables(codes: [u8; 2], one_each: bool, small: Small, large: &[u8], ta
     let due = code(four_back::fill(codes, one_each, &mut other, small), filled_word);
     tally.add("fill's word", &asked, answer, due);
     tally.add("filled bytes", &asked, one == other, true);
+    one.copy_from_slice(large);
+    let answer = lent::fill_back(ending, small, &mut one) as u64;
+    tally.add("word of filling back", &asked, answer, due);
+    tally.add("bytes filled back", &asked, one == other, true);
 }
 
 /// The numbers of two men's start: the refusals and every byte.
@@ -99,10 +103,11 @@ pub fn wrong_words(sequence: &mut Sequence, tally: &mut Tally) {
             lent::position(word, sequence.below(LARGE_BYTES) as u32),
             lent::check(word, small, &table),
             lent::fill(word, small, &mut table) as u64,
+            lent::fill_back(word, small, &mut table) as u64,
             lent::fill_start(word, &mut table),
             lent::fill_step(word, progress, small, &mut table),
         ];
-        let due = [0, 1, 1, 1, 1, 1 | (progress as u64) << 32];
+        let due = [0, 1, 1, 1, 1, 1, 1 | (progress as u64) << 32];
         tally.add("answers to no ending's word", &word, answers, due);
         tally.add("its table", &word, table.iter().all(|&byte| byte == 165), true);
     }

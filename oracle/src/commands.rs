@@ -9,6 +9,7 @@ use crate::cases;
 use crate::check_digits::write_typed;
 use crate::counts::{greatest_text, write_counts, write_numbering, Checksum};
 use crate::desk;
+use crate::ending::Ending;
 use crate::failure::{usage, Done, Failure};
 use crate::fill::Filled;
 use crate::lines::{for_each_keyed, for_each_numbers};
@@ -26,7 +27,7 @@ pub const USAGE: &str = "\
 usage: oracle SUBCOMMAND [ARGUMENTS]     (MAN is Q, R, B or N; ENDING KQRK, KQKR and so on)
 
   table MAN               write the 59,136 bytes of the true table
-  counts [MAN ...]        counts of each table's bytes, and its checksum
+  counts [MAN|ENDING ...] counts of each table's bytes, and its checksum
   moves [two]             list the legal moves of each line on standard input
   positions [both]        write input lines for moves
   numbers                 go over all numbers and back, with checksums
@@ -189,10 +190,21 @@ fn table(rest: &[OsString], output: &mut Out) -> Done {
     }
 }
 
+fn counts_of(man: Man, output: &mut Out) -> Done {
+    let (filled, bytes) = true_table(man);
+    Ok(write_counts(output, man.name(), &filled, &bytes)?)
+}
+
+/// `counts [MAN or ENDING ...]`: the four men's where none is named.
 fn counts(rest: &[OsString], output: &mut Out) -> Done {
-    for man in men_named(rest)? {
-        let (filled, bytes) = true_table(man);
-        write_counts(output, man, &filled, &bytes)?;
+    if rest.is_empty() {
+        return MEN.into_iter().try_for_each(|man| counts_of(man, output));
+    }
+    for word in rest {
+        match word.to_str().and_then(Ending::named) {
+            Some(ending) => commands_four::counts(ending, output)?,
+            None => counts_of(man_named(word)?, output)?,
+        }
     }
     Ok(())
 }

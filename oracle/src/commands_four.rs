@@ -5,7 +5,7 @@ use std::io::Write;
 use std::time::Instant;
 
 use crate::commands::{refused_text, Out};
-use crate::counts::{greatest_text, Checksum};
+use crate::counts::{greatest_text, write_counts, Checksum};
 use crate::ending::Ending;
 use crate::failure::{usage, Done, Failure};
 use crate::four_back;
@@ -43,6 +43,12 @@ pub fn table(rest: &[OsString], output: &mut Out) -> Done {
         Ok(_) => Ok(output.write_all(&large)?),
         Err(refused) => usage(refused_text(refused)),
     }
+}
+
+/// An ending's part of `counts`.
+pub fn counts(ending: Ending, output: &mut Out) -> Done {
+    let (greatest, large) = filled(ending, &SmallTables::new(), four_back::fill);
+    Ok(write_counts(output, &ending.name(), &greatest, &large)?)
 }
 
 /// `four-sums [ENDING ...]`: one line an ending.

@@ -37,7 +37,7 @@ impl Default for Checksum {
 
 /// How often each byte stands in one side's half of a table.
 pub fn byte_counts(table: &[u8], side: Side) -> [usize; 256] {
-    let half = NUMBERS / 2;
+    let half = table.len() / 2;
     let mut counts = [0; 256];
     for &byte in table.iter().skip(side.code() as usize * half).take(half) {
         counts[byte as usize] += 1;
@@ -56,11 +56,11 @@ pub fn greatest_text(filled: &Filled) -> String {
 
 pub fn write_counts(
     output: &mut impl Write,
-    man: Man,
+    name: &str,
     filled: &Filled,
     table: &[u8],
 ) -> io::Result<()> {
-    writeln!(output, "{}\n{}", man.name(), greatest_text(filled))?;
+    writeln!(output, "{name}\n{}", greatest_text(filled))?;
     for side in SIDES {
         let counts = byte_counts(table, side);
         writeln!(output, "{}", side.name())?;

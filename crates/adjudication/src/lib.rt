@@ -1,7 +1,7 @@
 // One line to its slip, over a held table.
 use answers::Answer;
 use answers::Filled;
-use filling::fill;
+use filling::fill_one_back;
 use index::position_of;
 use lines::Request;
 use lines::parse;
@@ -67,7 +67,7 @@ fn look_up_line(p: Position, held: u8, table: &mut [u8]) -> Reply
             held,
         };
     }
-    let filled = fill(kind, &mut *table);
+    let filled = fill_one_back(kind, &mut *table);
     after_fill(p, kind, filled, &*table)
 }
 

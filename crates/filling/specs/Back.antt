@@ -1,9 +1,11 @@
 -- A pass that works back (02, P11): what it tries. Definitions only.
 use mathlib.Core.Path.{_≡_}
 use mathlib.Core.List.{List}
-use Prim.Native.Nat.{ℕ, _+_}
+use mathlib.Core.Logic.{_⊎_}
+use Prim.Native.Nat.{ℕ, _+_, _*_, _%_, _<_, _≤_}
 use lib.Dec.{T}
-use lib.ListN.{getD}
+use lib.ListN.{length, getD}
+use Rattle.table_theory.specs.Tables.{reads, settles}
 use Rattle.rules.specs.Chess.{chess}
 use Rattle.numbering.specs.Keys.{boardAt}
 use Rattle.numbering.specs.Number.{numberOf}
@@ -11,28 +13,55 @@ use Rattle.numbering.specs.Material.{menOf}
 use Rattle.position.specs.declared.Men.{Men}
 use Rattle.position.specs.declared.Place.{Place}
 use Rattle.position.specs.Posed.{boardIn, materialFor, Complete}
-use Rattle.four_men.specs.Reading.{legalNumberOf}
-use Rattle.retracting.specs.Retracting.{Leads}
+use Rattle.numbering.specs.declared.Material.{Material}
+use Rattle.four_men.specs.Lending.{lent}
+use Rattle.four_men.specs.Reading.{lentFor, legalNumberOf}
+use Rattle.retracting.specs.Retracting.{Leads, loneOf, leftPlace}
 use Rattle.filling.specs.Admitted.{over}
-use Rattle.filling.specs.Trying.{Midway, Went, Tried}
+use Rattle.filling.specs.Trying.{Midway, Went, Tried, Ready}
+
+-- the first man was taken, or the second
+abbrev pub Which : ℕ → Type 0
+Which taken = (taken ≡ 1) ⊎ (taken ≡ 2)
+
+-- the lent table of the man left alone
+abbrev pub lentOf : Men → List ℕ → List ℕ → ℕ → List ℕ
+lentOf m first second taken = lentFor (m .first) (lent first second) (loneOf m taken .first)
+
+-- so many were settled at most, and the table is as long as before
+pub record Few (most : ℕ) (u v : List ℕ) (did : ℕ) : Type 0 where
+  pub long : length v ≡ length u
+  pub few : did ≤ most
 
 module _ (m : Men) (first second : List ℕ) (k : ℕ) where
+  -- k odd: if it holds 1, the number is to be settled
+  abbrev pub Due : List ℕ → ℕ → Type 0
+  Due t n = k % 2 ≡ 1 → getD t n 0 ≡ 1 → T (settles chess (over m first second) k t n)
+
+  -- below depth k nothing is left to settle, and the place's byte is that of depth k - 1
+  pub record Ripe (t : List ℕ) (q : Place) : Type 0 where
+    pub ready : Ready chess (over m first second) k t
+    pub byte : reads chess (over m first second) t (boardIn m q) ≡ 1 + k
+
   -- one number
   abbrev pub TriesNumber : ℕ → List ℕ → List ℕ → ℕ → Type 0
-  TriesNumber n u v did = (t : List ℕ) → Midway chess (over m first second) k t u
-      → Went chess (over m first second) k t u v did × Tried chess (over m first second) k t v n
+  TriesNumber n u v did = Few 1 u v did
+      × ((t : List ℕ) → Midway chess (over m first second) k t u → Due t n
+      → Went chess (over m first second) k t u v did × Tried chess (over m first second) k t v n)
 
   -- the numbers of the legal positions with a legal move to this square that leads to q
   abbrev pub TriesTo : Place → ℕ → List ℕ → List ℕ → ℕ → Type 0
-  TriesTo q to u v did = (t : List ℕ) → Midway chess (over m first second) k t u
+  TriesTo q to u v did = Few 64 u v did
+      × ((t : List ℕ) → Midway chess (over m first second) k t u → Ripe t q
       → Went chess (over m first second) k t u v did
-      × ((o : Place) (from : ℕ) → Leads m o from to q → Tried chess (over m first second) k t v (numberOf (boardIn m o)))
+      × ((o : Place) (from : ℕ) → Leads m o from to q → Tried chess (over m first second) k t v (numberOf (boardIn m o))))
 
   -- .. to any square
   abbrev pub TriesInto : Place → List ℕ → List ℕ → ℕ → Type 0
-  TriesInto q u v did = (t : List ℕ) → Midway chess (over m first second) k t u
+  TriesInto q u v did = Few 192 u v did
+      × ((t : List ℕ) → Midway chess (over m first second) k t u → Ripe t q
       → Went chess (over m first second) k t u v did
-      × ((o : Place) (from to : ℕ) → Leads m o from to q → Tried chess (over m first second) k t v (numberOf (boardIn m o)))
+      × ((o : Place) (from to : ℕ) → Leads m o from to q → Tried chess (over m first second) k t v (numberOf (boardIn m o))))
 
   -- all have been tried that lead to the place at a number, if that is legal
   abbrev pub TriedAt : List ℕ → List ℕ → ℕ → Type 0
@@ -42,5 +71,42 @@ module _ (m : Men) (first second : List ℕ) (k : ℕ) where
 
   -- .. where it holds depth k - 1
   abbrev pub TriesAt : ℕ → List ℕ → List ℕ → ℕ → Type 0
-  TriesAt j u v did = (t : List ℕ) → Midway chess (over m first second) k t u
-      → Went chess (over m first second) k t u v did × (getD t j 0 ≡ 1 + k → TriedAt t v j)
+  TriesAt j u v did = Few 192 u v did
+      × ((t : List ℕ) → Midway chess (over m first second) k t u → Ready chess (over m first second) k t
+      → Went chess (over m first second) k t u v did × (getD t j 0 ≡ 1 + k → TriedAt t v j))
+
+  -- ---- captures
+
+  -- all have been tried that lead, by taking that man, to the place at a number there, if that is legal
+  abbrev pub TriedLone : List ℕ → List ℕ → ℕ → ℕ → Type 0
+  TriedLone t v taken j = T (legalNumberOf (Material.One (loneOf m taken .first)) j)
+      → (q : Place) × Complete (loneOf m taken) q × (boardIn (loneOf m taken) q ≡ boardAt (menOf (Material.One (loneOf m taken .first))) j)
+      × ((o : Place) (from to : ℕ) → Leads m o from to (leftPlace m taken q)
+      → Tried chess (over m first second) k t v (numberOf (boardIn m o)))
+
+  abbrev pub TriesLone : ℕ → ℕ → List ℕ → List ℕ → ℕ → Type 0
+  TriesLone taken j u v did = Few 192 u v did
+      × ((t : List ℕ) → Midway chess (over m first second) k t u → Ready chess (over m first second) k t
+      → Went chess (over m first second) k t u v did × (getD (lentOf m first second taken) j 0 ≡ 1 + k → TriedLone t v taken j))
+
+  -- .. at the numbers below j that hold depth k - 1
+  abbrev pub Sweeps : ℕ → ℕ → List ℕ → List ℕ → ℕ → Type 0
+  Sweeps taken j u v did = Few (192 * j) u v did
+      × ((t : List ℕ) → Midway chess (over m first second) k t u → Ready chess (over m first second) k t
+      → Went chess (over m first second) k t u v did
+      × ((i : ℕ) → i < j → getD (lentOf m first second taken) i 0 ≡ 1 + k → TriedLone t v taken i))
+
+  -- .. at all numbers of both
+  abbrev pub SweptAll : List ℕ → List ℕ → Type 0
+  SweptAll t v = m .second < 4 → (taken : ℕ) → Which taken → (i : ℕ) → getD (lentOf m first second taken) i 0 ≡ 1 + k → TriedLone t v taken i
+
+  abbrev pub SweepsAll : List ℕ → List ℕ → ℕ → Type 0
+  SweepsAll u v did = Few 22708224 u v did
+      × ((t : List ℕ) → Midway chess (over m first second) k t u → Ready chess (over m first second) k t
+      → Went chess (over m first second) k t u v did × SweptAll t v)
+
+  -- ---- this table: the numbers below j
+  abbrev pub SweepsOwn : ℕ → List ℕ → List ℕ → ℕ → Type 0
+  SweepsOwn j u v did = Few (192 * j) u v did
+      × ((t : List ℕ) → Midway chess (over m first second) k t u → Ready chess (over m first second) k t
+      → Went chess (over m first second) k t u v did × ((i : ℕ) → i < j → getD t i 0 ≡ 1 + k → TriedAt t v i))

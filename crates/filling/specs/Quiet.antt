@@ -1,8 +1,8 @@
 -- What the laws of the same name speak of. Definitions only.
 use mathlib.Core.Path.{_≡_}
-use mathlib.Core.Bool.{cond}
+use mathlib.Core.Bool.{Bool, false, cond}
 use mathlib.Core.List.{List}
-use Prim.Native.Nat.{ℕ, _+_, _<_, _≤_}
+use Prim.Native.Nat.{ℕ, _+_, _/_, _<_, _≤_}
 use lib.Dec.{eqb}
 use lib.ListN.{length, getD}
 use Rattle.finite.specs.Members.{_∈_}
@@ -22,10 +22,6 @@ pub record Quiet (m : Material) (l : Lent) (k : ℕ) (t : List ℕ) (from to low
   pub absent : Absent t (1 + k) from to
   pub lent : (u : List ℕ) → u ∈ borrowed m l → Absent u (1 + k) low high
 
--- no lent table holds depth k - 1
-abbrev pub NoneLent : Men → List ℕ → List ℕ → ℕ → Type 0
-NoneLent m first second k = (u : List ℕ) → u ∈ borrowed (materialFor m) (lent first second) → Absent u (1 + k) 0 (length u)
-
 -- Where a man left alone has his number in his table: with men of one side he is White's, and the other side is to
 -- move; of rivals anywhere.
 abbrev pub lowOf : Men → ℕ
@@ -33,3 +29,8 @@ lowOf m = cond (eqb (m .colour) 0) 29568 0
 
 abbrev pub highOf : Men → ℕ
 highOf m = cond (eqb (m .colour) 0) 29568 59136
+
+-- a half that is left out, White to move or Black, has no number that pass k settles
+pub record QuietHalves (m : Men) (first second : List ℕ) (k : ℕ) (t : List ℕ) (white black : Bool) : Type 0 where
+  pub in-white : white ≡ false → Quiet (materialFor m) (lent first second) k t (length t / 2) (length t) (lowOf m) 59136
+  pub in-black : black ≡ false → Quiet (materialFor m) (lent first second) k t 0 (length t / 2) 0 (highOf m)

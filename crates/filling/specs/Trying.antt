@@ -1,9 +1,9 @@
 -- A pass that tries some numbers only, in any order (02, P11): the bytes while it goes on. Definitions only.
 use mathlib.Core.Path.{_≡_}
-use mathlib.Core.Bool.{_&&_}
+use mathlib.Core.Bool.{false, _&&_}
 use mathlib.Core.Logic.{_⊎_}
 use mathlib.Core.List.{List}
-use Prim.Native.Nat.{ℕ, _+_}
+use Prim.Native.Nat.{ℕ, _+_, _<_}
 use lib.Dec.{T, eqb}
 use lib.ListN.{length, getD}
 use Rattle.finite.specs.Ranked.{rank}
@@ -28,3 +28,7 @@ pub record Went (G : Game) (N : Numbering G) (k : ℕ) (t u v : List ℕ) (did :
 -- the number is settled, if pass k settles it
 abbrev pub Tried : (G : Game) (N : Numbering G) → ℕ → List ℕ → List ℕ → ℕ → Type 0
 Tried G N k t v n = T (settles G N k t n) → getD v n 0 ≡ 1 → ⊥
+
+-- below depth k nothing is left to settle
+abbrev pub Ready : (G : Game) (N : Numbering G) → ℕ → List ℕ → Type 0
+Ready G N k t = (j n : ℕ) → j < k → settles G N j t n ≡ false

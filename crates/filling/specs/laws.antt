@@ -3,6 +3,7 @@ pub mod Greatest
 pub mod Halves
 pub mod Quiet
 pub mod Trying
+pub mod Won
 pub mod Back
 pub mod StepLaws
 pub mod StepsTrue

@@ -3,6 +3,9 @@ use super::bytes::start;
 use super::deepest::deepest_lent;
 use super::steps::Stepped;
 use super::steps::step_at;
+use super::ways::BACK;
+use super::ways::EVERY;
+use super::ways::PASSES;
 use answers::Filled;
 use checking::lent_accepted;
 use four_men::NOT_ACCEPTED;
@@ -22,7 +25,7 @@ ghost use Rattle.four_men.specs.Reading.{holdsDepth};
 ghost use Rattle.filling.specs.Admitted.{over, Admitted};
 ghost use Rattle.filling.specs.FillPromise.{Fills, FillPromiseWith};
 
-fn fill_men(back: bool, m: Men, first: &[u8], second: &[u8], table: &mut [u8]) -> Filled
+fn fill_men(way: u8, m: Men, first: &[u8], second: &[u8], table: &mut [u8]) -> Filled
     requires { ⌜ Admitted m (now first) (now second) (now table) ⌝ }
     ensures { λ r. ⌜ Fills (filledUntil chess (over m (now (first .entry)) (now (second .entry))) (holdsDepth (borrowed (materialFor m) (lent (now (first .entry)) (now (second .entry))))) (now (table .entry))) r (now (table .exit)) ⌝ }
 {
@@ -31,7 +34,7 @@ fn fill_men(back: bool, m: Men, first: &[u8], second: &[u8], table: &mut [u8]) -
     let mut k: u8 = 0;
     let mut last: u8 = 0;
     loop {
-        let step = step_at(back, m, k, last, deepest, first, second, &mut *table);
+        let step = step_at(way, m, k, last, deepest, first, second, &mut *table);
         let said = step.said;
         let progress = step.progress;
         match said {
@@ -44,8 +47,8 @@ fn fill_men(back: bool, m: Men, first: &[u8], second: &[u8], table: &mut [u8]) -
     }
 }
 
-// The fill by passes over all numbers, or back from those just settled.
-fn fill_by(back: bool, m: Material, first: &[u8], second: &[u8], table: &mut [u8]) -> Filled
+// The fill by passes in the way chosen.
+fn fill_by(way: u8, m: Material, first: &[u8], second: &[u8], table: &mut [u8]) -> Filled
     ensures { λ r. ⌜ FillPromiseWith m (lent (now (first .entry)) (now (second .entry))) (now (table .entry)) r (now (table .exit)) ⌝ }
 {
     if !is_known(m) {
@@ -57,7 +60,7 @@ fn fill_by(back: bool, m: Material, first: &[u8], second: &[u8], table: &mut [u8
     if !lent_accepted(m, first, second) {
         return Filled::Refused(NOT_ACCEPTED);
     }
-    fill_men(back, men_of(m), first, second, &mut *table)
+    fill_men(way, men_of(m), first, second, &mut *table)
 }
 
 // Writes the true table and gives the greatest depth, or says that no position is decided. Captures are read in the lent tables, of the first man's kind
@@ -65,14 +68,21 @@ fn fill_by(back: bool, m: Material, first: &[u8], second: &[u8], table: &mut [u8
 pub fn fill_with(m: Material, first: &[u8], second: &[u8], table: &mut [u8]) -> Filled
     ensures { λ r. ⌜ FillPromiseWith m (lent (now (first .entry)) (now (second .entry))) (now (table .entry)) r (now (table .exit)) ⌝ }
 {
-    fill_by(false, m, first, second, &mut *table)
+    fill_by(PASSES, m, first, second, &mut *table)
 }
 
 // The second fill, quicker: it works back from the positions just settled. Table, greatest depth and refusals are the first fill's.
 pub fn fill_back(m: Material, first: &[u8], second: &[u8], table: &mut [u8]) -> Filled
     ensures { λ r. ⌜ FillPromiseWith m (lent (now (first .entry)) (now (second .entry))) (now (table .entry)) r (now (table .exit)) ⌝ }
 {
-    fill_by(true, m, first, second, &mut *table)
+    fill_by(BACK, m, first, second, &mut *table)
+}
+
+// For comparison: every number that holds 1 is tried at every depth, no half of the table left out.
+pub fn fill_every(m: Material, first: &[u8], second: &[u8], table: &mut [u8]) -> Filled
+    ensures { λ r. ⌜ FillPromiseWith m (lent (now (first .entry)) (now (second .entry))) (now (table .entry)) r (now (table .exit)) ⌝ }
+{
+    fill_by(EVERY, m, first, second, &mut *table)
 }
 
 // With one man, who borrows nothing. Refusals 1 and 7 leave the table as it was, 10 all zero.
@@ -81,4 +91,12 @@ pub fn fill(kind: u8, table: &mut [u8]) -> Filled
 {
     let none: [u8; 0] = [];
     fill_with(Material::One(kind), &none, &none, &mut *table)
+}
+
+// The same, quicker: back from the positions just settled.
+pub fn fill_one_back(kind: u8, table: &mut [u8]) -> Filled
+    ensures { λ r. ⌜ FillPromise kind (now (table .entry)) r (now (table .exit)) ⌝ }
+{
+    let none: [u8; 0] = [];
+    fill_back(Material::One(kind), &none, &none, &mut *table)
 }

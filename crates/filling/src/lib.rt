@@ -2,16 +2,20 @@
 // read in lent tables.
 mod back;
 mod bytes;
+mod captures;
 mod deepest;
 mod fill_table;
 mod halves;
 mod pass;
 mod steps;
 mod taking;
+mod ways;
 
 pub use bytes::clear;
 pub use fill_table::fill;
 pub use fill_table::fill_back;
+pub use fill_table::fill_every;
+pub use fill_table::fill_one_back;
 pub use fill_table::fill_with;
 pub use steps::Step;
 pub use steps::Stepped;

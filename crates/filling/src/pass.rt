@@ -16,6 +16,7 @@ ghost use Rattle.table_theory.specs.Steps.{settledBy};
 ghost use Rattle.rules.specs.Chess.{chess};
 ghost use Rattle.filling.specs.Admitted.{over, Admitted};
 ghost use Rattle.filling.specs.Settling.{Settle};
+ghost use Rattle.filling.specs.Quiet.{QuietHalves};
 
 // Whether pass k settles the number. Whether it is used and its position legal is asked last, of the few that would
 // be settled.
@@ -66,13 +67,19 @@ fn of_half(n: usize, half: usize, white: bool, black: bool) -> bool
     if n < half { white } else { black }
 }
 
-// Pass k, in place; how many numbers it settled.
-pub fn pass(m: Men, k: u8, first: &[u8], second: &[u8], table: &mut [u8]) -> u32
-    requires { ⌜ (k < 254) × Admitted m (now first) (now second) (now table) ⌝ }
+// Pass k, in place, over the halves that may hold a number it settles; how many it settled.
+pub fn pass_halves(
+    white: bool,
+    black: bool,
+    m: Men,
+    k: u8,
+    first: &[u8],
+    second: &[u8],
+    table: &mut [u8],
+) -> u32
+    requires { ⌜ (k < 254) × Admitted m (now first) (now second) (now table) × QuietHalves m (now first) (now second) k (now table) white black ⌝ }
     ensures { λ r. ⌜ (r ≡ settledBy chess (over m (now (first .entry)) (now (second .entry))) k (now (table .entry))) × (now (table .exit) ≡ passed chess (over m (now (first .entry)) (now (second .entry))) k (now (table .entry))) ⌝ }
 {
-    let white = white_may(m, k, first, second, &*table);
-    let black = black_may(m, k, first, second, &*table);
     let size = table.len();
     let mut settled: u32 = 0;
     let mut n: usize = 0;
@@ -82,6 +89,16 @@ pub fn pass(m: Men, k: u8, first: &[u8], second: &[u8], table: &mut [u8]) -> u32
         n += 1;
     }
     settled
+}
+
+// Pass k, in place; how many numbers it settled.
+pub fn pass(m: Men, k: u8, first: &[u8], second: &[u8], table: &mut [u8]) -> u32
+    requires { ⌜ (k < 254) × Admitted m (now first) (now second) (now table) ⌝ }
+    ensures { λ r. ⌜ (r ≡ settledBy chess (over m (now (first .entry)) (now (second .entry))) k (now (table .entry))) × (now (table .exit) ≡ passed chess (over m (now (first .entry)) (now (second .entry))) k (now (table .entry))) ⌝ }
+{
+    let white = white_may(m, k, first, second, &*table);
+    let black = black_may(m, k, first, second, &*table);
+    pass_halves(white, black, m, k, first, second, &mut *table)
 }
 
 // Whether pass k would settle a number.

@@ -1,7 +1,7 @@
 // One step of the fill: the pass for a depth, and what it hands back.
-use super::back::pass_by;
 use super::bytes::clear;
 use super::pass::some_settles;
+use super::ways::pass_in;
 use answers::Filled;
 use position::Men;
 use position::TOO_DEEP;
@@ -9,8 +9,10 @@ use table_theory::Progress;
 ghost use mathlib.Core.Path.{_≡_};
 ghost use Prim.Native.Nat.{_<_, _≤_};
 ghost use Rattle.table_theory.specs.Tables.{ended as endedOf};
+ghost use Rattle.rules.specs.Chess.{chess};
 ghost use Rattle.endings.specs.Answers.{resultOf};
 ghost use Rattle.filling.specs.Admitted.{over, Admitted};
+ghost use Rattle.filling.specs.Trying.{Ready};
 ghost use Rattle.filling.specs.Steps.{Hands};
 ghost use Rattle.filling.specs.Stepping.{lastOf, stepOver};
 
@@ -73,7 +75,7 @@ pub fn progress_at(stage: u8, k: u8, last: u8) -> Progress
 
 // The step for a depth that a byte holds.
 fn step_below(
-    back: bool,
+    way: u8,
     m: Men,
     k: u8,
     last: u8,
@@ -82,11 +84,11 @@ fn step_below(
     second: &[u8],
     table: &mut [u8],
 ) -> Step
-    requires { ⌜ (k < 254) × Admitted m (now first) (now second) (now table) ⌝ }
+    requires { ⌜ (k < 254) × Admitted m (now first) (now second) (now table) × (way ≡ 1 → Ready chess (over m (now first) (now second)) k (now table)) ⌝ }
     ensures { λ r. ⌜ Hands (stepOver (over m (now (first .entry)) (now (second .entry))) deepest k last (now (table .entry))) r (now (table .exit)) ⌝ }
 {
     let before = last_before(k, last, deepest);
-    let settled = pass_by(back, m, k, first, second, &mut *table);
+    let settled = pass_in(way, m, k, first, second, &mut *table);
     if settled != 0 {
         let on = progress_at(GOING, k + 1, k + 1);
         return Step {
@@ -131,9 +133,9 @@ fn last_step(m: Men, last: u8, deepest: u8, first: &[u8], second: &[u8], table: 
     }
 }
 
-// The step for depth k, on any bytes, working back or not; `deepest` is the greatest byte lent.
+// The step for depth k, on any bytes, its pass in the way chosen; `deepest` is the greatest byte lent.
 pub fn step_at(
-    back: bool,
+    way: u8,
     m: Men,
     k: u8,
     last: u8,
@@ -142,11 +144,11 @@ pub fn step_at(
     second: &[u8],
     table: &mut [u8],
 ) -> Step
-    requires { ⌜ (k ≤ 254) × (deepest < 256) × Admitted m (now first) (now second) (now table) ⌝ }
+    requires { ⌜ (k ≤ 254) × (deepest < 256) × Admitted m (now first) (now second) (now table) × (way ≡ 1 → Ready chess (over m (now first) (now second)) k (now table)) ⌝ }
     ensures { λ r. ⌜ Hands (stepOver (over m (now (first .entry)) (now (second .entry))) deepest k last (now (table .entry))) r (now (table .exit)) ⌝ }
 {
     if k < DEPTHS {
-        return step_below(back, m, k, last, deepest, first, second, &mut *table);
+        return step_below(way, m, k, last, deepest, first, second, &mut *table);
     }
     last_step(m, last, deepest, first, second, &mut *table)
 }

@@ -9,6 +9,7 @@ use super::steps::Stepped;
 use super::steps::ended;
 use super::steps::progress_at;
 use super::steps::step_at;
+use super::ways::PASSES;
 use answers::Filled;
 use four_men::lengths_fit;
 use index::is_known;
@@ -77,7 +78,7 @@ fn step_from(m: Men, progress: Progress, first: &[u8], second: &[u8], table: &mu
         let k = next_depth(progress.next);
         let deepest = deepest_lent(m, first, second);
         return step_at(
-            false,
+            PASSES,
             m,
             k,
             progress.last,

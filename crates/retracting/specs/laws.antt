@@ -1,5 +1,9 @@
 pub mod Back
 pub mod Placing
 pub mod Sources
+pub mod Checks
+pub mod Unchecked
 pub mod Causes
+pub mod Captured
+pub mod Leaving
 pub mod Code

@@ -33,6 +33,7 @@ pub use steps::sledgewren_fill_start;
 pub use steps::sledgewren_fill_step;
 pub use tables::sledgewren_check;
 pub use tables::sledgewren_fill;
+pub use tables::sledgewren_fill_back;
 pub use tables::sledgewren_look_up;
 pub use typed_number::sledgewren_write_number;
 pub use version::sledgewren_version_number;

@@ -2,6 +2,7 @@
 // first man's kind and of the second's; with one man they are not read.
 use checking::check_with;
 use fifty::look_up_at_with;
+use filling::fill_back;
 use filling::fill_with;
 use words::checked_word;
 use words::filled_word;
@@ -28,6 +29,20 @@ pub extern "C" fn sledgewren_fill(
 {
     let m = material_read(ending);
     filled_word(fill_with(m, small_first, small_second, &mut *table))
+}
+
+// The same, quicker: it works back from the positions just settled.
+#[no_mangle]
+pub extern "C" fn sledgewren_fill_back(
+    ending: u32,
+    small_first: &[u8],
+    small_second: &[u8],
+    table: &mut [u8],
+) -> u32
+    ensures { λ r. ⌜ (r ≡ filledWord (fillWith (materialRead ending) (lent (now («small_first» .entry)) (now («small_second» .entry))) (now (table .entry)) .answer)) × (now (table .exit) ≡ fillWith (materialRead ending) (lent (now («small_first» .entry)) (now («small_second» .entry))) (now (table .entry)) .bytes) ⌝ }
+{
+    let m = material_read(ending);
+    filled_word(fill_back(m, small_first, small_second, &mut *table))
 }
 
 // Refusals 1, 7 and 17.

@@ -2,7 +2,7 @@
 use super::TABLE_SIZE;
 use answers::Filled;
 use filling::clear;
-use filling::fill;
+use filling::fill_one_back;
 ghost use mathlib.Core.Path.{_≡_};
 ghost use Prim.Native.Nat.{_+_, _≤_};
 ghost use lib.ListN.{length, take, drop};
@@ -27,7 +27,7 @@ fn fill_part(code: u8, at: usize, set: &mut [u8]) -> Filled
     ensures { λ r. ⌜ (r ≡ fillOf code (take tableSize (drop at (now (set .entry)))) .answer) × (now (set .exit) ≡ over (now (set .entry)) at (fillOf code (take tableSize (drop at (now (set .entry)))) .bytes)) ⌝ }
 {
     let end = at + TABLE_SIZE;
-    fill(code, &mut set[at..end])
+    fill_one_back(code, &mut set[at..end])
 }
 
 // Fills the table at a place; where filling refuses, the whole set is zero.

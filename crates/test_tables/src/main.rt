@@ -1,9 +1,16 @@
-// Fills each man's table and prints its counts of bytes and its checksum, as the second program does.
+// Fills each man's table, three tables by the second fill, and prints each one's counts of bytes and its checksum, as the
+// second program does.
 use answers::Filled;
 use filling::fill;
+use filling::fill_back;
+use filling::fill_one_back;
 use index::HALF;
 use index::TABLE_SIZE;
-ghost use Prim.Native.Nat.{_<_};
+use numbering::Material;
+ghost use Prim.Native.Nat.{_<_, _≤_};
+ghost use lib.ListN.{length};
+
+const LARGE_SIZE: usize = 3784704;
 
 // How often the byte stands in this half of a table.
 fn occurrences(half: &[u8], byte: u8) -> u64 {
@@ -77,14 +84,46 @@ fn print_filled(filled: Filled) {
     }
 }
 
+fn print_table(name: &[u8], filled: Filled, half: usize, table: &[u8])
+    requires { ⌜ half ≤ length (now table) ⌝ }
+{
+    io::write_all(1, name);
+    print_filled(filled);
+    print_side(b"white\n", &table[0..half]);
+    print_side(b"black\n", &table[half..]);
+    print_line(b"checksum ", checksum(table));
+}
+
 fn print_man(kind: u8, name: &[u8]) {
     let mut table = [0u8; TABLE_SIZE];
     let filled = fill(kind, &mut table);
-    io::write_all(1, name);
-    print_filled(filled);
-    print_side(b"white\n", &table[0..HALF]);
-    print_side(b"black\n", &table[HALF..]);
-    print_line(b"checksum ", checksum(&table));
+    print_table(name, filled, HALF, &table);
+}
+
+// By the second fill.
+fn print_man_back(kind: u8, name: &[u8]) {
+    let mut table = [0u8; TABLE_SIZE];
+    let filled = fill_one_back(kind, &mut table);
+    print_table(name, filled, HALF, &table);
+}
+
+// Bishop and knight by the second fill. The array goes by reference: its length is then its type's, and nobody counts it.
+fn fill_two(bishop: &[u8], knight: &[u8], table: &mut [u8; LARGE_SIZE]) -> Filled {
+    fill_back(Material::Two(2, 3, false), bishop, knight, &mut *table)
+}
+
+fn print_large(filled: Filled, table: &[u8; LARGE_SIZE]) {
+    print_table(b"KBNK\n", filled, LARGE_SIZE / 2, table);
+}
+
+fn print_two() {
+    let mut bishop = [0u8; TABLE_SIZE];
+    let mut knight = [0u8; TABLE_SIZE];
+    let mut table = [0u8; LARGE_SIZE];
+    fill_one_back(2, &mut bishop);
+    fill_one_back(3, &mut knight);
+    let filled = fill_two(&bishop, &knight, &mut table);
+    print_large(filled, &table);
 }
 
 fn main() {
@@ -92,4 +131,7 @@ fn main() {
     print_man(1, b"rook\n");
     print_man(2, b"bishop\n");
     print_man(3, b"knight\n");
+    print_man_back(0, b"queen\n");
+    print_man_back(1, b"rook\n");
+    print_two();
 }

@@ -33,15 +33,15 @@ returns-2 c =
     refused-position _ _ _ _ (c .before .before .before .before .man-in .ensures) _
     (c .before .before .standing-refusal .ensures) _ (c .before .if2 .taken) (c .answer-slip2 .ensures)
 
-fill-requires : tie.Need-fill-requires
-fill-requires c κs = tt
+fill-one-back-requires : tie.Need-fill-one-back-requires
+fill-one-back-requires c κs = tt
 
 after-fill-requires : tie.Need-after-fill-requires
 after-fill-requires c κs =
     ap (λ (m : Piece). m .kind) (c .before .before .before .before .before .before .before .before .man-in .ensures)
 
 same-length-2 : tie.Need-same-length-2
-same-length-2 c = c .before .before .before .before .fill .kept .1 .0
+same-length-2 c = c .before .before .before .before .fill-one-back .kept .1 .0
 
 returns-3 : tie.Need-returns-3
 returns-3 c =
@@ -51,11 +51,11 @@ returns-3 c =
     (at .before .before .before .standing-refusal .ensures) _ _ _
     (at .before .before .if2 .left)
     (at .before .before .before .before .if1 .left)
-    (at .fill .ensures .answered)
-    (at .fill .ensures .left) (c .after-fill .ensures)
+    (at .fill-one-back .ensures .answered)
+    (at .fill-one-back .ensures .left) (c .after-fill .ensures)
 
 pub look-up-line-spec : {M : Type 1} → statement M
 look-up-line-spec =
     tie.close
     (tie.spec man-in-requires look-up-requires answer-slip-requires same-length returns standing-refusal-requires
-    answer-slip-requires-2 returns-2 fill-requires after-fill-requires same-length-2 returns-3)
+    answer-slip-requires-2 returns-2 fill-one-back-requires after-fill-requires same-length-2 returns-3)

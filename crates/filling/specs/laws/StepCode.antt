@@ -1,5 +1,5 @@
 -- Laws by which the code of a step, of the calls over it and of the fill is proved.
-use mathlib.Core.Path.{_≡_, refl, sym, ap, ap₂, subst, fun-ext, _∙_}
+use mathlib.Core.Path.{_≡_, refl, sym, ap, ap₂, subst, subst⁻¹, fun-ext, _∙_}
 use mathlib.Core.Bool.{Bool, true, false, cond, not}
 use mathlib.Core.Logic.{_⊎_, inl, inr}
 use mathlib.Core.List.{List}
@@ -24,7 +24,9 @@ use Rattle.filling.specs.declared.steps.Stepped.{Stepped}
 use Rattle.filling.specs.declared.steps.Step.{Step}
 use Rattle.filling.specs.Steps.{Taken, Hands, takenOf, refusing}
 use Rattle.filling.specs.Stepping.{deeperThan, lastOf, stepOver}
+use Rattle.filling.specs.Trying.{Ready}
 use Rattle.filling.specs.laws.Laws.{passed-none}
+use Rattle.filling.specs.laws.Won.{ready-next}
 
 abbrev says : Stepped → Progress → List ℕ → Taken
 says a p t = record { step = record { said = a; progress = p }; bytes = t }
@@ -190,6 +192,7 @@ module _ (N : Numbering chess) (deepest k last : ℕ) (t : List ℕ) (low : k �
     pub below : k < 254
     pub last-so : lastOf next (r .progress .last) deepest ≡ r .progress .last
     pub same : passesUntil chess N deeper (254 - next) next (ended (r .progress .last)) w ≡ left
+    pub bytes : w ≡ passed chess N k t
 
   pub step-went : (m : ℕ) → r .said ≡ Stepped.Settled m → Went (k + 1)
   step-went m f =
@@ -215,6 +218,7 @@ module _ (N : Numbering chess) (deepest k last : ℕ) (t : List ℕ) (low : k �
             below = below;
             last-so = rw q y;
             same = rw (q, v) (sym z);
+            bytes = v;
           }
 
       again : (b : Bool) → cond b (suc k) (suc k) ≡ suc k
@@ -266,3 +270,9 @@ module _ (N : Numbering chess) (deepest k last : ℕ) (t : List ℕ) (low : k �
           (ap (λ (j : ℕ). passesUntil chess N deeper j k (ended last) t) z
           ∙ until-deep chess N deeper k (ended last) t e) refl refl
       go true e (inr x) d = absurd (no _ _ _ (over-more N deepest k last t x e))
+
+-- after a pass nothing is left to settle below the next depth
+pub ready-after : (N : Numbering chess) (k : ℕ) (t u : List ℕ) → u ≡ passed chess N k t → Ready chess N k t → Ready chess N (k + 1) u
+ready-after N k t u e r =
+    subst⁻¹ (λ (l : List ℕ). Ready chess N (k + 1) l) e
+    (subst (λ (j : ℕ). Ready chess N j (passed chess N k t)) (sym (add-one k)) (ready-next chess N k t r))

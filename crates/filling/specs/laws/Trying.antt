@@ -11,7 +11,7 @@ use lib.Seq.{getD-set-same, getD-set-other, set-getD}
 use Rattle.finite.specs.Truth.{decided, and-both, fails, refuted, le-or-lt, and-left, and-right, true-of, false-of, same-test}
 use Rattle.finite.specs.Members.{_∈_, map-out}
 use Rattle.finite.specs.Mapped.{mapFrom, mapped}
-use Rattle.finite.specs.Ranked.{rank, rank-most}
+use Rattle.finite.specs.Ranked.{rank}
 use Rattle.theory.specs.Game.{Game, next}
 use Rattle.theory.specs.Required.{requiredAt}
 use Rattle.theory.specs.laws.RuleLaws.{required-rule, byte-before}
@@ -72,7 +72,7 @@ module _ (G : Game) (N : Numbering G) (k : ℕ) (t : List ℕ) where
   held-one n s = eqb→eq (getD t n 0) 1 (and-left (eqb (getD t n 0) 1) _ s)
 
   module _ (u : List ℕ) (w : Midway G N k t u) where
-    settling : (q : G .Pos) → Settling k (reads G N t q) (reads G N u q)
+    pub settling : (q : G .Pos) → Settling k (reads G N t q) (reads G N u q)
     settling q = go (decided (N .inside q))
       where
         at-number : (m : ℕ) → (getD u m 0 ≡ getD t m 0) ⊎ (T (settles G N k t m) × (getD u m 0 ≡ 2 + k))
@@ -175,20 +175,14 @@ module _ (G : Game) (N : Numbering G) (k : ℕ) (t : List ℕ) where
     pub tried-kept : (u v : List ℕ) (a n : ℕ) → Went G N k t u v a → Tried G N k t u n → Tried G N k t v n
     tried-kept u v a n p f s e = f s (p .ones n e)
 
-    -- no more than there are numbers
-    pub went-most : (u v : List ℕ) (a : ℕ) → Went G N k t u v a → a ≤ N .size
-    unfolding leftOver
-    went-most u v a p =
-        omega (arith, p .count, rank-most (λ n. settles G N k t n && eqb (getD u n 0) 1) (N .size))
-
     module _ (u : List ℕ) (w : Midway G N k t u) (n : ℕ) where
       still : (i : ℕ) → (i ≡ n → ⊥) → getD (set u n (2 + k)) i 0 ≡ getD u i 0
       still i d = getD-set-other u n i (2 + k) 0 d
 
-      now-there : n < length u → getD (set u n (2 + k)) n 0 ≡ 2 + k
+      pub now-there : n < length u → getD (set u n (2 + k)) n 0 ≡ 2 + k
       now-there h = getD-set-same u n (2 + k) 0 h
 
-      went-one : n < length u → T (settles G N k t n) → getD u n 0 ≡ 1 → Went G N k t u (set u n (2 + k)) 1
+      pub went-one : n < length u → T (settles G N k t n) → getD u n 0 ≡ 1 → Went G N k t u (set u n (2 + k)) 1
       unfolding leftOver
       went-one h s e =
           let l : n < length t = subst (λ (x : ℕ). n < x) (w .long) h in

@@ -17,18 +17,19 @@ use Rattle.position.specs.declared.Place.{Place}
 use Rattle.position.specs.Posed.{boardIn}
 use Rattle.movegen.specs.Places.{squareAfter, placeAfter}
 use Rattle.movegen.specs.laws.Places.{occupied-men}
+use Rattle.retracting.specs.Retracting.{Missing, putAgain, placeBefore}
 
 -- ---- a square there and back
 
 module _ (from to s : ℕ) (n : s ≡ to → ⊥) where
-  king-again : carried to from (carried from to s) ≡ s
+  pub king-again : carried to from (carried from to s) ≡ s
   king-again = go (eqb s from) refl
     where
       go : (x : Bool) → eqb s from ≡ x → carried to from (cond x to s) ≡ s
       go true e = rw (eq-eqb to to refl) (sym (eqb-true s from e))
       go false e = rw (ne-eqb s to n)
 
-  man-again : (from ≡ to → ⊥) → squareAfter to from (squareAfter from to s) ≡ s
+  pub man-again : (from ≡ to → ⊥) → squareAfter to from (squareAfter from to s) ≡ s
   man-again d = rw (ne-eqb s to n) (go (eqb s from) refl)
     where
       go : (x : Bool) → eqb s from ≡ x → squareAfter to from (cond x to s) ≡ s
@@ -55,17 +56,43 @@ there-and-back q from to f d h =
       man-again from to (q .second) (f .second) d,
     )
 
+-- the same where a man was taken, put there again
+pub before-and-after : (m : Men) (q : Place) (taken from to : ℕ) → Missing m q taken → Free q from → (to ≡ from → ⊥) → to < 64 → q .side < 2
+    → placeAfter (placeBefore q taken from to) from to ≡ q
+unfolding putAgain
+before-and-after m q taken from to (Missing.nobody x y) f d l h = there-and-back q to from f d h
+before-and-after m q taken from to (Missing.first x y z) f d l h =
+    unfold placeAfter in
+    let e : 1 - (1 - q .side) ≡ q .side = omega arith in
+    rw (
+      e,
+      king-again to from (q .white) (f .white),
+      king-again to from (q .black) (f .black),
+      eq-eqb to to refl,
+      man-again to from (q .second) (f .second) d,
+    ) (ap (λ (s : ℕ). record { side = q .side; white = q .white; black = q .black; first = s; second = q .second }) (sym x))
+before-and-after m q taken from to (Missing.second x y z) f d l h =
+    unfold placeAfter in
+    let e : 1 - (1 - q .side) ≡ q .side = omega arith in
+    rw (
+      e,
+      king-again to from (q .white) (f .white),
+      king-again to from (q .black) (f .black),
+      eq-eqb to to refl,
+      man-again to from (q .first) (f .first) d,
+    ) (ap (λ (s : ℕ). record { side = q .side; white = q .white; black = q .black; first = q .first; second = s }) (sym y))
+
 -- ---- what a move leaves free
 
 module _ (from to s : ℕ) (d : from ≡ to → ⊥) where
-  gone-king : carried from to s ≡ from → ⊥
+  pub gone-king : carried from to s ≡ from → ⊥
   gone-king e = go (eqb s from) refl e
     where
       go : (x : Bool) → eqb s from ≡ x → cond x to s ≡ from → ⊥
       go true h r = d (sym r)
       go false h r = eqb-false s from h r
 
-  gone-man : from < 64 → squareAfter from to s ≡ from → ⊥
+  pub gone-man : from < 64 → squareAfter from to s ≡ from → ⊥
   gone-man l e = go (eqb s to) e
     where
       go : (x : Bool) → cond x 64 (carried from to s) ≡ from → ⊥
@@ -106,6 +133,28 @@ occupied-else m q from to u h a b =
     ∙ ap₂ _||_ (same-king from to (q .white) u a b)
     (ap₂ _||_ (same-king from to (q .black) u a b)
     (ap₂ _||_ (same-man from to (q .first) u a b h) (same-man from to (q .second) u a b h)))
+    ∙ sym (occupied-men m q u h)
+
+none-there : (u to s : ℕ) → (u ≡ to → ⊥) → s ≡ 64 → u < 64 → eqb u to ≡ eqb u s
+none-there u to s n e h = ne-eqb u to n ∙ sym (ne-eqb u s (λ z. omega (arith, z, e, h)))
+
+pub occupied-before : (m : Men) (q : Place) (taken from to u : ℕ) → Missing m q taken → u < 64 → (u ≡ to → ⊥) → (u ≡ from → ⊥)
+    → occupied (boardIn m (placeBefore q taken from to)) u ≡ occupied (boardIn m q) u
+unfolding putAgain
+occupied-before m q taken from to u (Missing.nobody x y) h a b = occupied-else m q to from u h a b
+occupied-before m q taken from to u (Missing.first x y z) h a b =
+    unfold placeAfter in
+    occupied-men m (putAgain 1 to (placeAfter q to from)) u h
+    ∙ ap₂ _||_ (same-king to from (q .white) u a b)
+    (ap₂ _||_ (same-king to from (q .black) u a b)
+    (ap₂ _||_ (none-there u to (q .first) a x h) (same-man to from (q .second) u a b h)))
+    ∙ sym (occupied-men m q u h)
+occupied-before m q taken from to u (Missing.second x y z) h a b =
+    unfold placeAfter in
+    occupied-men m (putAgain 2 to (placeAfter q to from)) u h
+    ∙ ap₂ _||_ (same-king to from (q .white) u a b)
+    (ap₂ _||_ (same-king to from (q .black) u a b)
+    (ap₂ _||_ (same-man to from (q .first) u a b h) (none-there u to (q .second) a y h)))
     ∙ sym (occupied-men m q u h)
 
 -- ---- a piece goes back as it came, whatever stands on the two squares

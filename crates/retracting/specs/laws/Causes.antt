@@ -101,7 +101,7 @@ two-came f t kind s kind′ colour s′ a c e = go (eqb (a .square) t) refl (eqb
 
 -- ---- the place before it
 
-place-eq : {s s′ w w′ b b′ x x′ y y′ : ℕ} → s ≡ s′ → w ≡ w′ → b ≡ b′ → x ≡ x′ → y ≡ y′
+pub place-eq : {s s′ w w′ b b′ x x′ y y′ : ℕ} → s ≡ s′ → w ≡ w′ → b ≡ b′ → x ≡ x′ → y ≡ y′
     → _≡_ {A = Place} (record { side = s; white = w; black = b; first = x; second = y })
     (record { side = s′; white = w′; black = b′; first = x′; second = y′ })
 place-eq e f g h k = rw (e, f, g, h, k)

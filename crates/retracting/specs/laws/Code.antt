@@ -1,9 +1,10 @@
 -- What the code of retractions comes to, by what it has in hand.
-use mathlib.Core.Path.{_≡_, refl, sym, ap, subst, subst⁻¹, _∙_}
-use mathlib.Core.Bool.{Bool, true, false, not, _&&_}
+use mathlib.Core.Path.{_≡_, refl, sym, ap, ap₂, subst, subst⁻¹, _∙_}
+use mathlib.Core.Bool.{Bool, true, false, cond, not, _&&_, and-true}
 use Prim.Native.Nat.{ℕ, _-_, _<_}
 use native.Mathlib.Omega.{arith}
-use lib.Dec.{T}
+use lib.Dec.{T, eqb}
+use borrow.Author.Tests.{eq-eqb, ne-eqb, eqb-true, eqb-false}
 use Rattle.finite.specs.Truth.{and-left, and-right, and-both, true-of, of-true, false-of, fails, refuted}
 use Rattle.board.specs.Reach.{reaches}
 use Rattle.board.specs.Sets.{has, setOf}
@@ -14,13 +15,14 @@ use Rattle.rules.specs.laws.Legal.{legal-facts}
 use Rattle.rules.specs.laws.CanMove.{can-on}
 use Rattle.position.specs.declared.Men.{Men}
 use Rattle.position.specs.declared.Place.{Place}
+use Rattle.movegen.specs.Places.{placeAfter}
 use Rattle.position.specs.Keyed.{boardOf}
 use Rattle.position.specs.Posed.{posed, boardIn, Complete}
-use Rattle.position.specs.laws.PosedLaws.{complete-spread}
 use Rattle.successors.specs.laws.NumberLaws.{complete-legal}
-use Rattle.retracting.specs.Retracting.{Leads, LegalPlace, Seat, Retracts, placeBefore, CompleteApart}
-use Rattle.retracting.specs.laws.Placing.{complete-after}
-use Rattle.retracting.specs.laws.Sources.{free-of, free-empty, leads-back, put-back, was-free, came, its-move}
+use Rattle.retracting.specs.Retracting.{Leads, LegalLeft, Seat, loser, putAgain, Retracts, placeBefore, CompleteApart, Steps, stillStrikes, othersStrike}
+use Rattle.retracting.specs.laws.Placing.{complete-before}
+use Rattle.retracting.specs.laws.Unchecked.{legal-before}
+use Rattle.retracting.specs.laws.Sources.{free-of, free-empty, seat-free, leads-back, put-back, lost-then, was-free, came, its-move}
 
 -- ---- legality
 
@@ -48,7 +50,7 @@ told-legal m o made r e f a =
 
 -- ---- the set
 
-module _ (m : Men) (q : Place) (kind owner to : ℕ) (g : LegalPlace m q) (seat : Seat m q kind owner to) where
+module _ (m : Men) (q : Place) (taken kind owner to : ℕ) (g : LegalLeft m q taken) (seat : Seat m q kind owner to) where
   owned : owner < 2
   owned = go seat
     where
@@ -56,33 +58,41 @@ module _ (m : Men) (q : Place) (kind owner to : ℕ) (g : LegalPlace m q) (seat 
       go Seat.white = omega arith
       go Seat.black = omega arith
       go Seat.first = omega arith
-      go Seat.second = g .complete .colour
+      go Seat.second = g .colour
+
+  none-came : ((o : Place) (s : ℕ) → Leads m o s to q → ⊥) → Retracts m q taken to 0
+  none-came f = record { sound = λ s h t. absurd (refuted (has-none s) t); all = λ o s l. absurd (f o s l) }
 
   -- the side to move has not just moved
-  pub no-source : owner ≡ q .side → Retracts m q to 0
-  no-source e = record {
-    sound = λ s h t. absurd (refuted (has-none s) t);
-    all = λ o s l.
-        let z = its-move m q o s to (g .complete) l kind owner seat in
-        absurd (omega (arith, z, e, complete-spread (g .complete) .side));
+  pub no-source : owner ≡ q .side → Retracts m q taken to 0
+  no-source e = none-came
+      (λ o s l. let z = its-move m q o s to taken g l kind owner seat in omega (arith, z, e, g .side))
+
+  -- a man of its own it does not take
+  pub no-capture : (taken ≡ 0 → ⊥) → (loser m taken ≡ q .side → ⊥) → Retracts m q taken to 0
+  no-capture n e = none-came (λ o s l. e (lost-then m q o s to taken g l n))
+
+  pub mover : (owner ≡ q .side → ⊥) → owner ≡ 1 - q .side
+  mover n = omega (arith, owned, g .side, n)
+
+  -- the squares that it goes to
+  pub steps-of : (occ reach squares : ℕ) → occ ≡ setOf (occupied (boardIn m q)) → reach ≡ setOf (reaches (has occ) kind to)
+      → squares ≡ setOf (λ (u : ℕ). has reach u && not (has occ u)) → Steps m q kind to occ squares
+  steps-of occ reach squares eo er es = record {
+    occupied-all = eo;
+    squares-all = λ s h.
+        set-has (λ (u : ℕ). has reach u && not (has occ u)) es s h
+        ∙ rw (
+          set-has (reaches (has occ) kind to) er s h,
+          set-has (occupied (boardIn m q)) eo s h,
+          reaches-same (has occ) (occupied (boardIn m q)) (set-has (occupied (boardIn m q)) eo) kind to s,
+        );
   }
 
-  module _ (n : owner ≡ q .side → ⊥) (occ reach squares : ℕ) (eo : occ ≡ setOf (occupied (boardIn m q)))
-      (er : reach ≡ setOf (reaches (has occ) kind to)) (es : squares ≡ setOf (λ (u : ℕ). has reach u && not (has occ u))) where
-    mover : owner ≡ 1 - q .side
-    mover = omega (arith, owned, complete-spread (g .complete) .side, n)
-
-    over : (s t : ℕ) → reaches (has occ) kind s t ≡ reaches (occupied (boardIn m q)) kind s t
-    over s t = reaches-same (has occ) (occupied (boardIn m q)) (set-has (occupied (boardIn m q)) eo) kind s t
-
-    in-squares : (s : ℕ) → s < 64 → has squares s ≡ (reaches (occupied (boardIn m q)) kind to s && not (occupied (boardIn m q) s))
-    in-squares s h =
-        set-has (λ (u : ℕ). has reach u && not (has occ u)) es s h
-        ∙ rw (set-has (reaches (has occ) kind to) er s h, set-has (occupied (boardIn m q)) eo s h, over to s)
-
+  module _ (occ squares : ℕ) (st : Steps m q kind to occ squares) where
     module _ (s : ℕ) (h : s < 64) (t : T (has squares s)) where
       both : T (reaches (occupied (boardIn m q)) kind to s && not (occupied (boardIn m q) s))
-      both = subst T (in-squares s h) t
+      both = subst T (st .squares-all s h) t
 
       reached : T (reaches (occupied (boardIn m q)) kind to s)
       reached = and-left (reaches (occupied (boardIn m q)) kind to s) (not (occupied (boardIn m q) s)) both
@@ -90,34 +100,108 @@ module _ (m : Men) (q : Place) (kind owner to : ℕ) (g : LegalPlace m q) (seat 
       unoccupied : occupied (boardIn m q) s ≡ false
       unoccupied = false-of (and-right (reaches (occupied (boardIn m q)) kind to s) (not (occupied (boardIn m q) s)) both)
 
-      pub apart-there : CompleteApart m (placeBefore q s to)
+      pub apart-there : CompleteApart m (placeBefore q taken s to)
       apart-there k =
-          complete-after to s (reaches-squares (occupied (boardIn m q)) kind to s reached .0) h m q (g .complete)
-          (free-of m q s h unoccupied) k
+          let f = free-of m q s h unoccupied in
+          complete-before to s (reaches-squares (occupied (boardIn m q)) kind to s reached .0) h
+          (seat-free m q kind owner to s seat f) m q taken g f k
 
-    pub exact : (r : ℕ) → (((s : ℕ) → s < 64 → T (has squares s) → CompleteApart m (placeBefore q s to))
-        → (s : ℕ) → s < 64 → has r s ≡ (has squares s && legal (boardIn m (placeBefore q s to))))
-        → Retracts m q to r
-    exact r f = record { sound = λ s h t. sound s h t; all = λ o s l. (all o s l, put-back m q o s to (g .complete) l) }
-      where
-        told : (s : ℕ) → s < 64 → has r s ≡ (has squares s && legal (boardIn m (placeBefore q s to)))
-        told = f apart-there
+    abbrev pub Sifted : ℕ → Type 0
+    Sifted r = (s : ℕ) → s < 64 → has r s ≡ (has squares s && legal (boardIn m (placeBefore q taken s to)))
 
-        sound : (s : ℕ) → s < 64 → T (has r s) → Leads m (placeBefore q s to) s to q
-        sound s h t =
-            let b = subst T (told s h) t in
-            let i = and-left (has squares s) (legal (boardIn m (placeBefore q s to))) b in
-            let l = and-right (has squares s) (legal (boardIn m (placeBefore q s to))) b in
-            leads-back m q g kind owner s to seat mover (reached s h i) (free-of m q s h (unoccupied s h i))
-            (apart-there s h i (legal-facts (boardIn m (placeBefore q s to)) l .kings)) l
+    module _ (em : owner ≡ 1 - q .side) (lost : (taken ≡ 0 → ⊥) → loser m taken ≡ q .side) where
+      -- no other man has a line to the king
+      pub unstruck : (k stood : ℕ) → k ≡ cond (eqb (q .side) 0) (q .white) (q .black)
+          → ((u : ℕ) → u < 64 → has stood u ≡ (has occ u && not (eqb taken 0 && eqb u to))) → (struck : Bool)
+          → struck ≡ othersStrike m q (has stood) owner to k → struck ≡ false → (reach r : ℕ)
+          → reach ≡ setOf (reaches (has stood) kind k) → r ≡ setOf (λ (u : ℕ). has squares u && not (has reach u)) → Sifted r
+      unstruck k stood ek ed struck e f reach r er es s h =
+          set-has (λ (u : ℕ). has squares u && not (has reach u)) es s h
+          ∙ ap (λ (b : Bool). has squares s && not b) (set-has (reaches (has stood) kind k) er s h)
+          ∙ go (has squares s) refl
+        where
+          over : (u : ℕ) → u < 64 → has stood u ≡ (occupied (boardIn m q) u && not (eqb taken 0 && eqb u to))
+          over u l =
+              ed u l
+              ∙ ap (λ (b : Bool). b && not (eqb taken 0 && eqb u to)) (set-has (occupied (boardIn m q)) (st .occupied-all) u l)
 
-        all : (o : Place) (s : ℕ) → Leads m o s to q → T (has r s)
-        all o s l =
-            let h = can-on (boardIn m o) s to (l .can) .0 in
-            subst⁻¹ T (told s h)
-            (and-both (has squares s) (legal (boardIn m (placeBefore q s to)))
-            (subst⁻¹ T (in-squares s h)
-            (and-both (reaches (occupied (boardIn m q)) kind to s) (not (occupied (boardIn m q) s))
-            (came m q o s to (g .complete) l kind owner seat)
-            (subst⁻¹ (λ (b : Bool). T (not b)) (free-empty m q s h (was-free m q o s to (g .complete) l)) tt)))
-            (subst (λ (p : Place). T (legal (boardIn m p))) (put-back m q o s to (g .complete) l) (l .legality)))
+          go : (b : Bool) → has squares s ≡ b
+              → (b && not (reaches (has stood) kind k s)) ≡ (b && legal (boardIn m (placeBefore q taken s to)))
+          go false z = refl
+          go true z =
+              let t = of-true z in
+              sym (legal-before m q taken g kind owner to s seat em lost (reached s h t) (free-of m q s h (unoccupied s h t)) k ek
+              (has stood) over (ap (λ (x : ℕ). othersStrike m q (has stood) x to k) (sym em) ∙ sym e ∙ f) (apart-there s h t))
+
+      pub exact : (r : ℕ) → Sifted r → Retracts m q taken to r
+      exact r told = record { sound = λ s h t. sound s h t; all = λ o s l. (all o s l, put-back m q o s to taken g l) }
+        where
+          sound : (s : ℕ) → s < 64 → T (has r s) → Leads m (placeBefore q taken s to) s to q
+          sound s h t =
+              let b = subst T (told s h) t in
+              let i = and-left (has squares s) (legal (boardIn m (placeBefore q taken s to))) b in
+              let l = and-right (has squares s) (legal (boardIn m (placeBefore q taken s to))) b in
+              leads-back m q taken g kind owner s to seat em lost (reached s h i) (free-of m q s h (unoccupied s h i))
+              (apart-there s h i (legal-facts (boardIn m (placeBefore q taken s to)) l .kings)) l
+
+          all : (o : Place) (s : ℕ) → Leads m o s to q → T (has r s)
+          all o s l =
+              let h = can-on (boardIn m o) s to (l .can) .0 in
+              subst⁻¹ T (told s h)
+              (and-both (has squares s) (legal (boardIn m (placeBefore q taken s to)))
+              (subst⁻¹ T (st .squares-all s h)
+              (and-both (reaches (occupied (boardIn m q)) kind to s) (not (occupied (boardIn m q) s))
+              (came m q o s to taken g l kind owner seat)
+              (subst⁻¹ (λ (b : Bool). T (not b)) (free-empty m q s h (was-free m q o s to taken g l)) tt)))
+              (subst (λ (p : Place). T (legal (boardIn m p))) (put-back m q o s to taken g l) (l .legality)))
+
+-- ---- what stood before the move
+
+pub stood-none : (occ taken to stood : ℕ) → taken ≡ 0 → stood ≡ setOf (λ (u : ℕ). has occ u && not (eqb u to)) → (u : ℕ) → u < 64
+    → has stood u ≡ (has occ u && not (eqb taken 0 && eqb u to))
+stood-none occ taken to stood e es u h =
+    set-has (λ (u : ℕ). has occ u && not (eqb u to)) es u h
+    ∙ ap (λ (b : Bool). has occ u && not (b && eqb u to)) (sym (eq-eqb taken 0 e))
+
+pub stood-taken : (occ taken to : ℕ) → (taken ≡ 0 → ⊥) → (u : ℕ) → u < 64
+    → has occ u ≡ (has occ u && not (eqb taken 0 && eqb u to))
+stood-taken occ taken to e u h =
+    sym (ap (λ (b : Bool). has occ u && not (b && eqb u to)) (ne-eqb taken 0 e) ∙ and-true (has occ u))
+
+-- ---- a man who has not moved
+
+pub still-strikes : (occ : ℕ → Bool) (owner to t colour kind square at : ℕ) (hit : Bool)
+    → at ≡ cond (eqb colour owner && not (eqb square to)) square 64 → hit ≡ reaches occ kind at t
+    → hit ≡ stillStrikes occ owner to t colour kind square
+still-strikes occ owner to t colour kind square at hit ea eh =
+    eh ∙ ap (λ (s : ℕ). reaches occ kind s t) ea ∙ go (eqb colour owner && not (eqb square to))
+  where
+    go : (b : Bool) → reaches occ kind (cond b square 64) t ≡ (b && reaches occ kind square t)
+    go true = refl
+    go false = fails (reaches occ kind 64 t) (λ h. let z = reaches-squares occ kind 64 t h .0 in omega (arith, z))
+
+-- ---- the place before, field by field
+
+pub before-by : (q : Place) (taken s to : ℕ) (o : Place) (x y : ℕ) → o ≡ placeAfter q to s → x ≡ cond (eqb taken 1) to (o .first)
+    → y ≡ cond (eqb taken 2) to (o .second)
+    → record { side = o .side; white = o .white; black = o .black; first = x; second = y } ≡ placeBefore q taken s to
+unfolding putAgain
+before-by q taken s to o x y e f g =
+    ap₂ (λ (i j : ℕ). record { side = o .side; white = o .white; black = o .black; first = i; second = j }) f g
+    ∙ ap (putAgain taken to) e
+
+-- ---- whose the man was who was taken, as the code asks
+
+pub own-taken : (taken side l : ℕ) → (not (eqb taken 0) && not (eqb l side)) ≡ true → (taken ≡ 0 → ⊥) × (l ≡ side → ⊥)
+own-taken taken side l e =
+    let t = of-true e in
+    let a : eqb taken 0 ≡ false = false-of (and-left (not (eqb taken 0)) (not (eqb l side)) t) in
+    let b : eqb l side ≡ false = false-of (and-right (not (eqb taken 0)) (not (eqb l side)) t) in
+    (eqb-false taken 0 a, eqb-false l side b)
+
+pub foe-taken : (taken side l : ℕ) → (not (eqb taken 0) && not (eqb l side)) ≡ false → (taken ≡ 0 → ⊥) → l ≡ side
+foe-taken taken side l e n = go (eqb l side) refl (ap (λ (b : Bool). not b && not (eqb l side)) (sym (ne-eqb taken 0 n)) ∙ e)
+  where
+    go : (b : Bool) → eqb l side ≡ b → not b ≡ false → l ≡ side
+    go true z f = eqb-true l side z
+    go false z f = absurd (subst T f tt)

@@ -17,7 +17,8 @@ use Rattle.index.specs.Seats.{Seated, shares}
 use Rattle.index.specs.laws.PlaceLaws.{apart-shares}
 use Rattle.index.specs.laws.CompleteLaws.{seated-complete, complete-seated}
 use Rattle.movegen.specs.Places.{squareAfter, placeAfter}
-use Rattle.retracting.specs.laws.Back.{Free}
+use Rattle.retracting.specs.Retracting.{Missing, LegalLeft, putAgain, placeBefore}
+use Rattle.retracting.specs.laws.Back.{Free, gone-king}
 
 module _ (x y : ℕ) (lx : x < 64) (ly : y < 64) where
   -- two squares that are not the target stay apart
@@ -47,56 +48,106 @@ module _ (x y : ℕ) (lx : x < 64) (ly : y < 64) where
   man-after : (s : ℕ) → (s ≡ y → ⊥) → squareAfter x y s ≡ carried x y s
   man-after s n = rw (ne-eqb s y n)
 
-  module _ (m : Men) (q : Place) (w : Complete m q) (f : Free q y) where
-    pub seated-after : Seated m (placeAfter q x y)
-    unfolding placeAfter
-    seated-after =
-        let s = complete-seated m q w in
-        record {
-          ending = s .ending;
-          colour = s .colour;
-          white = carried-on (q .white) (s .white);
-          black = carried-on (q .black) (s .black);
-          first = rw (man-after (q .first) (f .first)) (carried-on (q .first) (s .first));
-          second = rw (man-after (q .second) (f .second)) (carried-off (q .second) ∙ s .second);
-        }
+  module _ (xy : x ≡ y → ⊥) (m : Men) (q : Place) (taken : ℕ) (w : LegalLeft m q taken) (f : Free q y) where
+    abbrev o : Place
+    o = placeBefore q taken y x
 
-    pub side-after : placeAfter q x y .side < 2
-    unfolding placeAfter
-    side-after = omega arith
+    seated-by : (i : ℕ) → Missing m q i → Seated m (placeBefore q i y x)
+    unfolding putAgain placeAfter
+    seated-by i (Missing.nobody a b) = record {
+      ending = w .ending;
+      colour = w .colour;
+      white = carried-on (q .white) (w .white);
+      black = carried-on (q .black) (w .black);
+      first = rw (man-after (q .first) (f .first)) (carried-on (q .first) a);
+      second = rw (man-after (q .second) (f .second)) (carried-off (q .second) ∙ b);
+    }
+    seated-by i (Missing.first a b c) = record {
+      ending = w .ending;
+      colour = w .colour;
+      white = carried-on (q .white) (w .white);
+      black = carried-on (q .black) (w .black);
+      first = lx;
+      second = rw (man-after (q .second) (f .second))
+          (carried-off (q .second) ∙ lt-leb 64 (q .second) b ∙ sym (lt-leb 4 (m .second) c));
+    }
+    seated-by i (Missing.second a b c) = record {
+      ending = w .ending;
+      colour = w .colour;
+      white = carried-on (q .white) (w .white);
+      black = carried-on (q .black) (w .black);
+      first = rw (man-after (q .first) (f .first)) (carried-on (q .first) a);
+      second = lt-leb 64 x lx ∙ sym (lt-leb 4 (m .second) c);
+    }
 
-    unshared-after : shares (placeAfter q x y) ≡ false
-    unfolding shares placeAfter
-    unshared-after =
-        let s = complete-spread w in
+    side-of : (i : ℕ) → Missing m q i → placeBefore q i y x .side < 2
+    unfolding putAgain placeAfter
+    side-of i (Missing.nobody a b) = omega arith
+    side-of i (Missing.first a b c) = omega arith
+    side-of i (Missing.second a b c) = omega arith
+
+    kings-of : (i : ℕ) → Missing m q i → eqb (placeBefore q i y x .white) (placeBefore q i y x .black) ≡ false
+    unfolding putAgain placeAfter
+    kings-of i (Missing.nobody a b) =
+        ne-eqb (carried x y (q .white)) (carried x y (q .black))
+        (stay-apart (q .white) (q .black) (f .white) (f .black) (w .white-black))
+    kings-of i (Missing.first a b c) =
+        ne-eqb (carried x y (q .white)) (carried x y (q .black))
+        (stay-apart (q .white) (q .black) (f .white) (f .black) (w .white-black))
+    kings-of i (Missing.second a b c) =
+        ne-eqb (carried x y (q .white)) (carried x y (q .black))
+        (stay-apart (q .white) (q .black) (f .white) (f .black) (w .white-black))
+
+    abbrev left : (s : ℕ) → carried x y s ≡ x → ⊥
+    left s = gone-king x y s xy
+
+    unshared-by : (i : ℕ) → Missing m q i → shares (placeBefore q i y x) ≡ false
+    unfolding shares putAgain placeAfter
+    unshared-by i (Missing.nobody a b) =
         rw (
           man-after (q .first) (f .first),
           man-after (q .second) (f .second),
           ne-eqb (carried x y (q .white)) (carried x y (q .first))
-              (stay-apart (q .white) (q .first) (f .white) (f .first) (s .white-first)),
+              (stay-apart (q .white) (q .first) (f .white) (f .first) (w .white-first)),
           ne-eqb (carried x y (q .black)) (carried x y (q .first))
-              (stay-apart (q .black) (q .first) (f .black) (f .first) (s .black-first)),
+              (stay-apart (q .black) (q .first) (f .black) (f .first) (w .black-first)),
           ne-eqb (carried x y (q .white)) (carried x y (q .second))
-              (stay-apart (q .white) (q .second) (f .white) (f .second) (s .white-second)),
+              (stay-apart (q .white) (q .second) (f .white) (f .second) (w .white-second)),
           ne-eqb (carried x y (q .black)) (carried x y (q .second))
-              (stay-apart (q .black) (q .second) (f .black) (f .second) (s .black-second)),
+              (stay-apart (q .black) (q .second) (f .black) (f .second) (w .black-second)),
           ne-eqb (carried x y (q .first)) (carried x y (q .second))
-              (stay-apart (q .first) (q .second) (f .first) (f .second) (s .first-second)),
+              (stay-apart (q .first) (q .second) (f .first) (f .second) (w .first-second)),
+        )
+    unshared-by i (Missing.first a b c) =
+        rw (
+          man-after (q .second) (f .second),
+          ne-eqb (carried x y (q .white)) x (left (q .white)),
+          ne-eqb (carried x y (q .black)) x (left (q .black)),
+          ne-eqb (carried x y (q .white)) (carried x y (q .second))
+              (stay-apart (q .white) (q .second) (f .white) (f .second) (w .white-second)),
+          ne-eqb (carried x y (q .black)) (carried x y (q .second))
+              (stay-apart (q .black) (q .second) (f .black) (f .second) (w .black-second)),
+          ne-eqb x (carried x y (q .second)) (λ z. left (q .second) (sym z)),
+        )
+    unshared-by i (Missing.second a b c) =
+        rw (
+          man-after (q .first) (f .first),
+          ne-eqb (carried x y (q .white)) (carried x y (q .first))
+              (stay-apart (q .white) (q .first) (f .white) (f .first) (w .white-first)),
+          ne-eqb (carried x y (q .black)) (carried x y (q .first))
+              (stay-apart (q .black) (q .first) (f .black) (f .first) (w .black-first)),
+          ne-eqb (carried x y (q .white)) x (left (q .white)),
+          ne-eqb (carried x y (q .black)) x (left (q .black)),
+          ne-eqb (carried x y (q .first)) x (left (q .first)),
         )
 
-    kings-after : eqb (placeAfter q x y .white) (placeAfter q x y .black) ≡ false
-    unfolding placeAfter
-    kings-after =
-        ne-eqb (carried x y (q .white)) (carried x y (q .black))
-        (stay-apart (q .white) (q .black) (f .white) (f .black) (complete-spread w .white-black))
-
     -- complete, where the kings do not touch
-    pub complete-after : touching (boardIn m (placeAfter q x y)) ≡ false → Complete m (placeAfter q x y)
-    complete-after h =
-        let o = placeAfter q x y in
-        let s = seated-after in
-        seated-complete m o s side-after (kings o (s .white) (s .black) kings-after h)
-        (subst⁻¹ T (apart-shares m o s kings-after ∙ ap not unshared-after) tt)
+    pub complete-before : touching (boardIn m o) ≡ false → Complete m o
+    complete-before h =
+        let s = seated-by taken (w .missing) in
+        let e = kings-of taken (w .missing) in
+        seated-complete m o s (side-of taken (w .missing)) (kings o (s .white) (s .black) e h)
+        (subst⁻¹ T (apart-shares m o s e ∙ ap not (unshared-by taken (w .missing))) tt)
       where
         kings : (o : Place) → o .white < 64 → o .black < 64 → eqb (o .white) (o .black) ≡ false
             → touching (boardIn m o) ≡ false → T (separate (o .white) (o .black))

@@ -38,7 +38,7 @@ const PAGES: &[Page] = &[
              notation and in the desk's form, the line of best play to mate, the second opinion \
              of a search without tables (up to 6 plies), the desk's slip and the number.",
             "With two men there is no second opinion, slip or typed number. Their table is filled, \
-             which takes some twenty seconds and is told on standard error, or read from --table \
+             which takes some seconds and is told on standard error, or read from --table \
              FILE and checked.",
             "--svg FILE draws the board, with the move as an arrow.",
             "FEN's castling rights and en-passant square are refused: the tables know neither. Its \
@@ -53,14 +53,19 @@ const PAGES: &[Page] = &[
     },
     Page {
         name: "fill",
-        usage: "sledgewren fill ENDING FILE",
+        usage: "sledgewren fill [--steps] ENDING FILE",
         about: "makes an ending's table",
         text: &[
-            "Fills the table, has it checked and writes its 59,136 bytes, 3,784,704 with two men. Progress goes to standard \
-             error: a bar at a terminal, plain lines elsewhere. The file is written beside its \
+            "Fills the table, has it checked and writes its 59,136 bytes, 3,784,704 with two men. The file is written beside its \
              place and renamed, so that FILE has its old bytes or all of the new ones.",
+            "That it fills goes to standard error, at a terminal with the seconds. With --steps it \
+             fills a depth at a time, which takes longer, and shows each: a bar at a terminal, \
+             plain lines elsewhere. The bytes are the same.",
         ],
-        examples: &["sledgewren fill queen queen.table", "sledgewren fill KBNK kbnk.table"],
+        examples: &[
+            "sledgewren fill queen queen.table",
+            "sledgewren fill --steps KBNK kbnk.table",
+        ],
     },
     Page {
         name: "check",

@@ -1,16 +1,68 @@
-//! How far filling is, on standard error: a live bar at a terminal, plain lines elsewhere.
+//! How far filling is, on standard error: live at a terminal, plain lines elsewhere.
 
 use std::io::{self, IsTerminal, Write};
+use std::sync::mpsc;
+use std::thread;
+use std::time::{Duration, Instant};
 
 use sledgewren::entry::{self, Lent};
 use sledgewren::{Ending, Refusal, Stage, Step};
 
 const WIDTH: usize = 40;
 
+/// A way to fill a table: it shows how far it is and gives the words for the end.
+pub type Fill = fn(Ending, Lent, &mut [u8]) -> Result<String, Refusal>;
+
 /// Progress is a courtesy: where it cannot be shown, the work goes on.
 fn show(text: &str) {
     let mut screen = io::stderr().lock();
     let _ = screen.write_all(text.as_bytes()).and_then(|()| screen.flush());
+}
+
+/// One man by his name, as arbiters say; two by their letters.
+fn name_of(ending: Ending) -> String {
+    match ending.second() {
+        None => ending.first().to_string(),
+        Some(_) => ending.to_string(),
+    }
+}
+
+fn end(name: &str, greatest: Option<u8>, settled: u32, legal: u32) -> String {
+    greatest.map_or(format!("{name}: no position is decided"), |depth| {
+        format!("{name}: greatest depth {depth}, {settled} of {legal} decided")
+    })
+}
+
+/// Does the work while the seconds go by on the screen.
+fn with_seconds<T: Send>(name: &str, work: impl FnOnce() -> T + Send) -> T {
+    let begun = Instant::now();
+    thread::scope(|scope| {
+        let (done, told) = mpsc::channel();
+        scope.spawn(move || done.send(work()));
+        loop {
+            show(&format!("\r{name:8} filling, {} s", begun.elapsed().as_secs()));
+            match told.recv_timeout(Duration::from_millis(500)) {
+                Ok(answer) => return answer,
+                Err(mpsc::RecvTimeoutError::Timeout) => {}
+                Err(gone) => unreachable!("the work ends with an answer: {gone}"),
+            }
+        }
+    })
+}
+
+/// Fills a table at once, by the quicker fill.
+pub fn at_once(ending: Ending, lent: Lent, table: &mut [u8]) -> Result<String, Refusal> {
+    let name = name_of(ending);
+    let greatest = if io::stderr().is_terminal() {
+        let greatest = with_seconds(&name, || entry::fill_back(ending, lent, table));
+        show("\r\x1b[K");
+        greatest?
+    } else {
+        show(&format!("{name}: filling\n"));
+        entry::fill_back(ending, lent, table)?
+    };
+    let above = |least: u8| table.iter().filter(|&&byte| byte > least).count() as u32;
+    Ok(end(&name, greatest, above(1), above(0)))
 }
 
 fn bar(name: &str, depth: u8, settled: u32, legal: u32) -> String {
@@ -19,14 +71,9 @@ fn bar(name: &str, depth: u8, settled: u32, legal: u32) -> String {
     format!("\r{name:8} [{done}{rest}] depth {depth:2}, {settled} of {legal} decided")
 }
 
-/// Fills a table in steps and shows each. Gives the words for the end.
-pub fn fill(ending: impl Into<Ending>, lent: Lent, table: &mut [u8]) -> Result<String, Refusal> {
-    let ending = ending.into();
-    // One man by his name, as arbiters say; two by their letters.
-    let name = match ending.second() {
-        None => ending.first().to_string(),
-        Some(_) => ending.to_string(),
-    };
+/// Fills a table in steps and shows each depth.
+pub fn in_steps(ending: Ending, lent: Lent, table: &mut [u8]) -> Result<String, Refusal> {
+    let name = name_of(ending);
     let live = io::stderr().is_terminal();
     let mut progress = entry::fill_start(ending, table)?;
     let legal = table.iter().filter(|&&byte| byte != 0).count() as u32;
@@ -48,9 +95,7 @@ pub fn fill(ending: impl Into<Ending>, lent: Lent, table: &mut [u8]) -> Result<S
                 if live {
                     show("\r\x1b[K");
                 }
-                return Ok(greatest.map_or(format!("{name}: no position is decided"), |depth| {
-                    format!("{name}: greatest depth {depth}, {settled} of {legal} decided")
-                }));
+                return Ok(end(&name, greatest, settled, legal));
             }
             _ => {}
         }

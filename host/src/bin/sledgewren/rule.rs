@@ -8,7 +8,7 @@ use sledgewren::{second_opinion, Accepted, Answer, Ending, Keyed, Opinion};
 use crate::failure::{Done, Failure};
 use crate::fen::{self, Read};
 use crate::game::{self, Tables};
-use crate::{board, files, tables, words};
+use crate::{board, files, progress, tables, words};
 
 /// The second opinion beside the table's answer. That they agree is proved; if they did not, the
 /// linked library would not be the proved one.
@@ -120,7 +120,7 @@ pub fn run(words: &[String], out: &mut dyn Write) -> Done {
     let (first, second) = (Accepted::filled(ending.first())?, Accepted::filled(second)?);
     let four = match file {
         Some(path) => tables::accepted_two(ending, &first, &second, path)?,
-        None => tables::filled_two(ending, &first, &second)?.0,
+        None => tables::filled_two(ending, &first, &second, progress::at_once)?.0,
     };
     ruled(out, &read, &asked, &Tables::Two(&four))
 }

@@ -7,8 +7,9 @@ use sledgewren::{Accepted, Checked, Choice, Ending, FourMen, Man, Pocket, Positi
 use sledgewren::{LARGE_TABLE_BYTES, POCKET_BYTES, TABLE_BYTES};
 
 use crate::failure::{Done, Failure};
-use crate::words::{ending, man, plain};
-use crate::{files, progress};
+use crate::files;
+use crate::progress::{self, Fill};
+use crate::words::{ending, flag, man, plain};
 
 /// So many words and no options.
 fn exactly<const N: usize>(words: &[String], wanted: &str) -> Result<[String; N], Failure> {
@@ -36,10 +37,11 @@ pub fn filled_two<'a>(
     ending: Ending,
     first: &'a Accepted,
     second: &'a Accepted,
+    fill: Fill,
 ) -> Result<(FourMen<'a>, String), Failure> {
     let mut bytes = vec![0; LARGE_TABLE_BYTES].into_boxed_slice();
     let lent = Lent { first: first.table().bytes(), second: second.table().bytes() };
-    let end = progress::fill(ending, lent, &mut bytes)?;
+    let end = fill(ending, lent, &mut bytes)?;
     match FourMen::accept(ending, first, second, bytes) {
         Ok(four) => Ok((four, end)),
         Err(not) => Err(Failure::Refused(format!("{ending}: {not}"))),
@@ -74,16 +76,18 @@ fn small(ending: Ending) -> Result<[Accepted; 2], Failure> {
 }
 
 pub fn fill(words: &[String], out: &mut dyn Write) -> Done {
-    let [name, path] = exactly(words, "an ending and a file")?;
+    let (steps, words) = flag(words, "steps");
+    let [name, path] = exactly(&words, "an ending and a file")?;
     let ending = ending(&name)?;
+    let fill: Fill = if steps { progress::in_steps } else { progress::at_once };
     let end = if ending.second().is_some() {
         let [first, second] = small(ending)?;
-        let (four, end) = filled_two(ending, &first, &second)?;
+        let (four, end) = filled_two(ending, &first, &second, fill)?;
         files::replace(&path, four.bytes())?;
         end
     } else {
         let mut table = vec![0; TABLE_BYTES];
-        let end = progress::fill(ending, Lent::NONE, &mut table)?;
+        let end = fill(ending, Lent::NONE, &mut table)?;
         judged(ending.first(), &table)?;
         files::replace(&path, &table)?;
         end
@@ -175,7 +179,7 @@ pub fn set(words: &[String], out: &mut dyn Write) -> Done {
     let mut ends = Vec::new();
     for man in choice.men() {
         let place = entry::set_find(&bytes, man)?;
-        ends.push(progress::fill(man, Lent::NONE, &mut bytes[place.clone()])?);
+        ends.push(progress::at_once(man.into(), Lent::NONE, &mut bytes[place.clone()])?);
         judged(man, &bytes[place])?;
     }
     files::replace(path, &bytes)?;

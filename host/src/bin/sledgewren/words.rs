@@ -44,6 +44,13 @@ pub fn plain(words: &[String]) -> Result<Vec<String>, Failure> {
     }
 }
 
+/// Whether `--NAME` is among the words, and the others.
+pub fn flag(words: &[String], name: &str) -> (bool, Vec<String>) {
+    let option = format!("--{name}");
+    let rest: Vec<String> = words.iter().filter(|&word| *word != option).cloned().collect();
+    (rest.len() < words.len(), rest)
+}
+
 /// `--NAME VALUE` taken out of the words, and the others, which have no options.
 pub fn option(words: &[String], name: &str) -> Result<(Option<String>, Vec<String>), Failure> {
     let (found, rest) = first_option(words, name)?;

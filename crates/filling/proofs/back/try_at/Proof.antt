@@ -51,7 +51,8 @@ returns-2 : tie.Need-returns-2
 returns-2 c =
     let s = c .before .before .before .before .before .before .before .before .before .before .before .before .before in
     let h = in-size (s .args .m) (s .args .first .now) (s .args .second .now) _ (s .pre .3) _ (s .pre .2) in
-    at-legal (s .args .m) (s .args .first .now) (s .args .second .now) (s .args .k) (s .args .j) _ _ _ _
+    at-legal (s .args .m) (s .args .first .now) (s .args .second .now) (s .args .k) (s .args .j) _ (s .pre .3) _ _ _ (s .pre .2)
+    (c .before .before .before .before .before .before .before .before .if1 .left)
     (told-legal _ _ _ _ (c .before .before .before .before .before .standing .given .1)
     (c .before .before .before .before .before .before .before .legal-at .ensures (s .pre .3 .ending) (s .pre .3 .colour) h)) (c .before .before .try-into .ensures)
 

@@ -4,7 +4,7 @@ use native.Mathlib.Omega.{arith}
 use borrow.Author.Needs.{needs}
 use Rattle.retracting.specs.Retracting.{Seat}
 use Rattle.filling.specs.laws.Code.{admitted-kept}
-use Rattle.filling.specs.laws.Back.{king-seat, into-all, tries-most, tries-long}
+use Rattle.filling.specs.laws.Back.{king-seat, into-all}
 use Rattle.filling.proofs.back.try_into.Statement.{statement}
 use Rattle.filling.proofs.back.try_into.Tie as tie
 
@@ -20,7 +20,7 @@ try-from-requires c κs =
       s .pre .0,
       s .pre .1,
       s .pre .2,
-      king-seat (s .args .m) (s .args .q) (s .pre .2 .complete) _ _ (c .before .before .other .ensures)
+      king-seat (s .args .m) (s .args .q) (s .args .taken) (s .pre .2) _ _ (c .before .before .other .ensures)
           (c .before .king-at .ensures),
     )
 
@@ -28,57 +28,37 @@ try-from-requires-2 : tie.Need-try-from-requires-2
 try-from-requires-2 c κs =
     let s = c .before .before .before .before .before .before .before .before .before .before in (
       s .pre .0,
-      admitted-kept _ _ _ _ (s .pre .1) _
-          (tries-long (s .args .m) (s .args .first .now) (s .args .second .now) (s .args .k) (s .args .q) _ (s .pre .1) _ _ _
-          (c .before .before .before .try-from .ensures)),
+      admitted-kept _ _ _ _ (s .pre .1) _ (c .before .before .before .try-from .ensures .0 .long),
       s .pre .2,
       Seat.first,
     )
 
 try-from-requires-3 : tie.Need-try-from-requires-3
 try-from-requires-3 c κs =
-    let s = c .before .before .before .before .before .before .before .before .before .before .before .before .before .before in
-    let x = s .args in
-    let a = s .pre .1 in
-    let f = c .before .before .before .before .before .before .before .try-from .ensures in
-    let d = admitted-kept (x .m) (x .first .now) (x .second .now) _ a _
-    (tries-long (x .m) (x .first .now) (x .second .now) (x .k) (x .q) _ a _ _ _ f) in
-    let g = c .before .before .before .try-from2 .ensures in
-    let h = admitted-kept (x .m) (x .first .now) (x .second .now) _ d _
-    (tries-long (x .m) (x .first .now) (x .second .now) (x .k) (x .q) _ d _ _ _ g) in
-    (s .pre .0, h, s .pre .2, Seat.second)
+    let s = c .before .before .before .before .before .before .before .before .before .before .before .before .before .before in (
+      s .pre .0,
+      admitted-kept _ _ _ _ (s .pre .1) _
+          (c .before .before .before .try-from2 .ensures .0 .long
+          ∙ c .before .before .before .before .before .before .before .try-from .ensures .0 .long),
+      s .pre .2,
+      Seat.second,
+    )
 
 add-result : tie.Need-add-result
 add-result c =
-    let s = c .before .before .before .before .before .before .before .before .before .before .before .before .before .before .before .before .before in
-    let x = s .args in
-    let a = s .pre .1 in
-    let f = c .before .before .before .before .before .before .before .before .before .before .try-from .ensures in
-    let d = admitted-kept (x .m) (x .first .now) (x .second .now) _ a _
-    (tries-long (x .m) (x .first .now) (x .second .now) (x .k) (x .q) _ a _ _ _ f) in
-    let g = c .before .before .before .before .before .before .try-from2 .ensures in
     omega (
       arith,
-      tries-most (x .m) (x .first .now) (x .second .now) (x .k) (x .q) _ a _ _ _ f,
-      tries-most (x .m) (x .first .now) (x .second .now) (x .k) (x .q) _ d _ _ _ g,
+      c .before .before .before .before .before .before .before .before .before .before .try-from .ensures .0 .few,
+      c .before .before .before .before .before .before .try-from2 .ensures .0 .few,
     )
 
 add-result-2 : tie.Need-add-result-2
 add-result-2 c =
-    let s = c .before .before .before .before .before .before .before .before .before .before .before .before .before .before .before .before .before in
-    let x = s .args in
-    let a = s .pre .1 in
-    let f = c .before .before .before .before .before .before .before .before .before .before .try-from .ensures in
-    let d = admitted-kept (x .m) (x .first .now) (x .second .now) _ a _
-    (tries-long (x .m) (x .first .now) (x .second .now) (x .k) (x .q) _ a _ _ _ f) in
-    let g = c .before .before .before .before .before .before .try-from2 .ensures in
-    let h = admitted-kept (x .m) (x .first .now) (x .second .now) _ d _
-    (tries-long (x .m) (x .first .now) (x .second .now) (x .k) (x .q) _ d _ _ _ g) in
     omega (
       arith,
-      tries-most (x .m) (x .first .now) (x .second .now) (x .k) (x .q) _ a _ _ _ f,
-      tries-most (x .m) (x .first .now) (x .second .now) (x .k) (x .q) _ d _ _ _ g,
-      tries-most (x .m) (x .first .now) (x .second .now) (x .k) (x .q) _ h _ _ _ (c .before .before .try-from3 .ensures),
+      c .before .before .before .before .before .before .before .before .before .before .try-from .ensures .0 .few,
+      c .before .before .before .before .before .before .try-from2 .ensures .0 .few,
+      c .before .before .try-from3 .ensures .0 .few,
     )
 
 same-length : tie.Need-same-length
@@ -88,7 +68,7 @@ returns : tie.Need-returns
 returns c =
     let s = c .before .before .before .before .before .before .before .before .before .before .before .before .before .before .before .before .before in
     let x = s .args in
-    into-all (x .m) (x .q) (s .pre .2 .complete) (x .first .now) (x .second .now) (x .k) _ (s .pre .1) _ _ _ _ _ _ _ _
+    into-all (x .m) (x .q) (x .taken) (s .pre .2) (x .first .now) (x .second .now) (x .k) _ (s .pre .1) _ _ _ _ _ _ _ _
     (c .before .before .before .before .before .before .before .before .before .before .before .before .before .other .ensures) (c .before .before .before .before .before .before .before .before .before .before .before .before .king-at .ensures) (c .before .before .before .before .before .before .before .before .before .before .try-from .ensures) (c .before .before .before .before .before .before .try-from2 .ensures)
     (c .before .before .try-from3 .ensures)
 

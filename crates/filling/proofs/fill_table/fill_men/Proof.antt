@@ -11,19 +11,22 @@ use Rattle.rules.specs.Chess.{chess}
 use Rattle.filling.specs.Admitted.{over}
 use Rattle.filling.specs.Stepping.{deeperThan, lastOf}
 use Rattle.filling.specs.laws.Code.{long, admitted-kept}
-use Rattle.filling.specs.laws.StepCode.{step-went, step-ended}
+use Rattle.filling.specs.Trying.{Ready}
+use Rattle.filling.specs.laws.Won.{ready-start}
+use Rattle.filling.specs.laws.StepCode.{step-went, step-ended, ready-after}
 use Rattle.filling.specs.laws.FillLaws.{start-long, filled-so}
 use Rattle.filling.proofs.fill_table.fill_men.Statement.{statement}
 use Rattle.filling.proofs.fill_table.fill_men.Tie as tie
 
 abbrev Inv-loop : tie.InvT-loop
-Inv-loop back m first second table₀ deepest k₀ last₀ table k last = (k ≤ 254) × (length table ≡ length table₀)
+Inv-loop way m first second table₀ deepest k₀ last₀ table k last = (k ≤ 254) × (length table ≡ length table₀)
     × (lastOf k last deepest ≡ last)
     × (passesUntil chess (over m first second) (deeperThan deepest) (254 - k) k (ended last) table
     ≡ passesUntil chess (over m first second) (deeperThan deepest) 254 0 undecided table₀)
+    × Ready chess (over m first second) k table
 
 abbrev μ-loop : tie.MeasureT-loop
-μ-loop back m first second table₀ deepest k₀ last₀ table k last = 254 - k
+μ-loop way m first second table₀ deepest k₀ last₀ table k last = 254 - k
 
 deepest-lent-requires : tie.Need-deepest-lent-requires Inv-loop μ-loop
 deepest-lent-requires c κs = tt
@@ -32,7 +35,9 @@ start-requires : tie.Need-start-requires Inv-loop μ-loop
 start-requires c κs = let s = c .before .before .before .before .before in (s .pre .ending, s .pre .colour, long (s .args .m) _ _ _ (s .pre))
 
 loop-holds : tie.Need-loop-holds Inv-loop μ-loop
-loop-holds c = (omega arith, refl, refl, refl)
+loop-holds c =
+    let s = c .before .before .before .before .before .before .before .before in
+    (omega arith, refl, refl, refl, ready-start chess (over (s .args .m) (s .args .first .now) (s .args .second .now)) _)
 
 step-at-requires : tie.Need-step-at-requires Inv-loop μ-loop
 step-at-requires c κs =
@@ -42,6 +47,7 @@ step-at-requires c κs =
       c .before .before .before .before .before .before .deepest-lent .ensures .small,
       admitted-kept (s .args .m) _ _ _ (s .pre) _
           (i .1 ∙ start-long (s .args .m) (s .args .first .now) (s .args .second .now) _ _ (c .before .before .before .before .start .ensures)),
+      λ e. i .4,
     )
 
 enum-known-said : tie.Need-enum-known-said Inv-loop μ-loop
@@ -89,6 +95,7 @@ loop-again c =
       w .last-so,
       w .same
           ∙ i .3,
+      ready-after (over (s .args .m) (s .args .first .now) (s .args .second .now)) _ _ _ (w .bytes) (i .4),
     )
 
 pub fill-men-spec : {M : Type 1} → statement M

@@ -1,86 +1,24 @@
--- `filling::pass` meets its contract. The loop's invariant: the pass is done below n, in place, and how many numbers it
--- settled there is kept.
-use mathlib.Core.Path.{_≡_, _∙_}
-use Prim.Native.Nat.{ℕ, _≤_, _-_}
-use native.Mathlib.Omega.{arith}
-use lib.ListN.{length}
-use Rattle.finite.specs.Mapped.{Upto, upto-none}
-use Rattle.table_theory.specs.Tables.{passByte}
-use Rattle.rules.specs.Chess.{chess}
-use Rattle.filling.specs.Admitted.{over}
-use Rattle.filling.specs.laws.Laws.{settledBelow, settled-none, settled-low, settle-one, pass-turn, pass-done}
-use Rattle.filling.specs.laws.Code.{most, sized, admitted-kept}
-use Rattle.filling.specs.laws.Quiet.{quiet-here}
+-- `filling::pass` meets its contract.
+use borrow.Author.Needs.{needs}
 use Rattle.filling.proofs.pass.pass.Statement.{statement}
 use Rattle.filling.proofs.pass.pass.Tie as tie
 
-abbrev Inv-loop : tie.InvT-loop
-Inv-loop m k first second table₀ white black size settled₀ n₀ table settled n = (n ≤ length table₀)
-    × Upto (passByte chess (over m first second) k table₀) table₀ table n
-    × (settled ≡ settledBelow chess (over m first second) k table₀ n)
+white-may-requires : tie.Need-white-may-requires
+white-may-requires c κs = search needs
 
-abbrev μ-loop : tie.MeasureT-loop
-μ-loop m k first second table₀ white black size settled₀ n₀ table settled n = length table₀ - n
+black-may-requires : tie.Need-black-may-requires
+black-may-requires c κs = search needs
 
-white-may-requires : tie.Need-white-may-requires Inv-loop μ-loop
-white-may-requires c κs = c .before .before .before .before .pre
+pass-halves-requires : tie.Need-pass-halves-requires
+pass-halves-requires c κs =
+    let p = c .before .before .before .before .before .before .before .before .pre in
+    (p .0, p .1, record { in-white = c .before .before .before .white-may .ensures; in-black = c .before .black-may .ensures })
 
-black-may-requires : tie.Need-black-may-requires Inv-loop μ-loop
-black-may-requires c κs = c .before .before .before .before .before .before .pre
+same-length : tie.Need-same-length
+same-length c = search needs
 
-loop-holds : tie.Need-loop-holds Inv-loop μ-loop
-loop-holds c = (omega arith, upto-none _ _, settled-none _ _ _ _)
-
-of-half-requires : tie.Need-of-half-requires Inv-loop μ-loop
-of-half-requires c κs = tt
-
-settle-requires : tie.Need-settle-requires Inv-loop μ-loop
-settle-requires c κs =
-    let i = c .before .before .before .loop .inv in
-    let h = c .before .before .loop-test .taken in
-    let p = c .before .before .before .before .before .before .before .before .before .before .before .pre in (
-      omega (arith, h, i .1 .same-length),
-      p .0,
-      admitted-kept _ _ _ _ (p .1) _ (i .1 .same-length),
-      quiet-here _ _ _ _ (p .1) _ _ h _ _ _ _ (c .before .before .before .before .before .before .white-may .ensures) (c .before .before .before .before .black-may .ensures)
-          (c .before .of-half .ensures) (i .1),
-    )
-
-add-settled : tie.Need-add-settled Inv-loop μ-loop
-add-settled c =
-    let i = c .before .before .before .before .before .before .loop .inv in
-    let h = c .before .before .before .before .before .loop-test .taken in
-    let count = settled-low _ _ _ _ _ _ (i .2) in
-    let one = settle-one _ _ _ _ _ _ _ (c .before .before .settle .ensures) in
-    let all = most _ _ _ _ (c .before .before .before .before .before .before .before .before .before .before .before .before .before .before .pre .1) in
-    omega (arith, h)
-
-add-n : tie.Need-add-n Inv-loop μ-loop
-add-n c = let all = most _ _ _ _ (c .before .before .before .before .before .before .before .before .before .before .before .before .before .before .pre .1) in omega (arith, c .before .before .before .before .before .loop-test .taken)
-
-loop-less : tie.Need-loop-less Inv-loop μ-loop
-loop-less c = omega (arith, c .before .before .before .before .before .loop-test .taken)
-
-loop-again : tie.Need-loop-again Inv-loop μ-loop
-loop-again c =
-    let i = c .before .before .before .before .before .before .loop .inv in
-    let h = c .before .before .before .before .before .loop-test .taken in
-    let t = pass-turn _ _ _ _ _ _ _ _ _ (i .1) h (c .before .before .settle .ensures) (i .2) in
-    (omega (arith, h), t .0, t .1)
-
-same-length : tie.Need-same-length Inv-loop μ-loop
-same-length c = c .before .loop .inv .1 .same-length
-
-returns : tie.Need-returns Inv-loop μ-loop
-returns c =
-    let i = c .before .loop .inv in
-    let s = sized _ _ _ _ (c .before .before .before .before .before .before .before .before .before .pre .1) in
-    pass-done _ _ _ _ _ _ _ (at-end _ _ (i .0) (c .loop-test .left) ∙ s) s (i .1) (i .2)
-  where
-    at-end : (n s : ℕ) → n ≤ s → s ≤ n → n ≡ s
-    at-end n s a b = omega arith
+returns : tie.Need-returns
+returns c = search needs
 
 pub pass-spec : {M : Type 1} → statement M
-pass-spec = tie.close
-    (tie.spec Inv-loop μ-loop white-may-requires black-may-requires loop-holds of-half-requires settle-requires
-    add-settled add-n loop-less loop-again same-length returns)
+pass-spec = tie.close (tie.spec white-may-requires black-may-requires pass-halves-requires same-length returns)

@@ -8,8 +8,8 @@ use Rattle.filling.proofs.steps.step_below.Tie as tie
 last-before-requires : tie.Need-last-before-requires
 last-before-requires c κs = search needs
 
-pass-by-requires : tie.Need-pass-by-requires
-pass-by-requires c κs = search needs
+pass-in-requires : tie.Need-pass-in-requires
+pass-in-requires c κs = search needs
 
 add-progress-at : tie.Need-add-progress-at
 add-progress-at c = search needs
@@ -24,7 +24,7 @@ same-length : tie.Need-same-length
 same-length c = search needs
 
 returns : tie.Need-returns
-returns c = let p = c .before .before .before .before .pass-by .ensures in
+returns c = let p = c .before .before .before .before .pass-in .ensures in
     code-more _ _ _ _ _ _ _ _ (c .before .before .before .before .before .before .before .before .before .before .pre .0) (p .0) (c .before .if1 .taken) (p .1) (c .progress-at .ensures)
 
 add-if2 : tie.Need-add-if2
@@ -40,7 +40,7 @@ same-length-2 : tie.Need-same-length-2
 same-length-2 c = search needs
 
 returns-2 : tie.Need-returns-2
-returns-2 c = let p = c .before .before .before .before .before .before .pass-by .ensures in
+returns-2 c = let p = c .before .before .before .before .before .before .pass-in .ensures in
     code-done _ _ _ _ _ _ _ _ _ _ (sized _ _ _ _ (c .before .before .before .before .before .before .before .before .before .before .before .before .pre .1)) (p .0) (c .before .before .before .if1 .left) (p .1)
     (c .before .before .if2 .taken) (c .before .before .before .before .before .before .before .before .last-before .ensures) (c .before .ended .ensures) (c .progress-at2 .ensures)
 
@@ -54,7 +54,7 @@ same-length-3 : tie.Need-same-length-3
 same-length-3 c = search needs
 
 returns-3 : tie.Need-returns-3
-returns-3 c = let p = c .before .before .before .before .before .pass-by .ensures in
+returns-3 c = let p = c .before .before .before .before .before .pass-in .ensures in
     code-skip _ _ _ _ _ _ _ _ _ (p .0) (c .before .before .if1 .left) (p .1) (c .before .if2 .left)
     (c .before .before .before .before .before .before .before .last-before .ensures) (c .progress-at3 .ensures)
 
@@ -63,7 +63,7 @@ step-below-spec =
     tie.close
     (tie.spec
     last-before-requires
-    pass-by-requires
+    pass-in-requires
     add-progress-at
     add-progress-at-2
     progress-at-requires

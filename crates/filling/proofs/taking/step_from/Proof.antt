@@ -13,7 +13,7 @@ deepest-lent-requires c κs = search needs
 
 step-at-requires : tie.Need-step-at-requires
 step-at-requires c κs =
-    (omega (arith, c .before .before .next-depth .ensures), c .before .deepest-lent .ensures .small, c .before .before .before .before .before .before .before .pre)
+    (omega (arith, c .before .before .next-depth .ensures), c .before .deepest-lent .ensures .small, c .before .before .before .before .before .before .before .pre, λ e. absurd (omega (arith, e)))
 
 same-length : tie.Need-same-length
 same-length c = search needs

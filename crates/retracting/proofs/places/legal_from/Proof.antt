@@ -19,19 +19,19 @@ use Rattle.retracting.specs.laws.Code.{told-legal}
 use Rattle.retracting.proofs.places.legal_from.Statement.{statement}
 use Rattle.retracting.proofs.places.legal_from.Tie as tie
 
-abbrev passes : Men → Place → ℕ → ℕ → Bool
-passes m q to s = legal (boardIn m (placeBefore q s to))
+abbrev passes : Men → Place → ℕ → ℕ → ℕ → Bool
+passes m q taken to s = legal (boardIn m (placeBefore q taken s to))
 
-abbrev Apart : Men → Place → ℕ → ℕ → Type 0
-Apart m q to squares = (s : ℕ) → s < 64 → T (has squares s) → CompleteApart m (placeBefore q s to)
+abbrev Apart : Men → Place → ℕ → ℕ → ℕ → Type 0
+Apart m q taken to squares = (s : ℕ) → s < 64 → T (has squares s) → CompleteApart m (placeBefore q taken s to)
 
 abbrev Inv-loop : tie.InvT-loop
-Inv-loop m q to squares kept₀ rest₀ kept rest = (rest < 2 ^ 64)
+Inv-loop m q taken to squares kept₀ rest₀ kept rest = (rest < 2 ^ 64)
     × ((s : ℕ) → s < 64 → T (has rest s) → T (has squares s))
-    × (Apart m q to squares → (s : ℕ) → s < 64 → (has kept s || (has rest s && passes m q to s)) ≡ (has squares s && passes m q to s))
+    × (Apart m q taken to squares → (s : ℕ) → s < 64 → (has kept s || (has rest s && passes m q taken to s)) ≡ (has squares s && passes m q taken to s))
 
 abbrev μ-loop : tie.MeasureT-loop
-μ-loop m q to squares kept₀ rest₀ kept rest = length (members rest)
+μ-loop m q taken to squares kept₀ rest₀ kept rest = length (members rest)
 
 loop-holds : tie.Need-loop-holds Inv-loop μ-loop
 loop-holds c = (c .fits .squares .fits, (λ s h t. t), λ a s h. rw (has-none s))
@@ -39,8 +39,8 @@ loop-holds c = (c .fits .squares .fits, (λ s h t. t), λ a s h. rw (has-none s)
 lowest-requires : tie.Need-lowest-requires Inv-loop μ-loop
 lowest-requires c κs = tt
 
-place-after-requires : tie.Need-place-after-requires Inv-loop μ-loop
-place-after-requires c κs = tt
+place-before-requires : tie.Need-place-before-requires Inv-loop μ-loop
+place-before-requires c κs = tt
 
 is-legal-requires : tie.Need-is-legal-requires Inv-loop μ-loop
 is-legal-requires c κs = tt
@@ -67,11 +67,11 @@ loop-again c =
     let l = c .before .before .before .before .before .before .loop in
     let x = c .before .before .before .before .before .before .before .args in
     let t = c .before .before .before .before .lowest .result in
-    let ok = passes (x .m) (x .q) (x .to) in (
+    let ok = passes (x .m) (x .q) (x .taken) (x .to) in (
       c .without .ok,
       (λ i h u. l .inv .1 i h (subst⁻¹ T (low c .others i h) (or-right (eqb i t) (has (c .without .result) i) u))),
       λ a i h.
-          let same = told-legal (x .m) _ _ _ (c .before .before .before .place-after .ensures)
+          let same = told-legal (x .m) _ _ _ (c .before .before .before .place-before .ensures)
           (c .before .before .is-legal .ensures) (a t (low c .square) (l .inv .1 t (low c .square) (low c .here))) in
           let e = low c .others i h in
           ⊎-elim
@@ -92,5 +92,5 @@ returns c =
 pub legal-from-spec : {M : Type 1} → statement M
 legal-from-spec =
     tie.close
-    (tie.spec Inv-loop μ-loop loop-holds lowest-requires place-after-requires is-legal-requires with-requires
+    (tie.spec Inv-loop μ-loop loop-holds lowest-requires place-before-requires is-legal-requires with-requires
     without-requires loop-less loop-again returns)

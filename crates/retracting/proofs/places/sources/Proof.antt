@@ -1,10 +1,24 @@
 -- `retracting::sources` meets its contract.
-use Rattle.retracting.specs.laws.Code.{no-source, exact}
+use mathlib.Core.Path.{_≡_, sym, _∙_}
+use Rattle.retracting.specs.Retracting.{loser}
+use Rattle.retracting.specs.laws.Code.{no-source, no-capture, own-taken, foe-taken, mover, steps-of, exact}
 use Rattle.retracting.proofs.places.sources.Statement.{statement}
 use Rattle.retracting.proofs.places.sources.Tie as tie
 
 returns : tie.Need-returns
-returns c = λ g s. no-source (c .before .before .args .m) (c .before .before .args .q) (c .before .before .args .kind) (c .before .before .args .owner) (c .before .before .args .to) g s (c .if1 .taken)
+returns c = λ g s.
+    let x = c .before .before .args in
+    no-source (x .m) (x .q) (x .taken) (x .kind) (x .owner) (x .to) g s (c .if1 .taken)
+
+loser-requires : tie.Need-loser-requires
+loser-requires c κs = tt
+
+returns-2 : tie.Need-returns-2
+returns-2 c = λ g s.
+    let x = c .before .before .before .before .before .args in
+    let l = c .before .before .loser in
+    let w = own-taken (x .taken) (x .q .side) (l .result) (c .if2 .taken) in
+    no-capture (x .m) (x .q) (x .taken) (x .kind) (x .owner) (x .to) g s (w .0) (λ e. w .1 (l .ensures ∙ e))
 
 occupied-at-requires : tie.Need-occupied-at-requires
 occupied-at-requires c κs = tt
@@ -15,16 +29,21 @@ targets-requires c κs = tt
 minus-requires : tie.Need-minus-requires
 minus-requires c κs = tt
 
-legal-from-requires : tie.Need-legal-from-requires
-legal-from-requires c κs = tt
+unchecking-requires : tie.Need-unchecking-requires
+unchecking-requires c κs = tt
 
-returns-2 : tie.Need-returns-2
-returns-2 c = λ g s.
-    let x = c .before .before .before .before .before .before .args in
-    exact (x .m) (x .q) (x .kind) (x .owner) (x .to) g s (c .before .before .before .before .if1 .left)
-    (c .before .before .before .occupied-at .result) (c .before .before .targets .result) (c .before .minus .result)
-    (c .before .before .before .occupied-at .ensures (x .m)) (c .before .before .targets .ensures)
-    (c .before .minus .ensures) _ (c .legal-from .ensures)
+returns-3 : tie.Need-returns-3
+returns-3 c = λ g s.
+    let x = c .before .before .before .before .before .before .before .before .before .args in
+    let l = c .before .before .before .before .before .before .loser in
+    let em = mover (x .m) (x .q) (x .taken) (x .kind) (x .owner) (x .to) g s (c .before .before .before .before .before .before .before .if1 .left) in
+    let lost : (x .taken ≡ 0 → ⊥) → loser (x .m) (x .taken) ≡ x .q .side = λ n. sym (l .ensures) ∙ foe-taken (x .taken) (x .q .side) (l .result) (c .before .before .before .before .if2 .left) n in
+    let st = steps-of (x .m) (x .q) (x .taken) (x .kind) (x .owner) (x .to) g s _ _ _
+    (c .before .before .before .occupied-at .ensures (x .m)) (c .before .before .targets .ensures) (c .before .minus .ensures) in
+    exact (x .m) (x .q) (x .taken) (x .kind) (x .owner) (x .to) g s _ _ st em lost _ (c .unchecking .ensures g s em lost st)
 
 pub sources-spec : {M : Type 1} → statement M
-sources-spec = tie.close (tie.spec returns occupied-at-requires targets-requires minus-requires legal-from-requires returns-2)
+sources-spec =
+    tie.close
+    (tie.spec returns loser-requires returns-2 occupied-at-requires targets-requires minus-requires unchecking-requires
+    returns-3)

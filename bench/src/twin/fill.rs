@@ -1,0 +1,178 @@
+//! The fill: mates first, then back from the positions just settled; losses are confirmed forward.
+
+use super::board::squares;
+use super::moves::{checked, mated, required, requires, Tables};
+use super::numbers::{is_used, number, place, LARGE, SMALL};
+use super::retract::{before, sources, Taken};
+use super::{Men, Place, KING, OFF};
+
+/// The first depth that no byte holds.
+const DEPTHS: u8 = 254;
+
+struct Filling<'a> {
+    men: Men,
+    small: [&'a [u8]; 2],
+    table: &'a mut [u8],
+}
+
+fn legal_at(men: Men, n: usize) -> Option<Place> {
+    let q = place(men, n);
+    (is_used(men, q, n) && !checked(men, q, 1 - q.side)).then_some(q)
+}
+
+/// Is this the true table of one man?
+fn accepted(kind: u8, table: &[u8]) -> bool {
+    let men = Men { first: kind, second: 4, colour: 0 };
+    let tables = Tables { own: table, small: [&[], &[]] };
+    table
+        .iter()
+        .enumerate()
+        .all(|(n, &byte)| byte == legal_at(men, n).map_or(0, |q| required(men, q, tables)))
+}
+
+impl Filling<'_> {
+    fn tables(&self) -> Tables<'_> {
+        Tables { own: self.table, small: self.small }
+    }
+
+    fn start(&mut self) {
+        for n in 0..self.table.len() {
+            self.table[n] = legal_at(self.men, n).is_some() as u8;
+        }
+    }
+
+    /// The mates, which have no depth before theirs.
+    fn mates(&mut self) -> u32 {
+        let mut settled = 0;
+        for n in 0..self.table.len() {
+            if self.table[n] == 1 && mated(self.men, place(self.men, n)) {
+                self.table[n] = 2;
+                settled += 1;
+            }
+        }
+        settled
+    }
+
+    /// A place with a move to one of depth k - 1: it is won in k, or lost if the others say so.
+    fn try_place(&mut self, q: Place, k: u8) -> u32 {
+        let n = number(self.men, q);
+        if self.table[n] != 1 || k % 2 == 0 && !requires(self.men, q, k, self.tables()) {
+            return 0;
+        }
+        self.table[n] = 2 + k;
+        1
+    }
+
+    fn try_piece(&mut self, q: Place, k: u8, kind: u8, to: u8, taken: Taken) -> u32 {
+        let from = sources(self.men, q, kind, to, taken);
+        squares(from).map(|from| self.try_place(before(q, from, to, taken), k)).sum()
+    }
+
+    /// The places with a move to this one that takes nothing, or the man named.
+    fn try_into(&mut self, q: Place, k: u8, taken: Taken) -> u32 {
+        let (men, mover) = (self.men, 1 - q.side);
+        let mut settled = self.try_piece(q, k, KING, q.king(mover), taken);
+        if mover == 0 && q.first != OFF {
+            settled += self.try_piece(q, k, men.first, q.first, taken);
+        }
+        if mover == men.colour && q.second != OFF {
+            settled += self.try_piece(q, k, men.second, q.second, taken);
+        }
+        settled
+    }
+
+    /// Captures taken back from a lent table, of which one man is left.
+    fn try_lent(&mut self, k: u8, table: &[u8], taken: Taken) -> u32 {
+        let (men, alone) = (self.men, Men { first: 0, second: 4, colour: 0 });
+        let mut settled = 0;
+        for (n, _) in table.iter().enumerate().filter(|&(_, &byte)| byte == 1 + k) {
+            let lone = place(alone, n);
+            // The man left: the first, who is White's, or the second, who may be Black's.
+            let (q, lost) = match taken {
+                Taken::Second => (lone, men.colour),
+                _ if men.colour == 0 => (Place { first: OFF, second: lone.first, ..lone }, 0),
+                _ => {
+                    let (side, white, black) = (1 - lone.side, lone.black, lone.white);
+                    (Place { side, white, black, first: OFF, second: lone.first }, 0)
+                }
+            };
+            // The man taken was of the side that is to move now.
+            if q.side == lost {
+                settled += self.try_into(q, k, taken);
+            }
+        }
+        settled
+    }
+
+    fn pass(&mut self, k: u8) -> u32 {
+        let mut settled = 0;
+        if !self.men.single() {
+            let [first, second] = self.small;
+            settled += self.try_lent(k, first, Taken::Second);
+            if !self.men.alike() {
+                settled += self.try_lent(k, second, Taken::First);
+            }
+        }
+        for n in 0..self.table.len() {
+            if self.table[n] == 1 + k {
+                settled += self.try_into(place(self.men, n), k, Taken::Nothing);
+            }
+        }
+        settled
+    }
+
+    fn too_deep(&self) -> bool {
+        (0..self.table.len()).any(|n| {
+            self.table[n] == 1 && requires(self.men, place(self.men, n), DEPTHS, self.tables())
+        })
+    }
+
+    /// The greatest depth, or refusal 10.
+    fn run(&mut self) -> Result<Option<u8>, u8> {
+        let lent = if self.men.single() { &[][..] } else { &self.small[..] };
+        let deepest = lent.iter().flat_map(|table| table.iter()).copied().max().unwrap_or(0);
+        self.start();
+        let mut greatest = None;
+        for k in 0..DEPTHS {
+            let settled = if k == 0 { self.mates() } else { self.pass(k) };
+            if settled > 0 {
+                greatest = Some(k);
+            } else if deepest < 2 + k {
+                return Ok(greatest);
+            }
+        }
+        if self.too_deep() {
+            self.table.fill(0);
+            return Err(10);
+        }
+        Ok(greatest)
+    }
+}
+
+/// `sledgewren_fill_back`: the word of an ending, the lent tables, the table; the answer's word.
+pub fn fill(ending: u32, small: [&[u8]; 2], table: &mut [u8]) -> u32 {
+    let [first, second, rivals, none] = ending.to_le_bytes();
+    let men = match second {
+        0 => Men { first, second: 4, colour: 0 },
+        _ => Men { first, second: second - 1, colour: rivals },
+    };
+    let known = first < 4 && (second == 0 || (first < second && second <= 4));
+    if !known || none != 0 || rivals > 1 || (second == 0 && rivals == 1) {
+        return 1;
+    }
+    let fits = match second {
+        0 => table.len() == SMALL,
+        _ => table.len() == LARGE && small.iter().all(|table| table.len() == SMALL),
+    };
+    if !fits {
+        return 7;
+    }
+    if !men.single() && !(accepted(men.first, small[0]) && accepted(men.second, small[1])) {
+        return 17;
+    }
+    match (Filling { men, small, table }).run() {
+        Ok(Some(depth)) => 1 << 8 | (depth as u32) << 16,
+        Ok(None) => 0,
+        Err(refusal) => refusal as u32,
+    }
+}

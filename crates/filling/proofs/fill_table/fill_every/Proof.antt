@@ -1,0 +1,16 @@
+-- `filling::fill_every` meets its contract.
+use borrow.Author.Needs.{needs}
+use Rattle.filling.proofs.fill_table.fill_every.Statement.{statement}
+use Rattle.filling.proofs.fill_table.fill_every.Tie as tie
+
+fill-by-requires : tie.Need-fill-by-requires
+fill-by-requires c κs = search needs
+
+same-length : tie.Need-same-length
+same-length c = search needs
+
+returns : tie.Need-returns
+returns c = c .before .before .fill-by .ensures
+
+pub fill-every-spec : {M : Type 1} → statement M
+fill-every-spec = tie.close (tie.spec fill-by-requires same-length returns)

@@ -1,0 +1,89 @@
+-- Whether the place before a move is legal, by lines to the king of the side that did not move: of the other men of the mover, and of the piece that moved.
+use mathlib.Core.Path.{_≡_, refl, sym, ap, ap₂, subst, subst⁻¹, _∙_}
+use mathlib.Core.Bool.{Bool, true, false, cond, not, _&&_, _||_, or-false}
+use mathlib.Core.Logic.{_⊎_, inl, inr, ⊎-elim}
+use Prim.Native.Nat.{ℕ, zero, suc, _-_, _<_}
+use native.Mathlib.Omega.{arith}
+use lib.Dec.{T, ltb, eqb, eqb→eq, ltb→lt}
+use borrow.Author.Tests.{lt-ltb, eq-eqb, ne-eqb, eqb-true, eqb-false}
+use Rattle.finite.specs.Truth.{decided, and-left, and-right, and-both, or-left, or-right, false-of, fails, refuted, same-test}
+use Rattle.board.specs.Reach.{reaches}
+use Rattle.board.specs.laws.ReachLaws.{reaches-same, king-reaches}
+use Rattle.board.specs.laws.Blocking.{reaches-fewer}
+use Rattle.symmetry.specs.laws.Opposite.{reaches-sym}
+use Rattle.rules.specs.Rules.{occupied, touching, inCheck, attacked, attacks, legal, king, carried}
+use Rattle.rules.specs.laws.Legal.{legal-facts}
+use Rattle.position.specs.declared.Men.{Men}
+use Rattle.position.specs.declared.Place.{Place}
+use Rattle.position.specs.Keyed.{boardOf}
+use Rattle.position.specs.Over.{attackedOver}
+use Rattle.position.specs.Posed.{posed, boardIn, Complete}
+use Rattle.position.specs.laws.PosedLaws.{complete-spread}
+use Rattle.movegen.specs.Places.{menStrike}
+use Rattle.movegen.specs.laws.Struck.{attacked-king}
+use Rattle.successors.specs.laws.NumberLaws.{complete-legal}
+use Rattle.retracting.specs.Retracting.{CompleteApart}
+use Rattle.retracting.specs.laws.Back.{reaches-again}
+
+-- ---- lines before the move, by what stood there but for the piece that moved
+
+module _ (occ stood : ℕ → Bool) (s t : ℕ) (same : (u : ℕ) → u < 64 → (u ≡ s → ⊥) → occ u ≡ stood u)
+    (gone : stood s ≡ false) where
+  within : ℕ → Bool
+  within u = ltb u 64 && stood u
+
+  within-same : (kind a b : ℕ) → reaches within kind a b ≡ reaches stood kind a b
+  unfolding within
+  within-same kind a b = reaches-same within stood (λ u l. rw (lt-ltb u 64 l)) kind a b
+
+  less : (u : ℕ) → (u ≡ t → ⊥) → T (within u) → T (occ u)
+  unfolding within
+  less u n o =
+      let h = ltb→lt u 64 (and-left (ltb u 64) (stood u) o) in
+      let w = and-right (ltb u 64) (stood u) o in
+      subst⁻¹ T (same u h (λ e. refuted gone (subst (λ (x : ℕ). T (stood x)) e w))) w
+
+  -- another's line that the piece put back may only cut
+  pub line-cut : (kind a : ℕ) → reaches stood kind a t ≡ false → reaches occ kind a t ≡ false
+  line-cut kind a e =
+      fails (reaches occ kind a t)
+      (λ h. refuted (within-same kind a t ∙ e) (reaches-fewer occ within t less kind a h))
+
+  -- its own, there and back
+  pub line-own : (kind : ℕ) → reaches occ kind s t ≡ reaches stood kind t s
+  line-own kind =
+      same-test (reaches occ kind s t) (reaches stood kind t s)
+      (reaches-again occ stood kind s t (λ u h a b. sym (same u h a)))
+      (reaches-again stood occ kind t s (λ u h a b. same u h b))
+
+-- ---- check before the move
+
+-- a man of the mover's who does not strike the king
+pub quiet-man : (colour owner : ℕ) (far hit : Bool) → ((eqb colour owner && far) && hit) ≡ false → far ≡ true → (hit′ : Bool)
+    → (hit ≡ false → hit′ ≡ false) → (eqb colour owner && hit′) ≡ false
+quiet-man colour owner far hit e f hit′ w = go (eqb colour owner) e
+  where
+    go : (b : Bool) → ((b && far) && hit) ≡ false → (b && hit′) ≡ false
+    go false e = refl
+    go true e = w (ap (λ (x : Bool). x && hit) (sym f) ∙ e)
+
+module _ (m : Men) (o : Place) (side : ℕ) (hs : side < 2) (es : o .side ≡ 1 - side) (k : ℕ)
+    (ek : king (boardIn m o) side ≡ k) (apart : CompleteApart m o) where
+  struck-of : touching (boardIn m o) ≡ false
+      → inCheck (boardIn m o) (1 - o .side) ≡ menStrike m o (occupied (boardIn m o)) (1 - side) k
+  unfolding inCheck attacked attackedOver
+  struck-of f =
+      let e : 1 - o .side ≡ side = omega (arith, es, hs) in
+      ap (inCheck (boardIn m o)) e ∙ attacked-king m o (complete-spread (apart f) .pawnless) f (occupied (boardIn m o)) side
+      ∙ ap (menStrike m o (occupied (boardIn m o)) (1 - side)) ek
+
+  -- the kings stay apart: by the men alone
+  pub legal-men : touching (boardIn m o) ≡ false → (hit : Bool)
+      → menStrike m o (occupied (boardIn m o)) (1 - side) k ≡ hit → legal (boardIn m o) ≡ not hit
+  legal-men f hit e = complete-legal m o (apart f) ∙ ap not (struck-of f ∙ e)
+
+  -- no man strikes: by the kings alone
+  pub legal-kings : menStrike m o (occupied (boardIn m o)) (1 - side) k ≡ false → (near : Bool)
+      → touching (boardIn m o) ≡ near → legal (boardIn m o) ≡ not near
+  legal-kings e true h = fails (legal (boardIn m o)) (λ l. refuted (sym h ∙ legal-facts (boardIn m o) l .kings) tt)
+  legal-kings e false h = legal-men h false e
