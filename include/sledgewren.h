@@ -1,12 +1,12 @@
 /*
- * Sledgewren: two kings and one man or two of either side. Positions are numbered, their tables
- * filled and checked, positions looked up; with one man also searched without a table, a desk's
- * lines answered, and tables packed to pockets.
+ * Sledgewren: two kings and one piece, two pieces or one pawn of either side. Positions are
+ * numbered, their tables filled and checked, positions looked up; with one piece also searched
+ * without a table, a desk's lines answered, and tables packed to pockets.
  *
  * Link with libsledgewren.a (x86-64 Linux). C99; C++ may include it.
  *
  * Codes
- *   man      queen 0, rook 1, bishop 2, knight 3
+ *   man      queen 0, rook 1, bishop 2, knight 3; a pawn, who stands alone beside the kings, 4
  *   colour   White's 0, Black's 1
  *   side     to move: White 0, Black 1
  *   square   8 x rank + file: a1 is 0, h1 is 7, h8 is 63
@@ -15,27 +15,36 @@
  *            the man earlier in queen, rook, bishop, knight, and rivals is 0 for two men of one
  *            side and 1 for one each. Any other word is refused 1. sledgewren_ending gives the
  *            ending of a position's men.
- *   number   of a position, 0 to 59,135 with one man and 0 to 3,784,703 with two; positions that
- *            the board's eight maps, an exchange of like men, and an exchange of the colours turn
- *            into each other have one number (the colours stay with like kinds one each)
+ *   number   of a position, 0 to 59,135 with one piece, 0 to 3,784,703 with two, 0 to 196,607 with
+ *            a pawn; positions that the board's eight maps, an exchange of like men, and an
+ *            exchange of the colours turn into each other have one number (the colours stay with
+ *            like kinds one each). With a pawn the one map is left for right, and an exchange of
+ *            the colours turns the ranks round: (side x 24 + slot) x 4,096 + white king x 64 +
+ *            black king, White's pawn on files a to d, his slot (rank - 2) x 4 + file
+ *   becomes  what a pawn becomes by a move: 0 for nothing, else 1 + the piece's code, which
+ *            SLEDGEWREN_BECOMES gives. Each promotion is a move of its own.
  *
  * A position is given by the side to move, the kings' squares and two words, each a man besides
  * the kings or none: bits 0-7 kind (a man's code), 8-15 colour, 16-23 square; the man is absent
  * where bits 24-31 are 0. SLEDGEWREN_A_MAN makes such a word, SLEDGEWREN_ABSENT is none. One man
- * stands in the first word; two stand in either order and are of any colours. Where White's men
- * are not the ending's, the colours, the kings and the side to move are exchanged and the position
- * is looked up so; every square stays, so that a move is one of the board as given. Pockets, sets,
- * second opinions, typed numbers and lines of the desk keep to one man: two are refused 1 there.
+ * stands in the first word; two stand in either order and are of any colours. A pawn stands on
+ * ranks 2 to 7. Where White's men are not the ending's, the colours, the kings and the side to move
+ * are exchanged and the position is looked up so; every square stays (with a pawn the ranks are
+ * turned round, and a move's turned back), so that a move is one of the board as given. Pockets,
+ * sets, second opinions, typed numbers and lines of the desk keep to one piece: two men, and a
+ * pawn, are refused 1 there.
  *
- * A table has one byte a number: 59,136 with one man, 3,784,704 with two. Byte 0: the number is
- * unused or its position illegal; 1: a draw; 2 + n: depth n in plies, a win for the side to move
- * where n is odd and a loss where it is even. Checkmate is a loss in 0.
+ * A table has one byte a number: 59,136 with one piece, 3,784,704 with two, 196,608 with a pawn.
+ * Byte 0: the number is unused or its position illegal; 1: a draw; 2 + n: depth n in plies, a win
+ * for the side to move where n is odd and a loss where it is even. Checkmate is a loss in 0.
  *
  * With two men captures lead into tables of one man, which a call is lent beside the ending's own:
  * `small_first` is the table of the first man's kind and `small_second` that of the second's; of
- * like kinds one table is lent twice. With one man they are not read, and their lengths are not
- * asked: SLEDGEWREN_NO_TABLES stands for the four arguments. A man left alone is looked up in the
- * table of his own ending, with one man.
+ * like kinds one table is lent twice. With a pawn promotions lead there: `small_first` is the four
+ * tables of one piece, the queen's, the rook's, the bishop's and the knight's one after the other,
+ * 236,544 bytes, and `small_second` is not read, nor its length asked. With one piece neither is
+ * read or asked: SLEDGEWREN_NO_TABLES stands for the four arguments. A piece left alone, or made of
+ * a pawn, is looked up in the table of its own ending, with one piece.
  *
  * A pocket is a table packed to two bits a number, 14,784 bytes. Number k has its entry in byte
  * k / 4 at bit 2 x (k mod 4): 0 for byte 0, 1 for a draw, 2 for a win, 3 for a loss.
@@ -74,9 +83,9 @@ extern "C" {
  * refusals may change with the middle number.
  */
 #define SLEDGEWREN_VERSION_MAJOR 0
-#define SLEDGEWREN_VERSION_MINOR 1
+#define SLEDGEWREN_VERSION_MINOR 2
 #define SLEDGEWREN_VERSION_PATCH 0
-#define SLEDGEWREN_VERSION "0.1.0"
+#define SLEDGEWREN_VERSION "0.2.0"
 #define SLEDGEWREN_VERSION_NUMBER \
     (SLEDGEWREN_VERSION_MAJOR * 0x10000u + SLEDGEWREN_VERSION_MINOR * 0x100u + \
      SLEDGEWREN_VERSION_PATCH)
@@ -84,6 +93,8 @@ extern "C" {
 /* Lengths of the buffers that the functions are lent. */
 #define SLEDGEWREN_TABLE_BYTES 59136
 #define SLEDGEWREN_LARGE_TABLE_BYTES 3784704
+#define SLEDGEWREN_PAWN_TABLE_BYTES 196608
+#define SLEDGEWREN_FOUR_TABLES_BYTES 236544
 #define SLEDGEWREN_MOVES_BYTES 248
 #define SLEDGEWREN_SLIP_BYTES 16
 #define SLEDGEWREN_POCKET_BYTES 14784
@@ -94,7 +105,7 @@ extern "C" {
 /* Length of a set of so many tables: 4 with none, 236,596 with all four. */
 #define SLEDGEWREN_SET_BYTES(tables) (4 + (12 + SLEDGEWREN_TABLE_BYTES) * (size_t)(tables))
 
-/* No position has more legal moves; with one man there are at most 35. */
+/* No position has more legal moves; with one piece there are at most 35. */
 #define SLEDGEWREN_MOST_MOVES 62
 
 /* The most plies that a second opinion may be asked for. */
@@ -136,7 +147,10 @@ extern "C" {
 /* sledgewren_ending's answer where the men are no ending's. */
 #define SLEDGEWREN_NO_ENDING 0xFFFFFFFFu
 
-/* The two small tables and their lengths where there is one man. */
+/* What a pawn becomes, as a move's fourth byte and sledgewren_play have it. */
+#define SLEDGEWREN_BECOMES(man) ((uint8_t)((man) + 1))
+
+/* The two small tables and their lengths where there is one piece. */
 #define SLEDGEWREN_NO_TABLES (const uint8_t *)"", 0, (const uint8_t *)"", 0
 
 enum sledgewren_man {
@@ -144,6 +158,7 @@ enum sledgewren_man {
     SLEDGEWREN_ROOK = 1,
     SLEDGEWREN_BISHOP = 2,
     SLEDGEWREN_KNIGHT = 3,
+    SLEDGEWREN_PAWN = 4,
     /* sledgewren_answer_line: the table holds no man's table. Any greater value means the same. */
     SLEDGEWREN_NO_MAN = 4
 };
@@ -177,18 +192,23 @@ enum sledgewren_stage {
     SLEDGEWREN_GAVE_TEN = 2
 };
 
-/* Where several apply the lowest counts, except that a line's shape comes first, then its check. */
+/*
+ * Where several apply the lowest counts, except that a line's shape comes first, then its check,
+ * and that 18 stands between 3 and 4.
+ */
 enum sledgewren_refusal {
     SLEDGEWREN_NOT_REFUSED = 0,
-    SLEDGEWREN_BAD_MAN = 1,          /* a man's code above 3, or no ending's word; no man, or an
-                                        absent one before a present one; two where one is served */
+    SLEDGEWREN_BAD_MAN = 1,          /* a man's code above 4, or no ending's word; no man, or an
+                                        absent one before a present one; a pawn with a second
+                                        man; two men or a pawn where one piece is served */
     SLEDGEWREN_BAD_SIDE = 2,         /* side, or a man's colour, not 0 or 1 */
     SLEDGEWREN_BAD_SQUARE = 3,       /* a square above 63 */
     SLEDGEWREN_SHARED_SQUARE = 4,    /* two men on one square */
     SLEDGEWREN_KINGS_TOUCH = 5,      /* kings touch */
     SLEDGEWREN_OTHER_IN_CHECK = 6,   /* side not to move is in check */
     SLEDGEWREN_TABLE_LENGTH = 7,     /* a table not as long as its ending's, or pocket not 14,784 */
-    SLEDGEWREN_NUMBER_TOO_HIGH = 8,  /* number above 59,135, or 3,784,703 with two men */
+    SLEDGEWREN_NUMBER_TOO_HIGH = 8,  /* number above 59,135, 3,784,703 with two men, 196,607 with a
+                                        pawn */
     SLEDGEWREN_NUMBER_UNUSED = 9,    /* number unused */
     SLEDGEWREN_TOO_DEEP = 10,        /* a legal position's true depth exceeds 253 */
     SLEDGEWREN_INCONSISTENT = 11,    /* the byte is not what the successors' bytes require, or a
@@ -199,11 +219,12 @@ enum sledgewren_refusal {
     SLEDGEWREN_NOT_IN_SET = 15,      /* the ending is not in the set */
     SLEDGEWREN_TOO_MANY_PLIES = 16,  /* more than 6 plies asked for */
     SLEDGEWREN_NOT_ACCEPTED = 17,    /* a small table is not accepted by the checker */
+    SLEDGEWREN_BAD_PAWN = 18,        /* a pawn on rank 1 or 8; after 3 and before 4 */
     SLEDGEWREN_TOO_MANY_QUIET = 19   /* more than 99 plies since the last capture */
 };
 
 /*
- * The number of a position, or SLEDGEWREN_NUMBER_REFUSED + refusal (1 to 5). It need not be
+ * The number of a position, or SLEDGEWREN_NUMBER_REFUSED + refusal (1 to 5, 18). It need not be
  * legal: the side not to move may be in check.
  */
 uint32_t sledgewren_number(uint8_t side, uint8_t white, uint8_t black, uint32_t first,
@@ -235,38 +256,40 @@ uint32_t sledgewren_table_bytes(uint32_t ending);
 uint64_t sledgewren_write_number(uint32_t number);
 
 /*
- * How many legal moves a position has. Refusals 1 to 6.
+ * How many legal moves a position has, each promotion one. Refusals 1 to 6, 18.
  *   bits 0-7 refusal, 8-15 count
  */
 uint32_t sledgewren_count(uint8_t side, uint8_t white, uint8_t black, uint32_t first,
                           uint32_t second);
 
 /*
- * The legal moves, in order of their from-square, then their to-square. The answer is
- * sledgewren_count's. Where len is 248, moves gets 62 places of four bytes: from-square,
- * to-square, 1 if the move takes a man and 0 if not, and 0. The places after the last move hold
- * 0, and all of them on a refusal. With any other len nothing is written and the answer is
- * SLEDGEWREN_MOVES_LENGTH. (The fourth byte is kept for the piece that a pawn becomes.)
+ * The legal moves, in order of their from-square, then their to-square, then what a pawn becomes:
+ * queen, rook, bishop, knight. The answer is sledgewren_count's. Where len is 248, moves gets 62
+ * places of four bytes: from-square, to-square, 1 if the move takes a man and 0 if not, and what a
+ * pawn becomes (0 for nothing). The places after the last move hold 0, and all of them on a
+ * refusal. With any other len nothing is written and the answer is SLEDGEWREN_MOVES_LENGTH.
  */
 uint32_t sledgewren_moves(uint8_t side, uint8_t white, uint8_t black, uint32_t first,
                           uint32_t second, uint8_t *moves, size_t len);
 
 /*
  * The position after a legal move: the piece set on its target, a man that stood there taken off,
- * the other side to move. A man left alone is the first, and with bare kings both are absent:
- * hand side, kings and men to the next call as they are. A move that is not legal is no refusal
- * but an answer of its own, the word SLEDGEWREN_NOT_LEGAL. Refusals 1 to 6.
+ * a pawn on his last rank made what `becomes` says, the other side to move. A man left alone is the
+ * first, and with bare kings both are absent: hand side, kings and men to the next call as they
+ * are. A move that is not legal is no refusal but an answer of its own, the word
+ * SLEDGEWREN_NOT_LEGAL; so is a promotion that names no piece, and any other move that names one:
+ * a legal move's three values stand together in sledgewren_moves' list. Refusals 1 to 6, 18.
  *   bits 0-7 refusal, bit 8 side, bit 15 the move is not legal, 16-23 white king, 24-31 black
  *   king, 32-47 the first man, 48-63 the second
  * A man's 16 bits: 0-3 kind, bit 4 colour, bit 5 he is there, 8-15 square; all 0 for none.
  */
 uint64_t sledgewren_play(uint8_t side, uint8_t white, uint8_t black, uint32_t first,
-                         uint32_t second, uint8_t from, uint8_t to);
+                         uint32_t second, uint8_t from, uint8_t to, uint8_t becomes);
 
 /*
- * Writes the true table of an ending, whatever the bytes held before. With two men each small table
- * is checked first, and 17 says that one is not accepted. Refusals 1, 7 and 17 leave the table's
- * bytes untouched, 10 leaves them all 0.
+ * Writes the true table of an ending, whatever the bytes held before. Each small table that the
+ * ending needs is checked first, and 17 says that one is not accepted. Refusals 1, 7 and 17 leave
+ * the table's bytes untouched, 10 leaves them all 0.
  *   bits 0-7 refusal, bit 8 some position is decided, 16-23 greatest depth
  */
 uint32_t sledgewren_fill(uint32_t ending, const uint8_t *small_first, size_t small_first_len,
@@ -274,8 +297,9 @@ uint32_t sledgewren_fill(uint32_t ending, const uint8_t *small_first, size_t sma
                          size_t len);
 
 /*
- * The same, quicker: table, answer and refusals are sledgewren_fill's, on any values and bytes. It
- * works back from the positions just settled, where sledgewren_fill goes over all numbers.
+ * The same of pieces, quicker: table, answer and refusals are sledgewren_fill's, on any values and
+ * bytes, but that king and pawn are refused 1. It works back from the positions just settled, where
+ * sledgewren_fill goes over all numbers.
  *   bits 0-7 refusal, bit 8 some position is decided, 16-23 greatest depth
  */
 uint32_t sledgewren_fill_back(uint32_t ending, const uint8_t *small_first, size_t small_first_len,
@@ -308,9 +332,9 @@ uint64_t sledgewren_fill_start(uint32_t ending, uint8_t *table, size_t len);
  *   goes on with k + 1; at k = 254 there is no such byte: the answer is refusal 10, the table is
  *   cleared and the stage is 2. If there are none and no small table holds a depth of k or more,
  *   the stage is 1, the table stays, and the greatest depth is the greatest settled. If there are
- *   none and a small table does, the progress goes on with k + 1: with two men depths may skip.
- *   Bits 24-31 are asked only where a small table holds a depth of k - 1 or more; else the step
- *   before this one settled its depth, and with one man that is so always.
+ *   none and a small table does, the progress goes on with k + 1: with two men or a pawn depths
+ *   may skip. Bits 24-31 are asked only where a small table holds a depth of k - 1 or more; else
+ *   the step before this one settled its depth, and with one piece that is so always.
  * Stage 1, done: bits 24-31 less 1 are the greatest depth; none is decided where they are 0. The
  *   step repeats that, and table and progress stay.
  * Stage 2 or more, 10 was given: the step answers refusal 10, and table and progress stay.
@@ -321,8 +345,8 @@ uint64_t sledgewren_fill_step(uint32_t ending, uint32_t progress, const uint8_t 
 
 /*
  * Holds every byte of a table to the one that its successors' bytes require. An answer of 0 says
- * that the table is accepted: it is then the true one. With two men each small table is checked
- * first, and 17 says that one is not accepted. Refusals 1, 7, 17.
+ * that the table is accepted: it is then the true one. Each small table that the ending needs is
+ * checked first, and 17 says that one is not accepted. Refusals 1, 7, 17.
  *   bits 0-7 refusal, bit 8 wrong, 32-63 the lowest wrong number
  */
 uint64_t sledgewren_check(uint32_t ending, const uint8_t *small_first, size_t small_first_len,
@@ -331,18 +355,19 @@ uint64_t sledgewren_check(uint32_t ending, const uint8_t *small_first, size_t sm
 
 /*
  * A position's value, its depth in plies and a move, from the table of its ending (which is
- * sledgewren_ending's) and, with two men, the small tables. There is no
- * move at checkmate and stalemate, and the depth of a draw is 0. Of several best moves it is the
- * first on the normalised board, carried back: a turned position has its move turned. Refusals
- * 1 to 7 and 11, and after them 19 where `plies` is above SLEDGEWREN_MOST_QUIET.
+ * sledgewren_ending's) and, with two men or a pawn, the small tables. There is no move at checkmate
+ * and stalemate, and the depth of a draw is 0. Of several best moves it is the first on the
+ * normalised board, carried back: a turned position has its move turned. Refusals 1 to 7, 11 and
+ * 18, and after them 19 where `plies` is above SLEDGEWREN_MOST_QUIET.
  *   bits 0-7 refusal, 8-15 value, 16-23 depth, bit 24 a move is given, bit 25 within fifty,
- *   32-39 from, 40-47 to, bit 48 it takes a man
+ *   32-39 from, 40-47 to, bit 48 it takes a man, 56-63 what a pawn becomes
  * Bits 32-63 are the move's four bytes in sledgewren_moves' list, the lowest first.
  *
  * `plies` are those since the last capture. A win or a loss is marked within fifty where they and
  * the depth make at most 100: the winner who plays the moves of an accepted table, and claims
  * nothing, then mates before the loser may claim a draw by the fifty-move rule (FIDE 9.3). A draw
- * is never marked. Nothing else hangs on `plies`: a caller who does not count them gives 0.
+ * is never marked, and nothing is with a pawn on the board. Nothing else hangs on `plies`: a caller
+ * who does not count them gives 0.
  */
 uint64_t sledgewren_look_up(uint8_t side, uint8_t white, uint8_t black, uint32_t first,
                             uint32_t second, uint32_t plies, const uint8_t *small_first,
@@ -505,6 +530,7 @@ static inline uint8_t sledgewren_count_moves(uint32_t answer) { return SLEDGEWRE
 static inline uint8_t sledgewren_move_from(const uint8_t *moves, int place) { return moves[4 * place]; }
 static inline uint8_t sledgewren_move_to(const uint8_t *moves, int place) { return moves[4 * place + 1]; }
 static inline int sledgewren_move_takes(const uint8_t *moves, int place) { return moves[4 * place + 2]; }
+static inline uint8_t sledgewren_move_becomes(const uint8_t *moves, int place) { return moves[4 * place + 3]; }
 
 /* sledgewren_fill, sledgewren_set_fill */
 static inline uint8_t sledgewren_filled_refusal(uint32_t answer) { return SLEDGEWREN_BITS(answer, 0); }
@@ -538,6 +564,7 @@ static inline int sledgewren_answer_within_fifty(uint64_t answer)
 static inline uint8_t sledgewren_answer_from(uint64_t answer) { return SLEDGEWREN_BITS(answer, 32); }
 static inline uint8_t sledgewren_answer_to(uint64_t answer) { return SLEDGEWREN_BITS(answer, 40); }
 static inline int sledgewren_answer_takes(uint64_t answer) { return SLEDGEWREN_BITS(answer, 48) & 1; }
+static inline uint8_t sledgewren_answer_becomes(uint64_t answer) { return SLEDGEWREN_BITS(answer, 56); }
 
 /* sledgewren_second_opinion */
 static inline uint8_t sledgewren_opinion_refusal(uint32_t answer) { return SLEDGEWREN_BITS(answer, 0); }

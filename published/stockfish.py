@@ -1,4 +1,4 @@
-"""Mates of two men: Stockfish's word beside the oracle's depth.
+"""Mates of two men, and of a lone pawn: Stockfish's word beside the oracle's depth.
 
 usage: stockfish.py ENGINE ORACLE SECONDS
 
@@ -18,6 +18,8 @@ ENDINGS = [f"K{a}{b}K" for a, b in PAIRS] + [f"K{a}K{b}" for a, b in PAIRS]
 WINS = range(3, 12, 2)
 LOSSES = range(2, 9, 2)
 EACH = 2
+# The pawn's ending is one table, so that more is drawn from it.
+EACH_PAWN = 12
 
 
 def sequence(seed):
@@ -27,13 +29,13 @@ def sequence(seed):
         yield seed >> 33
 
 
-def drawn(table, seed):
-    """Up to EACH numbers with a win and as many with a loss, as pairs of number and depth."""
+def drawn(table, seed, each=EACH):
+    """So many numbers with a win and as many with a loss, as pairs of number and depth."""
     found = []
     for depths in (WINS, LOSSES):
         numbers = [n for n, byte in enumerate(table) if byte - 2 in depths]
         draws = sequence(seed)
-        for _ in range(EACH if numbers else 0):
+        for _ in range(each if numbers else 0):
             number = numbers[next(draws) % len(numbers)]
             found.append((number, table[number] - 2))
     return found
@@ -50,10 +52,25 @@ def squares_of(oracle, ending, numbers):
     return [(men, [int(word) for word in line.split()]) for line in answer.stdout.splitlines()]
 
 
+def pawn_squares_of(oracle, numbers):
+    """The same of the pawn's numbers; every other position has Black's pawn."""
+    lines = "".join(f"{number}\n" for number in numbers)
+    answer = subprocess.run([oracle, "pawn-back"], input=lines, capture_output=True, text=True, check=True)
+    found = []
+    for place, line in enumerate(answer.stdout.splitlines()):
+        side, white, pawn, black = [int(word) for word in line.split()]
+        if place % 2:
+            # Colours exchanged, ranks turned.
+            found.append((["p"], [1 - side, black ^ 56, white ^ 56, pawn ^ 56]))
+        else:
+            found.append((["P"], [side, white, black, pawn]))
+    return found
+
+
 def fen(men, squares):
     """A position in Forsyth-Edwards notation."""
-    side, white, black, first, second = squares
-    board = {white: "K", black: "k", first: men[0], second: men[1]}
+    side, white, black, *places = squares
+    board = {white: "K", black: "k", **dict(zip(places, men))}
     ranks = []
     for rank in range(7, -1, -1):
         text = "".join(board.get(8 * rank + file, ".") for file in range(8))
@@ -103,14 +120,23 @@ def judged(due, found):
     return "different"
 
 
+def samples(oracle):
+    """Each ending's name with the depths and positions drawn from its table."""
+    for seed, ending in enumerate(ENDINGS):
+        table = subprocess.run([oracle, "four-table", ending], capture_output=True, check=True).stdout
+        chosen = drawn(table, seed)
+        yield ending, chosen, squares_of(oracle, ending, [number for number, _ in chosen])
+    table = subprocess.run([oracle, "pawn-table"], capture_output=True, check=True).stdout
+    chosen = drawn(table, len(ENDINGS), EACH_PAWN)
+    yield "KPK", chosen, pawn_squares_of(oracle, [number for number, _ in chosen])
+
+
 def main():
     path, oracle, seconds = sys.argv[1], sys.argv[2], int(sys.argv[3])
     engine = Engine(path)
     counts = {"agreed": 0, "unproved": 0, "different": 0}
-    for seed, ending in enumerate(ENDINGS):
-        table = subprocess.run([oracle, "four-table", ending], capture_output=True, check=True).stdout
-        chosen = drawn(table, seed)
-        for (_, depth), (men, squares) in zip(chosen, squares_of(oracle, ending, [n for n, _ in chosen])):
+    for ending, chosen, positions in samples(oracle):
+        for (_, depth), (men, squares) in zip(chosen, positions):
             # Odd depths are wins; in the winner's moves that is (n + 1) / 2, rounded down.
             due = (depth + 1) // 2 * (1 if depth % 2 else -1)
             position = fen(men, squares)

@@ -10,6 +10,8 @@
 
 static uint8_t table[SLEDGEWREN_TABLE_BYTES];
 static uint8_t large[SLEDGEWREN_LARGE_TABLE_BYTES];
+static uint8_t four[SLEDGEWREN_FOUR_TABLES_BYTES];
+static uint8_t pawns[SLEDGEWREN_PAWN_TABLE_BYTES];
 static uint8_t pocket[SLEDGEWREN_POCKET_BYTES];
 static int wrong = 0;
 
@@ -69,6 +71,7 @@ static void words_of_64(uint64_t word)
     FIELD(sledgewren_answer_from, word, 32, 8);
     FIELD(sledgewren_answer_to, word, 40, 8);
     FIELD(sledgewren_answer_takes, word, 48, 1);
+    FIELD(sledgewren_answer_becomes, word, 56, 8);
     FIELD(sledgewren_tallies_none, word, 0, 16);
     FIELD(sledgewren_tallies_draws, word, 16, 16);
     FIELD(sledgewren_tallies_wins, word, 32, 16);
@@ -149,7 +152,7 @@ static void answers(void)
 static void plays(void)
 {
     uint32_t queen = SLEDGEWREN_A_MAN(SLEDGEWREN_QUEEN, SLEDGEWREN_WHITE, 15);
-    uint64_t answer = sledgewren_play(0, 17, 0, queen, SLEDGEWREN_ABSENT, 15, 8);
+    uint64_t answer = sledgewren_play(0, 17, 0, queen, SLEDGEWREN_ABSENT, 15, 8, 0);
 
     same("play refusal", sledgewren_played_refusal(answer), SLEDGEWREN_NOT_REFUSED);
     same("play side", sledgewren_played_side(answer), SLEDGEWREN_BLACK);
@@ -159,12 +162,13 @@ static void plays(void)
     same("play second", sledgewren_played_second(answer), SLEDGEWREN_ABSENT);
     same("mate", sledgewren_count(1, 17, 0, sledgewren_played_first(answer), SLEDGEWREN_ABSENT), 0);
     queen = SLEDGEWREN_A_MAN(SLEDGEWREN_QUEEN, SLEDGEWREN_WHITE, 9);
-    answer = sledgewren_play(1, 63, 0, queen, SLEDGEWREN_ABSENT, 0, 9);
+    answer = sledgewren_play(1, 63, 0, queen, SLEDGEWREN_ABSENT, 0, 9, 0);
     same("bare kings", sledgewren_played_first(answer), SLEDGEWREN_ABSENT);
     same("bare kings", sledgewren_played_black(answer), 9);
     same("bare kings", sledgewren_played_side(answer), SLEDGEWREN_WHITE);
-    same("not legal", sledgewren_play(1, 63, 0, queen, SLEDGEWREN_ABSENT, 0, 56), SLEDGEWREN_NOT_LEGAL);
-    same("refused", sledgewren_play(0, 17, 0, queen, SLEDGEWREN_ABSENT, 9, 0), SLEDGEWREN_OTHER_IN_CHECK);
+    same("not legal", sledgewren_play(1, 63, 0, queen, SLEDGEWREN_ABSENT, 0, 56, 0), SLEDGEWREN_NOT_LEGAL);
+    same("names a piece", sledgewren_play(1, 63, 0, queen, SLEDGEWREN_ABSENT, 0, 9, 1), SLEDGEWREN_NOT_LEGAL);
+    same("refused", sledgewren_play(0, 17, 0, queen, SLEDGEWREN_ABSENT, 9, 0, 0), SLEDGEWREN_OTHER_IN_CHECK);
 }
 
 /*
@@ -202,7 +206,7 @@ static void two_men(void)
     same("none", sledgewren_position_second(sledgewren_position(SLEDGEWREN_QUEEN, 2049)), 64);
     same("counted", sledgewren_moves(0, 18, 60, queen, rook, moves, sizeof moves),
          sledgewren_count(0, 18, 60, rook, queen));
-    answer = sledgewren_play(0, 18, 60, queen, rival, 27, 59);
+    answer = sledgewren_play(0, 18, 60, queen, rival, 27, 59, 0);
     same("taken", sledgewren_played_first(answer), SLEDGEWREN_A_MAN(SLEDGEWREN_QUEEN, SLEDGEWREN_WHITE, 59));
     same("taken", sledgewren_played_second(answer), SLEDGEWREN_ABSENT);
     same("length", sledgewren_fill(queens, table, sizeof table, table, sizeof table, pocket, sizeof pocket),
@@ -214,6 +218,59 @@ static void two_men(void)
     same("not accepted", sledgewren_check(both, table, sizeof table, table, sizeof table, large, sizeof large),
          SLEDGEWREN_NOT_ACCEPTED);
     same("untouched", sledgewren_check(queens, table, sizeof table, table, sizeof table, large, sizeof large) >> 8 & 1, 1);
+}
+
+/*
+ * King and pawn: Kc2, pawn a7 against Ka1, White to move, is won in one by a7a8q. The same with
+ * Black's pawn, left for right, and on a rank where no pawn stands.
+ */
+static void pawn(void)
+{
+    uint32_t white = SLEDGEWREN_A_MAN(SLEDGEWREN_PAWN, SLEDGEWREN_WHITE, 48);
+    uint32_t black = SLEDGEWREN_A_MAN(SLEDGEWREN_PAWN, SLEDGEWREN_BLACK, 15);
+    uint8_t moves[SLEDGEWREN_MOVES_BYTES];
+    uint32_t ending = sledgewren_ending(white, SLEDGEWREN_ABSENT);
+    uint64_t answer = sledgewren_play(0, 10, 0, white, SLEDGEWREN_ABSENT, 48, 56, SLEDGEWREN_BECOMES(SLEDGEWREN_ROOK));
+    uint32_t man, count;
+
+    same("pawn's ending", ending, SLEDGEWREN_PAWN);
+    same("black's", sledgewren_ending(black, SLEDGEWREN_ABSENT), SLEDGEWREN_PAWN);
+    same("with a queen", sledgewren_ending(white, SLEDGEWREN_A_MAN(0, 0, 9)), SLEDGEWREN_NO_ENDING);
+    same("bytes", sledgewren_table_bytes(ending), SLEDGEWREN_PAWN_TABLE_BYTES);
+    same("number", sledgewren_number(0, 10, 0, white, SLEDGEWREN_ABSENT), 82560);
+    same("exchanged", sledgewren_number(1, 63, 53, black, SLEDGEWREN_ABSENT), 82560);
+    same("square", sledgewren_position_square(sledgewren_position(ending, 82560)), 48);
+    same("too high", sledgewren_position(ending, SLEDGEWREN_PAWN_TABLE_BYTES), SLEDGEWREN_NUMBER_TOO_HIGH);
+    same("rank 8", sledgewren_count(0, 10, 0, white + (8u << 16), SLEDGEWREN_ABSENT), SLEDGEWREN_BAD_PAWN);
+    same("after 3", sledgewren_count(0, 64, 0, white + (8u << 16), SLEDGEWREN_ABSENT), SLEDGEWREN_BAD_SQUARE);
+    same("two men", sledgewren_count(0, 10, 0, white, white), SLEDGEWREN_BAD_MAN);
+    same("opinion", sledgewren_second_opinion(0, 10, 0, white, SLEDGEWREN_ABSENT, 1), SLEDGEWREN_BAD_MAN);
+    count = sledgewren_count_moves(sledgewren_moves(0, 10, 0, white, SLEDGEWREN_ABSENT, moves, sizeof moves));
+    for (man = SLEDGEWREN_QUEEN; man <= SLEDGEWREN_KNIGHT; man++)
+        same("listed", sledgewren_move_becomes(moves, (int)(count - 4 + man)), SLEDGEWREN_BECOMES(man));
+    same("king's", sledgewren_move_becomes(moves, 0), 0);
+    same("a rook", sledgewren_played_first(answer), SLEDGEWREN_A_MAN(SLEDGEWREN_ROOK, SLEDGEWREN_WHITE, 56));
+    same("no piece", sledgewren_play(0, 10, 0, white, SLEDGEWREN_ABSENT, 48, 56, 0), SLEDGEWREN_NOT_LEGAL);
+    same("a pawn", sledgewren_play(0, 10, 0, white, SLEDGEWREN_ABSENT, 48, 56, 5), SLEDGEWREN_NOT_LEGAL);
+    for (man = SLEDGEWREN_QUEEN; man <= SLEDGEWREN_KNIGHT; man++)
+        same("small", sledgewren_filled_refusal(sledgewren_fill(man, SLEDGEWREN_NO_TABLES,
+             four + man * SLEDGEWREN_TABLE_BYTES, SLEDGEWREN_TABLE_BYTES)), SLEDGEWREN_NOT_REFUSED);
+    same("lent one", sledgewren_fill(ending, four, SLEDGEWREN_TABLE_BYTES, four, 0, pawns, sizeof pawns),
+         SLEDGEWREN_TABLE_LENGTH);
+    same("quick", sledgewren_fill_back(ending, four, sizeof four, four, 0, pawns, sizeof pawns), SLEDGEWREN_BAD_MAN);
+    same("lent four", sledgewren_filled_refusal(sledgewren_fill(ending, four, sizeof four, four, 0, pawns, sizeof pawns)),
+         SLEDGEWREN_NOT_REFUSED);
+    same("accepted", sledgewren_check(ending, four, sizeof four, four, 0, pawns, sizeof pawns), 0);
+    answer = sledgewren_look_up(0, 10, 0, white, SLEDGEWREN_ABSENT, 0, four, sizeof four, four, 0, pawns, sizeof pawns);
+    same("won", sledgewren_answer_value(answer), SLEDGEWREN_WIN);
+    same("in one", sledgewren_answer_depth(answer), 1);
+    same("a7a8q", sledgewren_answer_becomes(answer), SLEDGEWREN_BECOMES(SLEDGEWREN_QUEEN));
+    same("never marked", (uint64_t)sledgewren_answer_within_fifty(answer), 0);
+    answer = sledgewren_look_up(1, 63, 53, black, SLEDGEWREN_ABSENT, 0, four, sizeof four, four, 0, pawns, sizeof pawns);
+    same("turned", sledgewren_answer_to(answer), 7);
+    same("turned", sledgewren_answer_becomes(answer), SLEDGEWREN_BECOMES(SLEDGEWREN_QUEEN));
+    four[59136 + 1]++;
+    same("not accepted", sledgewren_check(ending, four, sizeof four, four, 0, pawns, sizeof pawns), SLEDGEWREN_NOT_ACCEPTED);
 }
 
 /* Header and archive are of one version. */
@@ -241,6 +298,7 @@ int main(void)
     answers();
     plays();
     two_men();
+    pawn();
     version();
     printf("%d fields wrong\n", wrong);
     return wrong != 0;

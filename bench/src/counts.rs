@@ -8,12 +8,14 @@ use std::hint::black_box;
 use std::path::Path;
 use std::process::Command;
 
-use second::{fill_every, table};
+use second::{fill_every, pawn_fill, table};
 use sledgewren::entry::{self, Lent};
 use sledgewren::{Keyed, Man, Side, TABLE_BYTES};
 
 use crate::four::{self, Ground, Small};
+use crate::lent::{self, PAWN_BYTES};
 use crate::moves::{library_count, library_moves, oracle_moves};
+use crate::pawn;
 use crate::positions::{legal, man_of, of_ending, second};
 use crate::timing::judged;
 
@@ -49,6 +51,12 @@ pub const ROWS: [Counted; 9] = [
 /// The rows of two men, which read tables that the timed rows have written.
 pub const FOUR: [Counted; 1] =
     [Counted { what: "look-up, two men", beside: "library's look-up, one man", goal: 1.5 }];
+
+/// The rows of king and pawn; the fill's is one whole fill.
+pub const PAWN: [Counted; 2] = [
+    Counted { what: "fill, king and pawn", beside: "oracle, every position", goal: 1.2 },
+    Counted { what: "look-up, king and pawn", beside: "library's look-up, a queen", goal: 1.5 },
+];
 
 fn filled(man: Man) -> Result<Vec<u8>, String> {
     let mut bytes = vec![0; TABLE_BYTES];
@@ -147,6 +155,27 @@ fn look_up_four(folder: &Path, one_man: bool) -> Result<usize, String> {
     Ok(asked.len())
 }
 
+/// With a pawn, or with a queen.
+fn look_up_pawn(folder: &Path, queen: bool) -> Result<usize, String> {
+    let ground = pawn::Ground::read(folder)?;
+    let asked = if queen { pawn::of_queen(ONE_IN) } else { pawn::of_pawn(ONE_IN) };
+    bench_counted(&mut || if queen { ground.queen(&asked) } else { ground.pawn(&asked) });
+    Ok(asked.len())
+}
+
+fn fill_pawn(other: bool) -> Result<usize, String> {
+    let (run, mut own) = (pawn::run(), vec![crate::tables::DIRT; PAWN_BYTES]);
+    bench_counted(&mut || match other {
+        true => {
+            let _ = black_box(pawn_fill::fill(&mut own, pawn::parts(&run)));
+        }
+        false => {
+            let _ = black_box(lent::fill(lent::PAWN, [&run, &[]], &mut own));
+        }
+    });
+    Ok(1)
+}
+
 /// Under valgrind: one work, the library's or the other's. Writes how many positions it was for.
 pub fn run(what: &str, other: bool, gaviota: &str, folder: &Path) -> Result<(), String> {
     let units = match what {
@@ -156,6 +185,8 @@ pub fn run(what: &str, other: bool, gaviota: &str, folder: &Path) -> Result<(), 
         "check, rook" => check(Man::Rook, other),
         "look-up" => look_up(gaviota, other),
         "look-up, two men" => look_up_four(folder, other),
+        "fill, king and pawn" => fill_pawn(other),
+        "look-up, king and pawn" => look_up_pawn(folder, other),
         "moves, queen" => listed(Man::Queen, library_moves, other),
         "moves, rook" => listed(Man::Rook, library_moves, other),
         "count, queen" => listed(Man::Queen, library_count, other),

@@ -55,7 +55,7 @@ pub fn named(name: &str) -> Result<Ending, String> {
     Ending::named(name).ok_or(format!("no ending {name}"))
 }
 
-fn filled_word(answer: Result<Option<u8>, Refused>) -> u32 {
+pub fn filled_word(answer: Result<Option<u8>, Refused>) -> u32 {
     match answer {
         Ok(Some(depth)) => 1 << 8 | (depth as u32) << 16,
         Ok(None) => 0,
@@ -179,7 +179,7 @@ pub fn read(folder: &Path, name: &str) -> Result<Vec<u8>, String> {
     std::fs::read(kept(folder, name)).map_err(|error| format!("{name}: {error}"))
 }
 
-fn write(folder: &Path, name: &str, table: &[u8]) -> Result<(), String> {
+pub fn write(folder: &Path, name: &str, table: &[u8]) -> Result<(), String> {
     std::fs::write(kept(folder, name), table).map_err(|error| format!("{name}: {error}"))
 }
 

@@ -3,6 +3,7 @@
 //! usage: bench ORACLE DESK GAVIOTA-FOLDER OUTPUT-FOLDER, with - for what is not there
 //!        bench four OUTPUT-FOLDER, for the rows of two men alone
 //!        bench back OUTPUT-FOLDER, for those of the quick fill
+//!        bench pawn OUTPUT-FOLDER, for those of king and pawn
 //!
 //! It runs itself as `bench count WORK SIDE GAVIOTA-FOLDER OUTPUT-FOLDER` to have instructions counted.
 
@@ -15,6 +16,7 @@ mod four;
 mod lent;
 mod look_ups;
 mod moves;
+mod pawn;
 mod pocket;
 mod positions;
 mod search;
@@ -104,6 +106,7 @@ fn measure(oracle: &str, program: &str, gaviota: &str, folder: &Path) -> Result<
     }
     rows.extend(search::rows()?);
     rows.extend(four::rows(folder, FEW)?);
+    rows.extend(pawn::rows(folder, FEW)?);
     Ok(rows)
 }
 
@@ -112,6 +115,7 @@ fn all(oracle: &str, desk: &str, gaviota: &str, folder: &Path) -> Result<(), Str
     print(&measure(oracle, desk, gaviota, folder)?);
     counts::print(gaviota, folder, &counts::ROWS);
     counts::print(gaviota, folder, &counts::FOUR);
+    counts::print(gaviota, folder, &counts::PAWN);
     Ok(())
 }
 
@@ -130,18 +134,27 @@ fn back_alone(folder: &Path) -> Result<(), String> {
     back::print_counts(folder)
 }
 
+/// The rows of king and pawn alone.
+fn pawn_alone(folder: &Path) -> Result<(), String> {
+    print(&pawn::rows(folder, FEW)?);
+    counts::print("-", folder, &counts::PAWN);
+    Ok(())
+}
+
 fn main() -> ExitCode {
     let words: Vec<String> = std::env::args().skip(1).collect();
     let words: Vec<&str> = words.iter().map(String::as_str).collect();
     let done = match words[..] {
         ["four", folder] => four_alone(Path::new(folder)),
         ["back", folder] => back_alone(Path::new(folder)),
+        ["pawn", folder] => pawn_alone(Path::new(folder)),
         ["count", what, side, gaviota, folder] => back::count(what, side)
             .unwrap_or_else(|| counts::run(what, side == "other", gaviota, Path::new(folder))),
         [oracle, desk, gaviota, folder] => all(oracle, desk, gaviota, Path::new(folder)),
         _ => {
             eprintln!("usage: bench ORACLE DESK GAVIOTA-FOLDER OUTPUT-FOLDER");
-            eprintln!("       bench four OUTPUT-FOLDER, or bench back OUTPUT-FOLDER");
+            eprintln!("       bench four OUTPUT-FOLDER, bench back OUTPUT-FOLDER");
+            eprintln!("       bench pawn OUTPUT-FOLDER");
             return ExitCode::from(2);
         }
     };

@@ -88,7 +88,8 @@ static void play_out(uint8_t white, uint8_t black, uint32_t queen)
         print_square(sledgewren_answer_from(answer));
         print_square(sledgewren_answer_to(answer));
         played = sledgewren_play(side, white, black, queen, SLEDGEWREN_ABSENT,
-                                 sledgewren_answer_from(answer), sledgewren_answer_to(answer));
+                                 sledgewren_answer_from(answer), sledgewren_answer_to(answer),
+                                 sledgewren_answer_becomes(answer));
         if (sledgewren_played_refusal(played) != SLEDGEWREN_NOT_REFUSED)
             break;
         if (sledgewren_played_is_not_legal(played))

@@ -34,7 +34,8 @@ fn unless_refused(entry: &str, answer: u64) -> Result<u64, Refusal> {
     }
 }
 
-/// The number of a position, 0 to 59,135 with one man and 0 to 3,784,703 with two. Refusals 1 to 5.
+/// The number of a position, 0 to 59,135 with one piece, 0 to 3,784,703 with two, 0 to 196,607 with
+/// a pawn. Refusals 1 to 5 and 18.
 pub fn number(keyed: impl Into<Keyed>) -> Result<u32, Refusal> {
     const REFUSED: u32 = 0x8000_0000;
     let keyed = keyed.into();
@@ -56,7 +57,8 @@ pub fn position(ending: impl Into<u32>, number: u32) -> Result<Keyed, Refusal> {
     let answer = unsafe { ffi::sledgewren_position(word, number) };
     unless_refused("position", answer)?;
     let ending = Ending::from_word(word).unwrap_or_else(|| broken("position", answer));
-    let first = KeyedMan { kind: ending.first().code(), colour: 0, square: bits(answer, 24) };
+    let kind = ending.first().map_or(KeyedMan::PAWN, Man::code);
+    let first = KeyedMan { kind, colour: 0, square: bits(answer, 24) };
     let second = ending.second().map(|man| KeyedMan {
         kind: man.code(),
         colour: ending.is_rivals() as u8,
@@ -99,7 +101,8 @@ pub fn version() -> [u8; 3] {
     [16, 8, 0].map(|first| bits(number, first))
 }
 
-/// How many legal moves a position has, at most 62, and 35 with one man. Refusals 1 to 6.
+/// How many legal moves a position has, at most 62, and 35 with one piece; each promotion is one.
+/// Refusals 1 to 6 and 18.
 pub fn count(keyed: impl Into<Keyed>) -> Result<u8, Refusal> {
     let keyed = keyed.into();
     let (Keyed { side, white_king, black_king, .. }, [first, second]) = (keyed, keyed.words());
@@ -108,7 +111,8 @@ pub fn count(keyed: impl Into<Keyed>) -> Result<u8, Refusal> {
     Ok(bits(unless_refused("count", answer as u64)?, 8))
 }
 
-/// The legal moves by from-square, then to-square. Refusals 1 to 6.
+/// The legal moves by from-square, then to-square, then what a pawn becomes. Refusals 1 to 6 and
+/// 18.
 pub fn moves(keyed: impl Into<Keyed>) -> Result<Moves, Refusal> {
     let keyed = keyed.into();
     let (Keyed { side, white_king, black_king, .. }, [first, second]) = (keyed, keyed.words());
@@ -123,18 +127,19 @@ pub fn moves(keyed: impl Into<Keyed>) -> Result<Moves, Refusal> {
     Ok(moves.unwrap_or_else(|| broken("moves", answer)))
 }
 
-/// The small tables that a call is lent beside an ending's own with two men: that of the first
-/// man's kind and that of the second's, whatever they hold. With one man they are not read.
+/// The small tables that a call is lent beside an ending's own, whatever they hold. With two men:
+/// that of the first man's kind and that of the second's. With a pawn: the four pieces' tables one
+/// after the other as the first; the second is not read. With one piece neither is read.
 #[derive(Clone, Copy, Debug)]
 pub struct Lent<'a> {
-    /// The table of the first man's kind.
+    /// The table of the first man's kind, or the four of a pawn's ending.
     pub first: &'a [u8],
     /// The table of the second man's kind; with like kinds the same one.
     pub second: &'a [u8],
 }
 
 impl Lent<'_> {
-    /// With one man.
+    /// With one piece.
     pub const NONE: Lent<'static> = Lent { first: &[], second: &[] };
 }
 
@@ -159,7 +164,8 @@ pub fn fill(ending: impl Into<u32>, lent: Lent, table: &mut [u8]) -> Result<Opti
     Ok((bits(answer, 8) & 1 == 1).then_some(bits(answer, 16)))
 }
 
-/// The same table, answer and refusals, quicker: it works back from the positions just settled.
+/// The same table, answer and refusals of pieces, quicker: it works back from the positions just
+/// settled. King and pawn is refused 1.
 pub fn fill_back(
     ending: impl Into<u32>,
     lent: Lent,
@@ -248,14 +254,15 @@ pub fn check(ending: impl Into<u32>, lent: Lent, table: &[u8]) -> Result<Checked
     }
 }
 
-/// A position's value, depth and move from the table of its ending and, with two men, the lent
-/// ones; they do not hang on the count. Refusals 1 to 7 and 11.
+/// A position's value, depth and move from the table of its ending and, with two men or a pawn, the
+/// lent ones; they do not hang on the count. Refusals 1 to 7, 11 and 18.
 pub fn look_up(keyed: impl Into<Keyed>, lent: Lent, table: &[u8]) -> Result<Answer, Refusal> {
     look_up_at(keyed, 0, lent, table).map(|marked| marked.answer)
 }
 
 /// The same with the plies since the last capture, 0 to 99, and whether a win or a loss comes
-/// before a fifty-move claim at that count. Refusals 1 to 7, 11, and 19 for more than 99 plies.
+/// before a fifty-move claim at that count, which is not told with a pawn. Refusals 1 to 7, 11, 18,
+/// and 19 for more than 99 plies.
 pub fn look_up_at(
     keyed: impl Into<Keyed>,
     plies: u32,

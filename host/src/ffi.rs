@@ -1,15 +1,16 @@
 //! The static library's functions as C has them (`include/sledgewren.h`).
 //!
 //! Each is total on values and lengths. A pointer must not be null and must lead to as many bytes
-//! as its length says, and buffers lent to one call must not overlap, but that the two small tables may be one. The crate's other functions
-//! see to that; nothing else need call these.
+//! as its length says, and buffers lent to one call must not overlap, but that the two small tables
+//! may be one. The crate's other functions see to that; nothing else need call these.
 //!
 //! Values come first, then buffers that are only read, then buffers that are written to.
 //!
 //! `white` and `black` are the kings' squares. A man besides them is a word: bits 0-7 kind, 8-15
 //! colour, 16-23 square; he is absent where bits 24-31 are 0. An ending is a word: one man's kind;
-//! or bits 0-7 the first man's kind, 8-15 1 + the second's, bit 16 one each. With one man the small
-//! tables are not read.
+//! or bits 0-7 the first man's kind, 8-15 1 + the second's, bit 16 one each. A pawn, who stands
+//! alone, has kind 4. With one piece the small tables are not read; with a pawn the first is the
+//! four pieces' tables one after the other, and the second is not read.
 
 extern "C" {
     /// The number, or 0x80000000 + refusal.
@@ -32,7 +33,8 @@ extern "C" {
     pub fn sledgewren_count(side: u8, white: u8, black: u8, first: u32, second: u32) -> u32;
 
     /// As the count. Where `len` is 248 it writes 62 places of four bytes: from-square, to-square,
-    /// 1 if the move takes a man, and 0; with any other `len` it writes nothing and answers 255.
+    /// 1 if the move takes a man, and what a pawn becomes, 0 for nothing or 1 + kind; with any
+    /// other `len` it writes nothing and answers 255.
     pub fn sledgewren_moves(
         side: u8,
         white: u8,
@@ -45,7 +47,7 @@ extern "C" {
 
     /// Bits 0-7 refusal, bit 8 side, bit 15 the move is not legal, 16-23 white king, 24-31 black
     /// king, 32-47 the first man, 48-63 the second; a man's bits 0-3 kind, bit 4 colour, bit 5 he
-    /// is there, 8-15 square.
+    /// is there, 8-15 square. `becomes` is what a pawn becomes: 0 for nothing, or 1 + kind.
     pub fn sledgewren_play(
         side: u8,
         white: u8,
@@ -54,6 +56,7 @@ extern "C" {
         second: u32,
         from: u8,
         to: u8,
+        becomes: u8,
     ) -> u64;
 
     /// Bits 0-7 refusal, bit 8 some position is decided, 16-23 greatest depth.
@@ -106,7 +109,7 @@ extern "C" {
 
     /// Bits 0-7 refusal, 8-15 value (1 win, 2 loss, 3 draw), 16-23 depth, bit 24 a move is given,
     /// bit 25 within fifty at this count of plies since the last capture, 32-39 from, 40-47 to,
-    /// bit 48 it takes a man.
+    /// bit 48 it takes a man, 56-63 what a pawn becomes, 0 for nothing or 1 + kind.
     pub fn sledgewren_look_up(
         side: u8,
         white: u8,

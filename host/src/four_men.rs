@@ -19,10 +19,10 @@ pub struct FourMen<'a> {
     bytes: Box<[u8]>,
 }
 
-/// Bytes that checking does not accept, given back with what is wrong.
+/// Bytes that checking does not accept, with two men or a pawn, given back with what is wrong.
 #[derive(Clone, PartialEq, Eq)]
 pub struct NotAcceptedLarge {
-    /// The refusal: 7, or 15 where a small table is another man's or the ending has one man; or
+    /// The refusal: 7, or 15 where a small table is another man's or the ending has not two men; or
     /// the lowest number whose byte is wrong.
     pub why: Result<u32, Refusal>,
     /// The bytes as they were.
@@ -33,7 +33,7 @@ impl<'a> FourMen<'a> {
     /// The true table of an ending with two men, filled over the accepted tables of the first
     /// man's ending and of the second's; of like kinds one is given twice. It is not checked
     /// again. Refusals 10, which none of the twenty is given, and 15 where a small table is
-    /// another man's or the ending has one man.
+    /// another man's or the ending has not two men.
     pub fn filled(
         ending: Ending,
         first: &'a Accepted,
@@ -118,7 +118,7 @@ impl<'a> FourMen<'a> {
             Some(ending) if ending == self.ending => {
                 entry::look_up_at(keyed, plies, lent(self.first, self.second), &self.bytes)
             }
-            Some(ending) => match small.iter().find(|table| Ending::one(table.man()) == ending) {
+            Some(ending) => match small.iter().find(|table| ending.only() == Some(table.man())) {
                 Some(table) => table.table().look_up_at(keyed, plies),
                 None => Err(Refusal::NotInSet),
             },
@@ -137,7 +137,7 @@ fn lent<'a>(first: &'a Accepted, second: &'a Accepted) -> Lent<'a> {
 
 /// The small tables are those of the ending's two men.
 fn fits(ending: Ending, first: &Accepted, second: &Accepted) -> bool {
-    ending.first() == first.man() && ending.second() == Some(second.man())
+    ending.first() == Some(first.man()) && ending.second() == Some(second.man())
 }
 
 /// `KQKR, a table of 3784704 bytes`: they would fill pages.

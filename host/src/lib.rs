@@ -1,6 +1,6 @@
-//! Two kings and one man or two of either side: positions are numbered, their tables filled and
-//! checked, positions looked up, and, with one man, a desk's lines answered. A pocket is a table packed to won, drawn and
-//! lost.
+//! Two kings and one piece, two pieces or one pawn of either side: positions are numbered, their
+//! tables filled and checked, positions looked up, and, with one piece, a desk's lines answered. A
+//! pocket is a table packed to won, drawn and lost.
 //!
 //! Every answer comes from the proved static library that this crate links; the crate gives it
 //! Rust's types and adds no chess of its own. Depths count plies. A refusal is an `Err` with its
@@ -26,14 +26,14 @@
 //! | `sledgewren_write_number` | [`entry::write_number`] | [`Typed::of`], [`Position::typed`] |
 //! | `sledgewren_count` | [`entry::count`] | [`Position::count`] |
 //! | `sledgewren_moves` | [`entry::moves`] | [`Position::moves`] |
-//! | `sledgewren_play` | [`entry::play`] | [`Position::play`] |
-//! | `sledgewren_fill` | [`entry::fill`] | |
+//! | `sledgewren_play` | [`entry::play`] | [`Position::play`], [`Keyed::play`] |
+//! | `sledgewren_fill` | [`entry::fill`] | [`KingAndPawn::filled`] |
 //! | `sledgewren_fill_back` | [`entry::fill_back`] | [`Table::fill`], [`Table::filled`], [`FourMen::filled`] |
-//! | `sledgewren_fill_start` | [`entry::fill_start`] | [`Filling::start`], [`FourMen::filled_with_progress`] |
-//! | `sledgewren_fill_step` | [`entry::fill_step`] | [`Filling::step`], [`FourMen::filled_with_progress`] |
-//! | `sledgewren_check` | [`entry::check`] | [`Table::check`], [`Table::accept`], [`FourMen::accept`] |
-//! | `sledgewren_look_up` | [`entry::look_up`] | [`Table::look_up`], [`Accepted::look_up`], [`FourMen::look_up`], [`Set::look_up`] |
-//! | the same, with a count | [`entry::look_up_at`] | [`Table::look_up_at`], [`Accepted::look_up_at`], [`FourMen::look_up_at`] |
+//! | `sledgewren_fill_start` | [`entry::fill_start`] | [`Filling::start`], [`FourMen::filled_with_progress`], [`KingAndPawn::filled_with_progress`] |
+//! | `sledgewren_fill_step` | [`entry::fill_step`] | [`Filling::step`], [`FourMen::filled_with_progress`], [`KingAndPawn::filled_with_progress`] |
+//! | `sledgewren_check` | [`entry::check`] | [`Table::check`], [`Table::accept`], [`FourMen::accept`], [`KingAndPawn::accept`] |
+//! | `sledgewren_look_up` | [`entry::look_up`] | [`Table::look_up`], [`Accepted::look_up`], [`FourMen::look_up`], [`KingAndPawn::look_up`], [`Set::look_up`] |
+//! | the same, with a count | [`entry::look_up_at`] | [`Table::look_up_at`], [`Accepted::look_up_at`], [`FourMen::look_up_at`], [`KingAndPawn::look_up_at`] |
 //! | `sledgewren_second_opinion` | [`entry::second_opinion`] | [`second_opinion`] |
 //! | `sledgewren_answer_line` | [`entry::answer_line`] | [`Desk::answer`], [`Desk::run`] |
 //! | `sledgewren_pack` | [`entry::pack`] | [`Pocket::packed`], [`Pocket::of_table`] |
@@ -58,6 +58,7 @@ mod man;
 mod moves;
 mod opinion;
 mod parse;
+mod pawn;
 mod played;
 mod pocket;
 mod position;
@@ -76,6 +77,7 @@ pub use man::{Man, Side};
 pub use moves::{Move, Moves, MOST_MOVES, MOVES_BYTES};
 pub use opinion::{second_opinion, Opinion, MOST_PLIES};
 pub use parse::NotRead;
+pub use pawn::{FourTables, KingAndPawn, FOUR_TABLES_BYTES, PAWN_TABLE_BYTES};
 pub use played::Played;
 pub use pocket::{Outcome, Pocket, Tallies, POCKET_BYTES};
 pub use position::{Keyed, KeyedMan, Position};

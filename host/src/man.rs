@@ -2,7 +2,8 @@
 
 use std::fmt;
 
-/// The one man besides the kings.
+/// A piece besides the kings. A pawn is none of them: he has kind 4 in a
+/// [`KeyedMan`](crate::KeyedMan).
 #[derive(Clone, Copy, PartialEq, Eq, Hash, Debug)]
 pub enum Man {
     /// Code 0.

@@ -3,7 +3,7 @@
 use std::fmt;
 use std::ops::Deref;
 
-use crate::Square;
+use crate::{Man, Side, Square};
 
 /// No position has more legal moves: 27 of each of two queens and 8 of a king.
 pub const MOST_MOVES: usize = 62;
@@ -11,7 +11,8 @@ pub const MOST_MOVES: usize = 62;
 /// The bytes of a list that `sledgewren_moves` is lent: 62 places of four bytes.
 pub const MOVES_BYTES: usize = 248;
 
-/// A man set from one square on another, taking what stood there.
+/// A man set from one square on another, taking what stood there. A pawn that reaches his last
+/// rank becomes a piece, and each of the four pieces makes a move of its own.
 #[derive(Clone, Copy, PartialEq, Eq, Hash, Debug)]
 pub struct Move {
     /// Where the man stands.
@@ -20,28 +21,42 @@ pub struct Move {
     pub to: Square,
     /// Whether a man of the other side stands there and is taken.
     pub takes: bool,
+    /// What a pawn becomes on his last rank; nothing in every other move.
+    pub becomes: Option<Man>,
 }
 
 impl Move {
-    /// The move of its four bytes: from-square, to-square, whether it takes, and 0.
+    /// The move of its four bytes: from-square, to-square, whether it takes, and what a pawn
+    /// becomes.
     pub(crate) fn from_bytes(bytes: [u8; 4]) -> Option<Move> {
-        let [from, to, takes @ (0 | 1), 0] = bytes else {
+        let [from, to, takes @ (0 | 1), becomes @ 0..=4] = bytes else {
             return None;
         };
         let (from, to) = (Square::from_code(from)?, Square::from_code(to)?);
-        Some(Move { from, to, takes: takes == 1 })
+        let becomes = becomes.checked_sub(1).and_then(Man::from_code);
+        Some(Move { from, to, takes: takes == 1, becomes })
+    }
+
+    /// What a pawn becomes as the library takes it: 1 + the piece's code, 0 for nothing.
+    pub fn becomes_byte(self) -> u8 {
+        self.becomes.map_or(0, |man| man.code() + 1)
     }
 }
 
-/// As the desk writes it: `h2g1`, or `a1xb2` where it takes.
+/// As the desk writes it: `h2g1`, or `a1xb2` where it takes; `a7a8q` where a pawn becomes a queen.
 impl fmt::Display for Move {
     fn fmt(&self, out: &mut fmt::Formatter) -> fmt::Result {
         let mark = if self.takes { "x" } else { "" };
-        write!(out, "{}{mark}{}", self.from, self.to)
+        write!(out, "{}{mark}{}", self.from, self.to)?;
+        match self.becomes {
+            Some(man) => write!(out, "{}", man.letter_of(Side::Black)),
+            None => Ok(()),
+        }
     }
 }
 
-/// The legal moves of a position by from-square, then to-square. It reads as a slice.
+/// The legal moves of a position by from-square, then to-square, then what a pawn becomes. It
+/// reads as a slice.
 #[derive(Clone, Debug)]
 pub struct Moves {
     list: [Move; MOST_MOVES],

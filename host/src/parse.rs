@@ -30,7 +30,7 @@ const MAN: &str = "a man: give Q, R, B, N or queen, rook, bishop, knight";
 const LETTER: &str = "a man: give Q, R, B or N for White's, q, r, b or n for Black's";
 const SIDE: &str = "a side: give w or b";
 pub(crate) const SQUARE: &str = "a square: give a1 to h8";
-const MOVE: &str = "a move: give h2g1, or a1xb2 where it takes";
+const MOVE: &str = "a move: give h2g1, a1xb2 where it takes, a7a8q where a pawn becomes a queen";
 const POSITION: &str =
     "a position: give man, side, white king, man and black king, as Q w b3 h2 a1";
 
@@ -54,18 +54,22 @@ impl FromStr for Side {
     }
 }
 
-/// `h2g1`, or `a1xb2` where it takes.
+/// `h2g1`, `a1xb2` where it takes, `a7a8q` where a pawn becomes a queen.
 impl FromStr for Move {
     type Err = NotRead;
 
     fn from_str(text: &str) -> Result<Move, NotRead> {
         let read = || {
             let (from, rest) = (text.get(..2)?, text.get(2..)?);
-            let (takes, to) = match rest.strip_prefix('x') {
-                Some(to) => (true, to),
+            let (takes, rest) = match rest.strip_prefix('x') {
+                Some(rest) => (true, rest),
                 None => (false, rest),
             };
-            Some(Move { from: from.parse().ok()?, to: to.parse().ok()?, takes })
+            let (to, piece) = (rest.get(..2)?, rest.get(2..)?);
+            let named = |man: &Man| man.letter_of(Side::Black).to_string() == piece;
+            let becomes = Man::ALL.into_iter().find(named);
+            (piece.is_empty() || becomes.is_some()).then_some(())?;
+            Some(Move { from: from.parse().ok()?, to: to.parse().ok()?, takes, becomes })
         };
         read().ok_or_else(|| NotRead::of(MOVE, text))
     }
@@ -114,8 +118,10 @@ mod tests {
         for from in Square::all() {
             for to in Square::all() {
                 for takes in [false, true] {
-                    let chosen = Move { from, to, takes };
-                    assert_eq!(chosen.to_string().parse(), Ok(chosen));
+                    for becomes in [None, Some(Man::Queen), Some(Man::Knight)] {
+                        let chosen = Move { from, to, takes, becomes };
+                        assert_eq!(chosen.to_string().parse(), Ok(chosen));
+                    }
                 }
             }
         }
@@ -133,7 +139,19 @@ mod tests {
         for text in ["", "W", "white"] {
             assert!(text.parse::<Side>().is_err(), "{text:?}");
         }
-        for text in ["", "h2", "h2-g1", "h2g", "h2g11", "h2xxg1", "\u{e9}1a1", "a1\u{e9}"] {
+        for text in [
+            "",
+            "h2",
+            "h2-g1",
+            "h2g",
+            "h2g11",
+            "h2xxg1",
+            "a7a8k",
+            "a7a8Q",
+            "a7a8qq",
+            "\u{e9}1a1",
+            "a1\u{e9}",
+        ] {
             assert!(text.parse::<Move>().is_err(), "{text:?}");
         }
         for text in ["", "Q w b3 h2", "Q  w b3 h2 a1", "Q w b3 h2 a1 ", "P w b3 h2 a1"] {

@@ -4,9 +4,9 @@ use std::fmt;
 
 use crate::{entry, Man, Move, Moves, Played, Refusal, Side, Square};
 
-/// Two kings and one man of either side, and the side to move. It need not be legal: men may
+/// Two kings and one piece of either side, and the side to move. It need not be legal: men may
 /// share a square, kings touch, and the side not to move be in check. The library says so where
-/// it matters.
+/// it matters. Two men, and a pawn, are given as [`Keyed`].
 #[derive(Clone, Copy, PartialEq, Eq, Hash, Debug)]
 pub struct Position {
     /// The man besides the kings.
@@ -49,10 +49,12 @@ impl Position {
         entry::moves(self)
     }
 
-    /// The position after a move, if it is legal; its two squares are asked and not its mark.
+    /// The position after a move, if it is legal; its squares and what a pawn becomes are asked and
+    /// not its mark.
     /// Refusals 4, 5, 6.
     pub fn play(self, chosen: Move) -> Result<Played, Refusal> {
-        let Some(after) = entry::play(self, chosen.from.code(), chosen.to.code())? else {
+        let (from, to, becomes) = (chosen.from.code(), chosen.to.code(), chosen.becomes_byte());
+        let Some(after) = entry::play(self, from, to, becomes)? else {
             return Ok(Played::NotLegal);
         };
         let kings = [after.white_king, after.black_king].map(Square::from_code);
@@ -66,7 +68,7 @@ impl Position {
         }
     }
 
-    /// The position of bytes that are one man's: side, squares, kind and colour as they can be.
+    /// The position of bytes that are one piece's: side, squares, kind and colour as they can be.
     pub fn keyed(keyed: Keyed) -> Option<Position> {
         let Keyed { side, white_king, black_king, men: [Some(first), None] } = keyed else {
             return None;
@@ -94,7 +96,7 @@ impl fmt::Display for Position {
 /// A man besides the kings as keyed: three bytes of any values.
 #[derive(Clone, Copy, PartialEq, Eq, Hash, Debug)]
 pub struct KeyedMan {
-    /// Material code; refused 1 above 3.
+    /// Material code, [`KeyedMan::PAWN`] for a pawn who stands alone; refused 1 above that.
     pub kind: u8,
     /// White's 0, Black's 1; refused 2 above 1.
     pub colour: u8,
@@ -103,6 +105,10 @@ pub struct KeyedMan {
 }
 
 impl KeyedMan {
+    /// A pawn's code. He stands on ranks 2 to 7, refused 18 elsewhere, and has no second man beside
+    /// him, refused 1.
+    pub const PAWN: u8 = 4;
+
     /// As the library takes him: kind, colour, square, and a byte that says that he is there.
     fn word(self) -> u32 {
         u32::from_le_bytes([self.kind, self.colour, self.square, 1])
@@ -110,8 +116,8 @@ impl KeyedMan {
 }
 
 /// A position as keyed: bytes of any values, and up to two men. The library tells which of them it
-/// refuses: none at all and one in the second place alone with 1, and two in the parts that serve
-/// one man only.
+/// refuses: none at all and one in the second place alone with 1, and two, or a pawn, in the parts
+/// that serve one piece only.
 #[derive(Clone, Copy, PartialEq, Eq, Hash, Debug)]
 pub struct Keyed {
     /// Side to move; refused 2 above 1.
@@ -125,6 +131,25 @@ pub struct Keyed {
 }
 
 impl Keyed {
+    /// King and pawn: whose he is, the side to move, the white king, the pawn and the black king.
+    pub fn pawn(
+        owner: Side,
+        side: Side,
+        white_king: Square,
+        pawn: Square,
+        black_king: Square,
+    ) -> Keyed {
+        let [white_king, square, black_king] = [white_king, pawn, black_king].map(Square::code);
+        let colour = owner.code();
+        Keyed::from([KeyedMan::PAWN, side.code(), white_king, square, black_king, colour])
+    }
+
+    /// The position after a move, if it is legal; its squares and what a pawn becomes are asked and
+    /// not its mark. With bare kings there is no man. Refusals 1 to 6 and 18.
+    pub fn play(self, chosen: Move) -> Result<Option<Keyed>, Refusal> {
+        entry::play(self, chosen.from.code(), chosen.to.code(), chosen.becomes_byte())
+    }
+
     /// The men as the library's C functions take them; 0 for none.
     pub fn words(self) -> [u32; 2] {
         self.men.map(|man| man.map_or(0, KeyedMan::word))

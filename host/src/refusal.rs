@@ -3,10 +3,11 @@
 use std::fmt;
 
 /// Why an entry point gives no answer. Where several apply the lowest counts, except that a
-/// line's shape comes first, then its check.
+/// line's shape comes first, then its check, and that 18 stands between 3 and 4.
 #[derive(Clone, Copy, PartialEq, Eq, Hash, Debug)]
 pub enum Refusal {
-    /// 1: a man's code above 3, or no ending's word; no man, or two where one is served.
+    /// 1: a man's code above 4, or no ending's word; no man, a pawn with a second man, or two men
+    /// or a pawn where one piece is served.
     BadMan = 1,
     /// 2: side not 0 or 1.
     BadSide = 2,
@@ -20,7 +21,7 @@ pub enum Refusal {
     OtherInCheck = 6,
     /// 7: a table not as long as its ending's, or pocket not 14,784 bytes.
     TableLength = 7,
-    /// 8: number above 59,135, or 3,784,703 with two men.
+    /// 8: number above 59,135, 3,784,703 with two men, 196,607 with a pawn.
     NumberTooHigh = 8,
     /// 9: number unused.
     NumberUnused = 9,
@@ -39,15 +40,17 @@ pub enum Refusal {
     NotInSet = 15,
     /// 16: more than 6 plies asked for.
     TooManyPlies = 16,
-    /// 17: a small table that an ending with two men leads into is not accepted.
+    /// 17: a small table that an ending with two men or a pawn leads into is not accepted.
     NotAccepted = 17,
+    /// 18: a pawn on rank 1 or 8; after 3 and before 4.
+    BadPawn = 18,
     /// 19: more than 99 plies since the last capture.
     TooManyQuiet = 19,
 }
 
 impl Refusal {
     /// All of them, in order.
-    pub const ALL: [Refusal; 18] = [
+    pub const ALL: [Refusal; 19] = [
         Refusal::BadMan,
         Refusal::BadSide,
         Refusal::BadSquare,
@@ -65,6 +68,7 @@ impl Refusal {
         Refusal::NotInSet,
         Refusal::TooManyPlies,
         Refusal::NotAccepted,
+        Refusal::BadPawn,
         Refusal::TooManyQuiet,
     ];
 
@@ -81,14 +85,20 @@ impl Refusal {
     /// What it says of what was keyed or lent, in chess words.
     pub fn reason(self) -> &'static str {
         match self {
-            Refusal::BadMan => "not one man besides the kings, or two where two are served: queen, rook, bishop, knight",
+            Refusal::BadMan => {
+                "not one man besides the kings, or two where two are served: queen, rook, bishop, \
+                 knight, or a pawn alone where he is served"
+            }
             Refusal::BadSide => "the side to move, or the man's, is neither White nor Black",
             Refusal::BadSquare => "a square that is not on the board",
             Refusal::SharedSquare => "two men on one square",
             Refusal::KingsTouch => "the kings stand side by side",
             Refusal::OtherInCheck => "the side that is not to move is in check",
             Refusal::TableLength => "a table is not as long as its ending's, or the pocket not 14,784 bytes",
-            Refusal::NumberTooHigh => "no position has so high a number; the last is 59,135, with two men 3,784,703",
+            Refusal::NumberTooHigh => {
+                "no position has so high a number; the last is 59,135, with two men 3,784,703, with \
+                 a pawn 196,607"
+            }
             Refusal::NumberUnused => "no position has this number",
             Refusal::TooDeep => "a mate takes more than 253 plies, which no table can say",
             Refusal::Inconsistent => {
@@ -100,7 +110,10 @@ impl Refusal {
             Refusal::WrongSet => "not a right set of tables, or not as long as its endings need",
             Refusal::NotInSet => "there is no table of this ending here",
             Refusal::TooManyPlies => "a second opinion goes 6 plies deep at most",
-            Refusal::NotAccepted => "a table of one man, which captures lead into, is not right",
+            Refusal::NotAccepted => {
+                "a table of one piece, which captures or promotions lead into, is not right"
+            }
+            Refusal::BadPawn => "a pawn stands on the first or the eighth rank",
             Refusal::TooManyQuiet => "at most 99 plies since the last capture can be keyed",
         }
     }
@@ -122,7 +135,7 @@ mod tests {
     #[test]
     fn numbers_come_back() {
         for code in 0..=255 {
-            let expected = matches!(code, 1..=17 | 19).then_some(code);
+            let expected = matches!(code, 1..=19).then_some(code);
             assert_eq!(Refusal::from_code(code).map(Refusal::code), expected);
         }
     }

@@ -98,7 +98,13 @@ fn what_was_said_is_repeated_whole() {
 
 #[test]
 fn refusals_1_and_7_leave_table_and_progress() {
-    let cases = [(4u32, TABLE_BYTES, 1), (255, 0, 1), (0, TABLE_BYTES - 1, 7), (3, 0, 7)];
+    let cases = [
+        (5u32, TABLE_BYTES, 1),
+        (255, 0, 1),
+        (4, TABLE_BYTES, 7),
+        (0, TABLE_BYTES - 1, 7),
+        (3, 0, 7),
+    ];
     for (man, length, code) in cases {
         let refused = Refusal::from_code(code).unwrap();
         let mut bytes = vec![1; length];

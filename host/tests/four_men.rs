@@ -2,7 +2,7 @@
 
 use sledgewren::entry::{self, Lent};
 use sledgewren::{Accepted, Checked, Ending, FourMen, Keyed, KeyedMan, Man, Refusal};
-use sledgewren::{LARGE_TABLE_BYTES, TABLE_BYTES};
+use sledgewren::{LARGE_TABLE_BYTES, PAWN_TABLE_BYTES, TABLE_BYTES};
 
 /// Two men, each as kind, colour and square.
 fn keyed(side: u8, white_king: u8, black_king: u8, men: [[u8; 3]; 2]) -> Keyed {
@@ -13,10 +13,27 @@ fn keyed(side: u8, white_king: u8, black_king: u8, men: [[u8; 3]; 2]) -> Keyed {
 #[test]
 fn endings() {
     for ending in Ending::all() {
-        let two = ending.second().is_some();
-        assert_eq!(ending.table_bytes(), if two { LARGE_TABLE_BYTES } else { TABLE_BYTES });
+        let bytes = match (ending.first(), ending.second()) {
+            (Some(_), None) => TABLE_BYTES,
+            (Some(_), Some(_)) => LARGE_TABLE_BYTES,
+            (None, _) => PAWN_TABLE_BYTES,
+        };
+        assert_eq!(ending.table_bytes(), bytes, "{ending}");
     }
-    for word in [4, 255, 0x102, 0x500, 0x1_0000, 0x1_0001, 0x2_0100, 0x101 | 1 << 24, u32::MAX] {
+    for word in [
+        5,
+        255,
+        0x102,
+        0x104,
+        0x504,
+        0x1_0104,
+        0x500,
+        0x1_0000,
+        0x1_0001,
+        0x2_0100,
+        0x101 | 1 << 24,
+        u32::MAX,
+    ] {
         assert_eq!((Ending::from_word(word), entry::table_bytes(word)), (None, 0), "{word:#x}");
         assert_eq!(entry::position(word, 0), Err(Refusal::BadMan), "{word:#x}");
     }
@@ -46,7 +63,7 @@ fn numbers_come_back() {
                 black_king: found.white_king,
                 men: found.men.map(|man| man.map(other)),
             };
-            let alike = ending.is_rivals() && ending.second() == Some(ending.first());
+            let alike = ending.is_rivals() && ending.second() == ending.first();
             assert!(alike || entry::number(exchanged) == Ok(number), "{ending}");
         }
     }
@@ -56,17 +73,18 @@ fn numbers_come_back() {
 #[test]
 fn captures() {
     let before = keyed(0, 18, 60, [[1, 1, 59], [0, 0, 27]]);
-    let after = entry::play(before, 27, 59).unwrap().unwrap();
+    let after = entry::play(before, 27, 59, 0).unwrap().unwrap();
     let queen = KeyedMan { kind: 0, colour: 0, square: 59 };
     assert_eq!(after.men, [Some(queen), None]);
-    assert_eq!(entry::play(after, 60, 59).unwrap().unwrap().men, [None, None]);
-    assert_eq!(entry::play(before, 27, 60), Ok(None));
+    assert_eq!(entry::play(after, 60, 59, 0).unwrap().unwrap().men, [None, None]);
+    assert_eq!(entry::play(before, 27, 60, 0), Ok(None));
 }
 
 #[test]
 fn refusals() {
     let cases = [
         (keyed(0, 18, 60, [[4, 0, 27], [1, 0, 7]]), Refusal::BadMan),
+        (keyed(0, 18, 60, [[0, 0, 27], [4, 0, 7]]), Refusal::BadMan),
         (keyed(0, 18, 60, [[0, 0, 27], [1, 2, 7]]), Refusal::BadSide),
         (keyed(0, 18, 60, [[0, 0, 27], [1, 0, 64]]), Refusal::BadSquare),
         (keyed(0, 18, 60, [[0, 0, 27], [1, 0, 27]]), Refusal::SharedSquare),

@@ -44,14 +44,18 @@ fn not_legal() {
     }
     let keyed = Keyed::from(position("Q w b3 h2 a1"));
     for (from, to) in [(15, 64), (64, 8), (255, 255), (15, 255)] {
-        assert_eq!(entry::play(keyed, from, to), Ok(None), "{from} {to}");
+        assert_eq!(entry::play(keyed, from, to, 0), Ok(None), "{from} {to}");
+    }
+    // A legal move's squares, and a piece that nothing becomes.
+    for becomes in 1..=255 {
+        assert_eq!(entry::play(keyed, 15, 8, becomes), Ok(None), "{becomes}");
     }
 }
 
 #[test]
 fn refusals() {
     let cases = [
-        ([4, 0, 17, 15, 0], Refusal::BadMan),
+        ([5, 0, 17, 15, 0], Refusal::BadMan),
         ([0, 2, 17, 15, 0], Refusal::BadSide),
         ([0, 0, 64, 15, 0], Refusal::BadSquare),
         ([0, 0, 17, 17, 0], Refusal::SharedSquare),
@@ -59,7 +63,7 @@ fn refusals() {
         ([0, 0, 17, 9, 0], Refusal::OtherInCheck),
     ];
     for (keyed, refusal) in cases {
-        assert_eq!(entry::play(keyed, 15, 8), Err(refusal), "{keyed:?}");
+        assert_eq!(entry::play(keyed, 15, 8, 0), Err(refusal), "{keyed:?}");
     }
 }
 

@@ -9,9 +9,9 @@ use sledgewren::{Desk, Keyed, KeyedMan, Man, Refusal, Table, TABLE_BYTES};
 /// Five bytes as keyed and the refusal they meet at the move list and look-up, if any. Each row
 /// but the last also has faults with higher numbers.
 const KEYED: [([u8; 5], u8); 21] = [
-    ([4, 2, 64, 64, 64], 1),
+    ([5, 2, 64, 64, 64], 1),
     ([255, 0, 0, 1, 63], 1),
-    ([4, 0, 0, 0, 1], 1),
+    ([5, 0, 0, 0, 1], 1),
     ([0, 2, 64, 0, 0], 2),
     ([3, 255, 0, 0, 1], 2),
     ([1, 2, 0, 7, 63], 2),
@@ -70,7 +70,7 @@ fn men_and_colours() {
         (keyed(0, [None, None]), 1),
         (keyed(0, [None, white]), 1),
         (keyed(2, [None, black]), 1),
-        (keyed(0, [Some([4, 2, 64]), None]), 1),
+        (keyed(0, [Some([5, 2, 64]), None]), 1),
         (keyed(0, [Some([0, 2, 64]), None]), 2),
         (keyed(2, [Some([0, 1, 64]), None]), 2),
         (keyed(1, [Some([3, 255, 0]), None]), 2),
@@ -99,7 +99,7 @@ fn men_and_colours() {
 
 #[test]
 fn one_before_all() {
-    for man in [4u8, 5, 128, 255] {
+    for man in [5u8, 6, 128, 255] {
         assert_eq!(entry::position(man, u32::MAX), Err(Refusal::BadMan));
         assert_eq!(entry::fill(man, Lent::NONE, &mut [1, 2, 3]), Err(Refusal::BadMan));
         assert_eq!(entry::check(man, Lent::NONE, &[1, 2, 3]), Err(Refusal::BadMan));

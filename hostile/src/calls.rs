@@ -6,10 +6,12 @@ use second::table::{check as second_check, Checked as SecondChecked};
 use second::{desk as second_desk, fill_back};
 use sledgewren::{Desk, Keyed, KeyedMan, Refusal, TABLE_BYTES};
 
-use crate::lent::{self, Given, NONE};
+use crate::lent::{self, Given, NONE, PAWN};
 use crate::lines::{Input, SHORT};
+use crate::pawn_due;
 use crate::sequence::Sequence;
-use crate::two::{compare_list, compare_look_up, compare_number, placed_word};
+use crate::two::{compare_list, compare_look_up, compare_number};
+use crate::words::{placed_word, word};
 
 /// Answers compared, and those that differ.
 #[derive(Default)]
@@ -121,8 +123,10 @@ pub fn random_boards(sequence: &mut Sequence, tally: &mut Tally) {
 /// Numbers back, of right and wrong codes and numbers.
 pub fn numbers(sequence: &mut Sequence, tally: &mut Tally) {
     let mut compare = |man: u8, number: u32| {
-        let theirs = refused(back(man, number as u64));
-        let due = theirs.map_or_else(u64::from, |position| placed_word((&position).into()));
+        let due = match man as u32 {
+            PAWN => pawn_due::position(number),
+            _ => word(back(man, number as u64), |position| placed_word(&position.keyed())),
+        };
         tally.add("position", &(man, number), lent::position(man as u32, number), due);
     };
     for man in [0, 1, 2, 3, 4, 255] {
@@ -152,8 +156,12 @@ fn random_table(sequence: &mut Sequence, man: u8, manner: usize) -> Vec<u8> {
     table
 }
 
+/// Without small tables a pawn's ending is refused 7, whatever its own table's length.
+const NO_RUN: Refused = Refused(7);
+
 fn compare_check(man: u8, table: &[u8], tally: &mut Tally) {
-    let due = refused(second_check(man, table)).map_or_else(u64::from, |checked| match checked {
+    let checked = if man as u32 == PAWN { Err(NO_RUN) } else { second_check(man, table) };
+    let due = word(checked, |checked| match checked {
         SecondChecked::Accepted => 0,
         SecondChecked::Wrong(number) => 1 << 8 | (number as u64) << 32,
     });
@@ -182,7 +190,11 @@ pub fn lengths(tally: &mut Tally) {
         for len in [0, 1, 2, 14_784, TABLE_BYTES - 1, TABLE_BYTES, TABLE_BYTES + 1, 1 << 20] {
             for dirt in [0, 1, 165] {
                 let (mut one, mut other) = (vec![dirt; len], vec![dirt; len]);
-                let due = match fill_back::fill(man, &mut other) {
+                let filled = match man as u32 {
+                    PAWN => Err(NO_RUN),
+                    _ => fill_back::fill(man, &mut other),
+                };
+                let due = match filled {
                     Ok(greatest) => greatest.map_or(0, |depth| 1 << 8 | (depth as u32) << 16),
                     Err(Refused(code)) => code as u32,
                 };

@@ -1,14 +1,21 @@
-//! The library's functions for one man and for two, on any bytes and any lengths: whole answers, as
-//! `include/sledgewren.h` has them.
+//! The library's functions for one man, for two and for a pawn, on any bytes and any lengths: whole
+//! answers, as `include/sledgewren.h` has them.
 
 use sledgewren::ffi as c;
 
-/// Lengths of the tables of one man and of two, and of a list of moves.
+/// Lengths of the tables of one man, of two and of a pawn, of the four small tables in one run, and of
+/// a list of moves.
 pub const SMALL_BYTES: usize = 59_136;
 pub const LARGE_BYTES: usize = 3_784_704;
+pub const PAWN_BYTES: usize = 196_608;
+pub const RUN_BYTES: usize = 4 * SMALL_BYTES;
 pub const LIST_BYTES: usize = 248;
 
-/// The two tables of one man that an ending of two is lent; with one man they are not read.
+/// The ending of king and pawn, which is also the pawn's code.
+pub const PAWN: u32 = 4;
+
+/// The two tables of one man that an ending of two is lent; a pawn's ending is lent all four in one
+/// run as the first, and the second is not read; with one man neither is.
 pub type Small<'a> = [&'a [u8]; 2];
 
 pub const NONE: Small<'static> = [&[], &[]];
@@ -71,6 +78,13 @@ pub fn moves(given: Given, list: &mut [u8]) -> u32 {
     let (start, len) = (list.as_mut_ptr(), list.len());
     // SAFETY: `start` leads to `len` bytes that nothing else refers to.
     unsafe { c::sledgewren_moves(side, white, black, first, second, start, len) }
+}
+
+/// `becomes` is 0, or 1 + the kind of the piece that a pawn becomes.
+pub fn play(given: Given, from: u8, to: u8, becomes: u8) -> u64 {
+    let Given { side, white, black, first, second } = given;
+    // SAFETY: no pointers.
+    unsafe { c::sledgewren_play(side, white, black, first, second, from, to, becomes) }
 }
 
 pub fn fill(ending: u32, [one, two]: Small, table: &mut [u8]) -> u32 {

@@ -5,7 +5,7 @@ use second::steps::{start, step, Progress, Step};
 use sledgewren::TABLE_BYTES;
 
 use crate::calls::Tally;
-use crate::lent::{self, NONE};
+use crate::lent::{self, NONE, PAWN};
 use crate::sequence::Sequence;
 
 /// What the word of a progress says, by `include/sledgewren.h`.
@@ -29,9 +29,13 @@ fn handed(word: u32, next: Progress) -> u32 {
     }
 }
 
-/// The answer of `sledgewren_fill_step`: refusal, numbers settled, progress.
+/// The answer of `sledgewren_fill_step`: refusal, numbers settled, progress. A pawn's code is an
+/// ending's, refused 7 where no small tables are lent.
 fn due(man: u8, table: &mut [u8], word: u32) -> u64 {
-    let (answer, next) = step(man, table, meaning(word));
+    let (answer, next) = match man as u32 {
+        PAWN => (Err(Refused(7)), meaning(word)),
+        _ => step(man, table, meaning(word)),
+    };
     let low = match answer {
         Ok(Step::Settled(count)) => (count as u64) << 8,
         Ok(Step::Done(_)) => 0,

@@ -11,9 +11,11 @@ use second::symmetry::mapped;
 use second::table::Answer;
 
 use crate::calls::Tally;
-use crate::lent::{self, a_man, two_men, Given, Small, LARGE_BYTES, LIST_BYTES};
+use crate::lent::{self, a_man, two_men, Given, Small};
+use crate::lent::{LARGE_BYTES, LIST_BYTES, PAWN, PAWN_BYTES, SMALL_BYTES};
+use crate::pawn_due;
 use crate::sequence::Sequence;
-use crate::words::{answer_word, compare_plays, man, move_word, number_word, word};
+use crate::words::{answer_word, compare_plays, man, move_word, number_word, placed_word, word};
 
 /// One number in so many is taken for a sample.
 const ONE_IN: usize = 97;
@@ -45,6 +47,9 @@ fn mark(answer: Answer, count: u32) -> u64 {
 
 /// Refusal 19 is asked after all others.
 pub(crate) fn look_up_due(keyed: &Keyed, count: u32, small: Small, table: &[u8]) -> u64 {
+    if pawn_due::is_lone(keyed) {
+        return pawn_due::look_up(keyed, count, small[0], table);
+    }
     match second_look_up(table, small, keyed) {
         Err(Refused(code)) => code as u64,
         Ok(_) if count > 99 => 19,
@@ -60,6 +65,9 @@ pub fn compare_look_up(given: Given, count: u32, small: Small, table: &[u8], tal
 
 /// The list's bytes and the answer.
 pub(crate) fn list_due(keyed: &Keyed) -> ([u8; LIST_BYTES], u64) {
+    if pawn_due::is_lone(keyed) {
+        return pawn_due::list(keyed);
+    }
     let mut list = [0; LIST_BYTES];
     let answer = word(legal_placement(keyed, Limit::TwoMen), |placement| {
         let found = second_moves(&placement);
@@ -81,22 +89,18 @@ pub(crate) fn compare_list(given: Given, tally: &mut Tally) {
 }
 
 pub(crate) fn compare_number(given: Given, tally: &mut Tally) {
-    let due = number_word(second_number(&keyed(given), Limit::TwoMen));
+    let due = match keyed(given) {
+        pawn if pawn_due::is_lone(&pawn) => pawn_due::number(&pawn),
+        men => number_word(second_number(&men, Limit::TwoMen)),
+    };
     tally.add("number's word", &given, lent::number(given) as u64, due);
-}
-
-/// Bits 8-15 side, 16-23 white king, 24-31 first man, 32-39 black king, 40-47 second man.
-pub(crate) fn placed_word(placement: Placement) -> u64 {
-    let Keyed { side, white_king, black_king, men } = placement.keyed();
-    let [first, second] = men.map(|man| man.map_or(64, |man| man.square));
-    let bytes = [0, side, white_king, first, black_king, second, 0, 0];
-    u64::from_le_bytes(bytes)
 }
 
 /// The position of a number, of any codes.
 pub fn compare_back(codes: [u8; 2], one_each: bool, number: u32, tally: &mut Tally) {
     let found = lent::position(two_men(codes, one_each), number);
-    let due = word(back(codes, one_each, number as u64), placed_word);
+    let due =
+        word(back(codes, one_each, number as u64), |men: Placement| placed_word(&men.keyed()));
     tally.add("position's word", &(codes, one_each, number), found, due);
 }
 
@@ -161,20 +165,20 @@ fn random_given(ending: Ending, sequence: &mut Sequence) -> Given {
 }
 
 /// The ending of any two words, and the length of its table.
-fn compare_ending(given: Given, tally: &mut Tally) {
+pub(crate) fn compare_ending(given: Given, tally: &mut Tally) {
     let men = [given.first, given.second].map(man);
     let kinds: Vec<u8> = men.iter().flatten().map(|man| man.kind).collect();
-    let due = match (&kinds[..], men) {
-        (&[kind], _) if kind < 4 => kind as u32,
+    let (due, length) = match (&kinds[..], men) {
+        (&[kind], _) if kind < 4 => (kind as u32, SMALL_BYTES),
+        (&[kind], _) if kind as u32 == PAWN => (PAWN, PAWN_BYTES),
         (&[one, two], [Some(a), Some(b)]) if one.max(two) < 4 => {
-            two_men([one.min(two), one.max(two)], a.colour != b.colour)
+            (two_men([one.min(two), one.max(two)], a.colour != b.colour), LARGE_BYTES)
         }
-        _ => u32::MAX,
+        _ => (u32::MAX, 0),
     };
-    let length = [0, 59_136, LARGE_BYTES as u32][if due == u32::MAX { 0 } else { kinds.len() }];
     let found = lent::ending(given.first, given.second);
     tally.add("ending's word", &given, found, due);
-    tally.add("table's length", &due, lent::table_bytes(due), length);
+    tally.add("table's length", &due, lent::table_bytes(due), length as u32);
 }
 
 /// Any words as men: all functions that take a position.

@@ -12,7 +12,7 @@ use second::steps::Step;
 use second::table::Checked;
 
 use crate::calls::{filled, Tally};
-use crate::lent::{self, two_men, Small, LARGE_BYTES, SMALL_BYTES};
+use crate::lent::{self, two_men, Small, LARGE_BYTES, PAWN, SMALL_BYTES};
 use crate::sequence::Sequence;
 use crate::steps::Kinds;
 use crate::two::{compare_look_up, given};
@@ -24,7 +24,7 @@ const LENGTHS: [usize; 7] =
 /// Words given that are no ending's.
 const WORDS: usize = 2_000;
 
-fn code<T>(answer: Result<T, Refused>, said: impl FnOnce(T) -> u64) -> u64 {
+pub(crate) fn code<T>(answer: Result<T, Refused>, said: impl FnOnce(T) -> u64) -> u64 {
     answer.map_or_else(|Refused(code)| code as u64, said)
 }
 
@@ -35,7 +35,7 @@ pub fn checked_word(checked: Checked) -> u64 {
     }
 }
 
-fn filled_word(greatest: Option<u8>) -> u64 {
+pub(crate) fn filled_word(greatest: Option<u8>) -> u64 {
     greatest.map_or(0, |depth| 1 << 8 | (depth as u64) << 16)
 }
 
@@ -115,8 +115,10 @@ pub fn wrong_words(sequence: &mut Sequence, tally: &mut Tally) {
 
 /// A word that is no ending's: any bits, or an ending's with one bit altered or its kinds exchanged.
 fn any_ending(sequence: &mut Sequence) -> u32 {
-    let right: Vec<u32> =
-        Ending::all().map(|ending| two_men(ending.codes(), ending.one_each)).chain(0..4).collect();
+    let right: Vec<u32> = Ending::all()
+        .map(|ending| two_men(ending.codes(), ending.one_each))
+        .chain(0..=PAWN)
+        .collect();
     loop {
         let near = right[sequence.below(right.len())];
         let word = match sequence.below(4) {
@@ -155,12 +157,12 @@ pub fn unaccepted(sequence: &mut Sequence, tally: &mut Tally) -> u64 {
     refused
 }
 
-/// What the word of a progress says. The last depth settled is the word's only where a lent table
-/// holds the depth before or more: else the step before settled its depth, or would have said done.
-fn meaning(word: u32, small: Small) -> Progress {
+/// What the word of a progress says, where the lent tables' greatest depth is this. The last depth
+/// settled is the word's only where a lent table holds the depth before or more: else the step before
+/// settled its depth, or would have said done.
+pub(crate) fn meaning(word: u32, lent: Option<u8>) -> Progress {
     let [stage, low, high, last] = word.to_le_bytes();
     let next = (u16::from_le_bytes([low, high]) as u64).min(254);
-    let lent = small_sized(small).ok().and_then(greatest_lent);
     match stage {
         0 if next == 0 => Progress::Next(0, None),
         0 if lent.is_some_and(|lent| lent as u64 + 1 >= next) => {
@@ -173,7 +175,7 @@ fn meaning(word: u32, small: Small) -> Progress {
 }
 
 /// The word that a step hands back: as it was, or anew.
-fn handed(word: u32, before: Progress, next: Progress) -> u32 {
+pub(crate) fn handed(word: u32, before: Progress, next: Progress) -> u32 {
     let last = |last: Option<u8>| last.map_or(0, |depth| (depth as u32 + 1) << 24);
     match (before, next) {
         (Progress::Next(..), Progress::Next(depth, settled)) => (depth as u32) << 8 | last(settled),
@@ -198,7 +200,7 @@ fn compare_step(
     let (codes, one_each) = (ending.codes(), ending.one_each);
     let mut other = large.to_vec();
     let answer = lent::fill_step(two_men(codes, one_each), word, small, large);
-    let before = meaning(word, small);
+    let before = meaning(word, small_sized(small).ok().and_then(greatest_lent));
     let (said, next) = step(codes, one_each, &mut other, small, before);
     let kept = matches!(said, Err(Refused(1 | 7)));
     let low = code(said, |said| match said {
@@ -223,7 +225,7 @@ pub fn run(ending: Ending, small: Small, tally: &mut Tally) -> Vec<u8> {
     large
 }
 
-fn random_word(sequence: &mut Sequence) -> u32 {
+pub(crate) fn random_word(sequence: &mut Sequence) -> u32 {
     let next = match sequence.below(4) {
         0 => sequence.any() as u32 & 0xffff,
         1 => 250 + sequence.below(8) as u32,
@@ -237,7 +239,7 @@ fn random_word(sequence: &mut Sequence) -> u32 {
     stage | next << 8 | (sequence.byte() as u32) << 24
 }
 
-fn random_bytes(length: usize, next: u32, sequence: &mut Sequence) -> Vec<u8> {
+pub(crate) fn random_bytes(length: usize, next: u32, sequence: &mut Sequence) -> Vec<u8> {
     let depth = (next.min(253) + 2) as u8;
     let near = [1, 1, depth - 1, depth];
     let stocks: [&[u8]; 5] = [&near, &[0, 1, 2, 3, 4, 5], &[1, 255], &[0, 1], &[1, 1, 2, 254, 255]];

@@ -12,7 +12,8 @@ use second::table::Answer;
 use sledgewren::{ffi, POCKET_BYTES};
 
 use crate::calls::{filled, Tally};
-use crate::lent::{Given, NONE};
+use crate::lent::{self, Given, NONE};
+use crate::pawn_due;
 use crate::sequence::Sequence;
 use crate::two::{compare_list, compare_look_up, compare_number, keyed, list_due};
 
@@ -64,14 +65,19 @@ pub(crate) fn move_word(Move { from, to, takes }: Move) -> u32 {
     u32::from_le_bytes([from, to, takes as u8, 0])
 }
 
-pub(crate) fn answer_word(Answer { value, best }: Answer) -> u64 {
+/// A value and the four bytes of a move.
+pub(crate) fn value_word(value: Value, best: Option<u32>) -> u64 {
     let (value, depth) = match value {
         Value::Win(depth) => (1, depth),
         Value::Loss(depth) => (2, depth),
         Value::Draw => (3, 0),
     };
-    let given = best.map_or(0, |best| 1 << 24 | (move_word(best) as u64) << 32);
+    let given = best.map_or(0, |best| 1 << 24 | (best as u64) << 32);
     value << 8 | (depth as u64) << 16 | given
+}
+
+pub(crate) fn answer_word(Answer { value, best }: Answer) -> u64 {
+    value_word(value, best.map(move_word))
 }
 
 /// Bit 25 is the mark.
@@ -102,32 +108,58 @@ fn short_man(man: Option<KeyedMan>) -> u64 {
     })
 }
 
-fn played_word(keyed: &Keyed, from: u8, to: u8) -> u64 {
+/// Bits 8-15 side, 16-23 white king, 24-31 first man, 32-39 black king, 40-47 second man or 64.
+pub(crate) fn placed_word(keyed: &Keyed) -> u64 {
+    let [first, second] = keyed.men.map(|man| man.map_or(64, |man| man.square));
+    let bytes = [0, keyed.side, keyed.white_king, first, keyed.black_king, second, 0, 0];
+    u64::from_le_bytes(bytes)
+}
+
+/// Play's answer to a move that is not legal.
+pub(crate) const NOT_LEGAL: u64 = 1 << 15;
+
+/// Play's answer: the position after the move.
+pub(crate) fn played_word(after: &Keyed) -> u64 {
+    let Keyed { side, white_king, black_king, men } = *after;
+    let low = u64::from(side) << 8 | u64::from(white_king) << 16;
+    low | u64::from(black_king) << 24 | short_man(men[0]) << 32 | short_man(men[1]) << 48
+}
+
+/// Only a pawn becomes anything: of one man or two every other byte than 0 is no legal move's.
+fn play_due(keyed: &Keyed, from: u8, to: u8, becomes: u8) -> u64 {
+    if pawn_due::is_lone(keyed) {
+        return pawn_due::played(keyed, from, to, becomes);
+    }
     word(legal_placement(keyed, Limit::TwoMen), |placement| {
         let list = moves(&placement);
-        let named = |chosen: &&Move| (chosen.from, chosen.to) == (from, to);
-        list.as_slice().iter().find(named).map_or(1 << 15, |&chosen| {
-            let Keyed { side, white_king, black_king, men } = play(&placement, chosen).keyed();
-            let low = u64::from(side) << 8 | u64::from(white_king) << 16;
-            low | u64::from(black_king) << 24 | short_man(men[0]) << 32 | short_man(men[1]) << 48
-        })
+        let named = |chosen: &&Move| (chosen.from, chosen.to, 0) == (from, to, becomes);
+        let found = list.as_slice().iter().find(named);
+        found.map_or(NOT_LEGAL, |&chosen| played_word(&play(&placement, chosen).keyed()))
     })
 }
 
 /// The position after a move, legal or not.
-fn compare_play(given: Given, from: u8, to: u8, tally: &mut Tally) {
-    let Given { side, white, black, first, second } = given;
-    // SAFETY: no pointers.
-    let found = unsafe { ffi::sledgewren_play(side, white, black, first, second, from, to) };
-    let due = played_word(&keyed(given), from, to);
-    tally.add("play's word", &(given, from, to), found, due);
+pub(crate) fn compare_play(given: Given, from: u8, to: u8, becomes: u8, tally: &mut Tally) {
+    let found = lent::play(given, from, to, becomes);
+    let due = play_due(&keyed(given), from, to, becomes);
+    tally.add("play's word", &(given, from, to, becomes), found, due);
 }
 
-/// Every move of the oracle's list played, and one of any two bytes.
+/// Every move of the oracle's list played, one of them as another promotion or as none, and one of
+/// any bytes.
 pub(crate) fn compare_plays(given: Given, sequence: &mut Sequence, tally: &mut Tally) {
     let list = list_due(&keyed(given)).0;
-    for chosen in list.chunks_exact(4).take_while(|bytes| bytes[..2] != [0, 0]) {
-        compare_play(given, chosen[0], chosen[1], tally);
+    let mut any_piece = || match sequence.below(4) {
+        0 => sequence.byte(),
+        _ => sequence.below(7) as u8,
+    };
+    let (other, another) = (any_piece(), any_piece());
+    let chosen: Vec<&[u8]> = list.chunks_exact(4).take_while(|four| four[..2] != [0, 0]).collect();
+    for four in &chosen {
+        compare_play(given, four[0], four[1], four[3], tally);
+    }
+    if let Some(four) = chosen.get(sequence.below(chosen.len())) {
+        compare_play(given, four[0], four[1], other, tally);
     }
     let from = match sequence.below(4) {
         0 => sequence.byte(),
@@ -136,7 +168,8 @@ pub(crate) fn compare_plays(given: Given, sequence: &mut Sequence, tally: &mut T
         _ => (given.first >> 16) as u8,
     };
     let to = if sequence.below(8) == 0 { sequence.byte() } else { sequence.below(64) as u8 };
-    compare_play(given, from, to, tally);
+    let becomes = if sequence.below(2) == 0 { 0 } else { another };
+    compare_play(given, from, to, becomes, tally);
 }
 
 /// The look-up in a pocket.

@@ -18,20 +18,21 @@ use crate::position::{Man, Position, Refused, MEN};
 use crate::samples::{self, Line};
 use crate::table::{check, look_up, Checked};
 use crate::{
-    commands_four, commands_four_lines, commands_pocket, commands_search, commands_set,
-    commands_steps,
+    commands_four, commands_four_lines, commands_pawn, commands_pocket, commands_search,
+    commands_set, commands_steps,
 };
-use crate::{fill_back, fill_every, four_back, four_every, selftest, selftest_four};
+use crate::{fill_back, fill_every, four_back, four_every};
+use crate::{selftest, selftest_four, selftest_pawn};
 
 pub const USAGE: &str = "\
 usage: oracle SUBCOMMAND [ARGUMENTS]     (MAN is Q, R, B or N; ENDING KQRK, KQKR and so on)
 
   table MAN               write the 59,136 bytes of the true table
   counts [MAN|ENDING ...] counts of each table's bytes, and its checksum
-  moves [two]             list the legal moves of each line on standard input
+  moves [two | pawn]      list the legal moves of each line on standard input
   positions [both]        write input lines for moves
   numbers                 go over all numbers and back, with checksums
-  number [two]            number each line on standard input
+  number [two | pawn]     number each line on standard input
   back                    read `man number` lines, write side and squares
   typed                   write each number on standard input with its check digits
   check MAN FILE          check a table: accepted, wrong N or refused N
@@ -66,13 +67,27 @@ usage: oracle SUBCOMMAND [ARGUMENTS]     (MAN is Q, R, B or N; ENDING KQRK, KQKR
   four-positions          write the test program's input lines
   four-cases              number, count of moves, first and last move of each line
   selftest-four           hold two men's part to outside truth
+  pawn-table              write the 196,608 bytes of the pawn's true table
+  pawn-counts             counts of its bytes, and its checksum
+  pawn-sums               the same in one line
+  pawn-numbers            go over all numbers and back, with checksums
+  pawn-steps              fill in steps: each step's answer and checksum
+  pawn-back               read numbers, write side and squares
+  pawn-check FILE Q R B N check a table beside the four lent ones
+  pawn-lookup FILE Q R B N
+                          look up each line with a lone pawn or one man
+  pawn-slips              the same in the true tables
+  pawn-positions          write the test program's input lines
+  pawn-cases              number, moves and slip of each line
+  selftest-pawn           hold the pawn's part to outside truth
   --help                  write this text
 
 Lines for moves, number, lookup, pocket and search hold five decimal numbers
 from 0 to 255: man side whiteking mansquare blackking (queen 0, rook 1, bishop 2, knight 3;
 White 0, Black 1; square = 8 x rank + file, a1 = 0, h8 = 63). A sixth is the man's colour,
 White's if it is left out; three more key a second man: man colour mansquare, refused 1 but
-where `two` is said or the subcommand is one of two men. Samples are of
+where `two` or `pawn` is said or the subcommand is one of two men. A lone pawn is man 4,
+refused 1 but where `pawn` is said or the subcommand is one of the pawn's. Samples are of
 White's man, or with `both` of both colours, the colour written.
 Exit status: 0 done, 1 failed self test or stream, 2 bad usage or malformed line.
 ";
@@ -114,7 +129,7 @@ fn dispatch(name: &str, rest: &[OsString], output: &mut Out) -> Done {
     }
 }
 
-/// The subcommands of two men.
+/// The subcommands of two men and of the pawn.
 fn dispatch_four(name: &str, rest: &[OsString], output: &mut Out) -> Done {
     match name {
         "moves" => commands_four_lines::list_moves(rest, output),
@@ -127,6 +142,8 @@ fn dispatch_four(name: &str, rest: &[OsString], output: &mut Out) -> Done {
         "four-steps" => commands_four::steps(rest, output),
         "four-fill-every" => commands_four::timed(name, four_every::fill, rest, output),
         "four-fill-back" => commands_four::timed(name, four_back::fill, rest, output),
+        "pawn-check" => commands_pawn::check_file(rest, output),
+        "pawn-lookup" => commands_pawn::look_up_lines(rest, output),
         _ => without_arguments(name, rest, output),
     }
 }
@@ -136,6 +153,15 @@ fn without_arguments(name: &str, rest: &[OsString], output: &mut Out) -> Done {
         "numbers" => numbers,
         "four-positions" => commands_four_lines::sample_lines,
         "four-cases" => commands_four_lines::case_lines,
+        "pawn-table" => commands_pawn::table,
+        "pawn-counts" => commands_pawn::counts,
+        "pawn-sums" => commands_pawn::sums,
+        "pawn-numbers" => commands_pawn::numbers,
+        "pawn-steps" => commands_pawn::steps,
+        "pawn-back" => commands_pawn::back_lines,
+        "pawn-slips" => commands_pawn::slips,
+        "pawn-positions" => commands_pawn::sample_lines,
+        "pawn-cases" => commands_pawn::case_lines,
         "back" => back_lines,
         "typed" => typed_lines,
         "desk" => |output| desk::run(io::stdin().lock(), output),
@@ -143,6 +169,7 @@ fn without_arguments(name: &str, rest: &[OsString], output: &mut Out) -> Done {
         "bench-positions" => bench_positions,
         "selftest" => |output| selftest::run(output),
         "selftest-four" => |output| selftest_four::run(output),
+        "selftest-pawn" => |output| selftest_pawn::run(output),
         "--help" | "-h" | "help" => |output| Ok(output.write_all(USAGE.as_bytes())?),
         _ => return usage(format!("no subcommand `{name}`; see oracle --help")),
     };

@@ -10,50 +10,87 @@ use crate::failure::{usage, Done, Failure};
 use crate::four_number::{back, number, NUMBERS_OF_TWO};
 use crate::four_samples;
 use crate::four_table::{check, look_up};
-use crate::laws::{legal_placement, moves};
+use crate::laws::{legal, legal_placement, moves};
 use crate::lines::{for_each_keyed, for_each_numbers};
 use crate::number::NUMBERS;
+use crate::pawn_number;
+use crate::pawn_position::Placed;
+use crate::pawn_rules::{self, pawn_move_name};
 use crate::placement::{Limit, Placement};
-use crate::position::Keyed;
+use crate::position::{Keyed, Refused};
 use crate::rules::move_name;
 use crate::table::Checked;
 
-/// How many men a line may have: two with the word `two`.
-pub fn limit_named(command: &str, rest: &[OsString]) -> Result<Limit, Failure> {
-    match rest {
-        [] => Ok(Limit::OneMan),
-        [word] if word == "two" => Ok(Limit::TwoMen),
-        _ => usage(format!("{command} takes no argument but `two`, for up to two men")),
+/// What a line may key.
+#[derive(Clone, Copy)]
+enum Takes {
+    Men(Limit),
+    /// Up to two men, or a lone pawn: all that the host's library takes.
+    PawnToo,
+}
+
+impl Takes {
+    fn named(command: &str, rest: &[OsString]) -> Result<Takes, Failure> {
+        match rest {
+            [] => Ok(Takes::Men(Limit::OneMan)),
+            [word] if word == "two" => Ok(Takes::Men(Limit::TwoMen)),
+            [word] if word == "pawn" => Ok(Takes::PawnToo),
+            _ => usage(format!("{command} takes no argument but `two` or `pawn`")),
+        }
+    }
+
+    fn placed(self, keyed: &Keyed) -> Result<Placed, Refused> {
+        match self {
+            Takes::Men(limit) => keyed.placement(limit).map(Placed::Men),
+            Takes::PawnToo => keyed.any_placed(),
+        }
     }
 }
 
-fn moves_text(keyed: &Keyed, limit: Limit) -> String {
-    let placement = match legal_placement(keyed, limit) {
-        Ok(placement) => placement,
-        Err(refused) => return refused_text(refused),
-    };
-    let list = moves(&placement);
-    let names = list.as_slice().iter().map(|&chosen| format!(" {}", move_name(chosen)));
-    names.fold(list.as_slice().len().to_string(), |text, name| text + &name)
+/// The names of all legal moves: refusals 1 to 6, and 18 of a pawn.
+fn move_names(keyed: &Keyed, takes: Takes) -> Result<Vec<String>, Refused> {
+    match takes.placed(keyed)? {
+        Placed::Men(placement) if legal(&placement) => {
+            Ok(moves(&placement).as_slice().iter().map(|&chosen| move_name(chosen)).collect())
+        }
+        Placed::Pawn(position) if pawn_rules::legal(&position) => {
+            Ok(pawn_rules::moves(&position).into_iter().map(pawn_move_name).collect())
+        }
+        _ => Err(Refused(6)),
+    }
 }
 
-/// `moves [two]`: the count and the legal moves of each line.
+fn moves_text(keyed: &Keyed, takes: Takes) -> String {
+    match move_names(keyed, takes) {
+        Ok(names) => names.iter().fold(names.len().to_string(), |text, name| text + " " + name),
+        Err(refused) => refused_text(refused),
+    }
+}
+
+/// `moves [two | pawn]`: the count and the legal moves of each line.
 pub fn list_moves(rest: &[OsString], output: &mut Out) -> Done {
-    let limit = limit_named("moves", rest)?;
+    let takes = Takes::named("moves", rest)?;
     for_each_keyed(io::stdin().lock(), output, |keyed, output| {
-        writeln!(output, "{}", moves_text(keyed, limit))
+        writeln!(output, "{}", moves_text(keyed, takes))
     })
 }
 
-fn number_text(keyed: &Keyed, limit: Limit) -> String {
-    number(keyed, limit).map_or_else(refused_text, |number| format!("number {number}"))
+fn number_text(keyed: &Keyed, takes: Takes) -> String {
+    let found = match takes {
+        Takes::Men(limit) => number(keyed, limit),
+        Takes::PawnToo => keyed.any_placed().and_then(|placed| match placed {
+            Placed::Men(_) => number(keyed, Limit::TwoMen),
+            Placed::Pawn(position) => Ok(pawn_number::number_of(&position)),
+        }),
+    };
+    found.map_or_else(refused_text, |number| format!("number {number}"))
 }
 
-/// `number [two]`: the number of each line.
+/// `number [two | pawn]`: the number of each line.
 pub fn number_lines(rest: &[OsString], output: &mut Out) -> Done {
-    let limit = limit_named("number", rest)?;
+    let takes = Takes::named("number", rest)?;
     for_each_keyed(io::stdin().lock(), output, |keyed, output| {
-        writeln!(output, "{}", number_text(keyed, limit))
+        writeln!(output, "{}", number_text(keyed, takes))
     })
 }
 

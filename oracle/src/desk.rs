@@ -94,17 +94,22 @@ impl Tables {
     }
 }
 
+/// A value in the desk's words.
+pub fn value_text(value: Value) -> String {
+    match value {
+        Value::Win(depth) => format!("win {depth}"),
+        Value::Loss(depth) => format!("loss {depth}"),
+        Value::Draw => "draw".to_string(),
+    }
+}
+
 /// An answer in the desk's words.
 pub fn answer_text(answer: &Result<Answer, Refused>) -> String {
     let answer = match answer {
         Err(Refused(number)) => return format!("refused {number}"),
         Ok(answer) => answer,
     };
-    let value = match answer.value {
-        Value::Win(depth) => format!("win {depth}"),
-        Value::Loss(depth) => format!("loss {depth}"),
-        Value::Draw => "draw".to_string(),
-    };
+    let value = value_text(answer.value);
     match answer.best {
         Some(chosen) => format!("{value} {}", move_name(chosen)),
         None => value,

@@ -1,6 +1,7 @@
 //! The fifty-move rule: the plies since the last capture, who may claim a draw (FIDE 9.3), and
 //! look-up with that count.
 
+use crate::pawn_table::{self, PawnAnswer};
 use crate::position::{Keyed, Position, Refused};
 use crate::rule::Value;
 use crate::rules::{moves, Move};
@@ -34,6 +35,20 @@ pub fn look_up_counted(bytes: &[u8], keyed: &Keyed, count: u32) -> Result<Counte
         return Err(Refused(19));
     }
     Ok(Counted { answer, within_fifty: within_fifty(answer.value, count) })
+}
+
+/// The same of a lone pawn, with 18: the mark is "never on a draw or with a pawn".
+pub fn look_up_pawn_counted(
+    own: &[u8],
+    lent: [&[u8]; 4],
+    keyed: &Keyed,
+    count: u32,
+) -> Result<(PawnAnswer, bool), Refused> {
+    let answer = pawn_table::look_up(own, lent, keyed)?;
+    if count > MOST_COUNT {
+        return Err(Refused(19));
+    }
+    Ok((answer, false))
 }
 
 /// The count after a move. Without pawns only a capture sets it back.

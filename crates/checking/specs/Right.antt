@@ -8,7 +8,7 @@ use Rattle.finite.specs.Lowest.{lowest}
 use Rattle.table_theory.specs.Tables.{wrongAt}
 use Rattle.rules.specs.Chess.{chess}
 use Rattle.numbering.specs.declared.Material.{Material}
-use Rattle.numbering.specs.Material.{known, sizeOf}
+use Rattle.numbering.specs.Material.{given, sizeOf}
 use Rattle.answers.specs.declared.Checked.{Checked}
 use Rattle.position.specs.declared.Men.{Men}
 use Rattle.position.specs.Posed.{materialFor}
@@ -17,7 +17,7 @@ use Rattle.four_men.specs.Reading.{numbered}
 
 -- the men of an ending that there is
 pub record Own (m : Men) : Type 0 where
-  pub ending : T (known (materialFor m))
+  pub ending : T (given (materialFor m))
   pub colour : m .colour < 2
 
 -- a number of its table, and the table's length

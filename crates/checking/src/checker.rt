@@ -3,7 +3,8 @@ use super::numbers::is_right;
 use answers::Checked;
 use four_men::NOT_ACCEPTED;
 use four_men::lengths_fit;
-use index::is_known;
+use index::TABLE_SIZE;
+use index::is_given;
 use index::men_of;
 use numbering::Material;
 use position::BAD_MAN;
@@ -13,8 +14,9 @@ ghost use mathlib.Core.Path.{_≡_};
 ghost use lib.ListN.{length};
 ghost use Rattle.position.specs.Posed.{materialFor};
 ghost use Rattle.endings.specs.CheckedTrue.{CheckPromise};
-ghost use Rattle.four_men.specs.Lending.{lent};
-ghost use Rattle.four_men.specs.Answers.{accepts, lentAccepted};
+ghost use Rattle.endings.specs.Answers.{checkOf};
+ghost use Rattle.four_men.specs.Lending.{lent, partOf};
+ghost use Rattle.four_men.specs.Answers.{accepts, partsAccepted, lentAccepted};
 ghost use Rattle.four_men.specs.CheckedTrue.{CheckPromiseWith};
 ghost use Rattle.checking.specs.Right.{Ended, found};
 
@@ -38,7 +40,7 @@ pub fn check(kind: u8, table: &[u8]) -> Checked
     ensures { λ r. ⌜ CheckPromise kind (now (table .entry)) r ⌝ }
 {
     let m = Material::One(kind);
-    if !is_known(m) {
+    if !is_given(m) {
         return Checked::Refused(BAD_MAN);
     }
     if !lengths_fit(m, table, table, table) {
@@ -57,7 +59,28 @@ fn is_accepted(c: Checked) -> bool
     }
 }
 
-// Whether the checker accepts each lent table: the first for the first man's kind, the second for the second's.
+// Whether the checker accepts a kind's table among the four that a pawn's ending borrows.
+fn part_accepted(kind: u8, run: &[u8]) -> bool
+    ensures { λ r. ⌜ r ≡ accepts (checkOf kind (partOf kind (now (run .entry)))) ⌝ }
+{
+    let at = (kind as usize) * TABLE_SIZE;
+    let end = at + TABLE_SIZE;
+    if run.len() < end {
+        return false;
+    }
+    is_accepted(check(kind, &run[at..end]))
+}
+
+// Whether it accepts all four.
+fn parts_accepted(run: &[u8]) -> bool
+    ensures { λ r. ⌜ r ≡ partsAccepted (now (run .entry)) ⌝ }
+{
+    part_accepted(0, run)
+        & (part_accepted(1, run) & (part_accepted(2, run) & part_accepted(3, run)))
+}
+
+// Whether the checker accepts each lent table: the first for the first man's kind, the second for the second's;
+// a pawn's four for Q, R, B, N.
 pub fn lent_accepted(m: Material, first: &[u8], second: &[u8]) -> bool
     ensures { λ r. ⌜ r ≡ lentAccepted m (lent (now (first .entry)) (now (second .entry))) ⌝ }
 {
@@ -69,6 +92,7 @@ pub fn lent_accepted(m: Material, first: &[u8], second: &[u8]) -> bool
             }
             is_accepted(check(k, second))
         },
+        Material::Pawn => parts_accepted(first),
     }
 }
 
@@ -77,7 +101,7 @@ pub fn lent_accepted(m: Material, first: &[u8], second: &[u8]) -> bool
 pub fn check_with(m: Material, table: &[u8], first: &[u8], second: &[u8]) -> Checked
     ensures { λ r. ⌜ CheckPromiseWith m (lent (now (first .entry)) (now (second .entry))) (now (table .entry)) r ⌝ }
 {
-    if !is_known(m) {
+    if !is_given(m) {
         return Checked::Refused(BAD_MAN);
     }
     if !lengths_fit(m, table, first, second) {

@@ -1,24 +1,25 @@
 // What stands at a number, and whether a byte is the one required there.
+use deciding::legal_at;
+use deciding::verdict_on;
 use position::Men;
 use position::Place;
 use successors::Standing;
 use successors::Verdict;
-use successors::legal_at;
-use successors::verdict_on;
 ghost use mathlib.Core.Path.{_≡_};
 ghost use lib.Dec.{eqb};
 ghost use Rattle.theory.specs.Required.{requiredAt};
 ghost use Rattle.table_theory.specs.Tables.{requiredByte};
 ghost use Rattle.rules.specs.Chess.{chess};
-ghost use Rattle.position.specs.Posed.{boardIn, materialFor, Complete};
+ghost use Rattle.position.specs.Posed.{boardIn, materialFor};
 ghost use Rattle.four_men.specs.Lending.{lent};
 ghost use Rattle.four_men.specs.Reading.{numbered};
 ghost use Rattle.successors.specs.Successors.{bytesIn};
+ghost use Rattle.deciding.specs.Deciding.{Seated};
 ghost use Rattle.checking.specs.Right.{Numbers};
 
 // Whether the byte is the one that the position's successors require.
 fn is_required(m: Men, q: Place, byte: u8, table: &[u8], first: &[u8], second: &[u8]) -> bool
-    requires { ⌜ Complete m q ⌝ }
+    requires { ⌜ Seated m q ⌝ }
     ensures { λ r. ⌜ r ≡ eqb byte (requiredAt chess (bytesIn m (now (first .entry)) (now (second .entry)) (now (table .entry))) (boardIn m q)) ⌝ }
 {
     let verdict = verdict_on(m, q, byte, table, first, second);

@@ -76,8 +76,12 @@ mappedAnswer m (Refused n) = Refused n
 
 -- "break ties on the normalised board .. and carry the move back" (02, P5): the first move in list order that suits there, by the inverse of the map
 -- by which the board is made normal
-unfoldable pub chosen : (Board → ℕ) → Board → BestMove
-chosen reads b = mappedAdvice (inverse (normalBy b)) (adviceOf (firstSuited chess reads (normalised b)))
+unfoldable pub chosenBy : (Board → Symmetry) → (Board → Board) → (Board → ℕ) → Board → BestMove
+chosenBy by normal reads b = mappedAdvice (inverse (by b)) (adviceOf (firstSuited chess reads (normal b)))
+
+-- of pieces
+abbrev pub chosen : (Board → ℕ) → Board → BestMove
+chosen = chosenBy normalBy normalised
 
 unfoldable pub lookUpOf : List ℕ → Position → Answer
 lookUpOf t p =

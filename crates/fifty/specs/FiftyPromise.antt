@@ -11,12 +11,15 @@ use lib.ListN.{length}
 use Rattle.theory.specs.Value.{DepthIs}
 use Rattle.theory.specs.Play.{atPly}
 use Rattle.theory.specs.Fifty.{Clear}
+use Rattle.finite.specs.Members.{all}
 use Rattle.rules.specs.declared.Move.{Move}
+use Rattle.rules.specs.Pawn.{pawn}
 use Rattle.rules.specs.Rules.{Board, empty}
 use Rattle.rules.specs.Chess.{chess}
 use Rattle.answers.specs.declared.Answer.{Answer}
 use Rattle.answers.specs.declared.Answer.the-variants.{Win, Loss, Draw, Refused}
 use Rattle.endings.specs.Truth.{TrueAnswer}
+use Rattle.four_men.specs.Truth.{TrueAnswerIn}
 use Rattle.position.specs.Keyed.{keyed}
 use Rattle.endings.specs.GamePromise.{moveOfAnswer, GamePromise}
 use Rattle.fifty.specs.declared.Marked.{Marked}
@@ -29,8 +32,8 @@ use Rattle.fifty.specs.Marks.{lookUpAt, lookUpAtWith}
 abbrev pub zeroing : Board → Move → Bool
 zeroing b m = m .takes
 
--- what look-up answers for a board at a count: with one man; and with one man or two, in the table of the ending then
--- on the board
+-- what look-up answers for a board at a count: with one man; and of every ending, in the table of the one then on the
+-- board
 abbrev pub answerAt : List ℕ → Board → ℕ → Marked
 answerAt t b c = lookUpAt t c (keyed b)
 
@@ -68,30 +71,41 @@ ClearBy (Loss n a) side b ms c = chess .turn b ≡ not side → Clear chess zero
 ClearBy (Draw a) side b ms c = ⊥
 ClearBy (Refused k) side b ms c = ⊥
 
+-- no man is a pawn
+abbrev pub Pawnless : Board → Type 0
+Pawnless b = T (all (λ a. not (pawn a)) (b .men))
+
 -- the board is decided, and the count plus the depth is at most 100
+abbrev pub Timely : Board → ℕ → Type 0
+Timely b c = (n : ℕ) × DepthIs chess n b × (c + n ≤ 100)
+
+-- and it has no pawn
 abbrev pub Within : Board → ℕ → Type 0
-Within b c = (n : ℕ) × DepthIs chess n b × (c + n ≤ 100)
+Within b c = Pawnless b × Timely b c
 
 -- What is promised of look-up's answers at any counts, in the game ms from the board b, in which `side` plays the
--- desk's moves.
-pub record CountsPromise (answer : Board → ℕ → Marked) (side : Bool) (b : Board) (ms : List Move) : Type 0 where
+-- desk's moves; `Truly` says when an answer is true of a board.
+pub record CountsPromise (Truly : Board → Answer → Type 0) (answer : Board → ℕ → Marked) (side : Bool) (b : Board)
+    (ms : List Move) : Type 0 where
   -- what the first position is called, at every count from 0 to 99, is its true value and depth
-  pub called : (c : ℕ) → c ≤ 99 → TrueAnswer b (answer b c .answer)
+  pub called : (c : ℕ) → c ≤ 99 → Truly b (answer b c .answer)
   -- so it is for each position of the game, bare kings apart
   pub answers : (i : ℕ) → i ≤ length ms → empty (atPly chess b ms i .men) ≡ false → (c : ℕ) → c ≤ 99
-      → TrueAnswer (atPly chess b ms i) (answer (atPly chess b ms i) c .answer)
-  -- and a mark exactly where it is decided and the sum is at most 100
+      → Truly (atPly chess b ms i) (answer (atPly chess b ms i) c .answer)
+  -- and a mark exactly where it has no pawn, is decided, and the sum is at most 100
   pub marked : (i : ℕ) → i ≤ length ms → empty (atPly chess b ms i .men) ≡ false → (c : ℕ) → c ≤ 99
       → T (answer (atPly chess b ms i) c .«within_fifty») ↔ Within (atPly chess b ms i) c
+  -- of a pawnless ending no position has a pawn: there the mark is given exactly at those sums
+  pub pawnless : Pawnless b → (i : ℕ) → i ≤ length ms → Pawnless (atPly chess b ms i)
   -- marked at the count c, the first position is won clear of the fifty-move rule
   pub clear : (c : ℕ) → c ≤ 99 → T (answer b c .«within_fifty») → ClearBy (answer b c .answer) side b ms c
 
 -- by the table t, with one man: demand 3 as it stands, at any counts
 pub record FiftyPromise (t : List ℕ) (side : Bool) (b : Board) (ms : List Move) : Type 0 where
   pub game : GamePromise t side b ms
-  pub counts : CountsPromise (answerAt t) side b ms
+  pub counts : CountsPromise TrueAnswer (answerAt t) side b ms
 
--- by the ending's table t and the lent ones, with one man or two, through captures until bare kings
+-- by the ending's table t and the lent ones, of every ending, through captures and promotions until bare kings
 pub record FiftyPromiseWith (m : Material) (l : Lent) (t : List ℕ) (side : Bool) (b : Board) (ms : List Move) : Type 0 where
   pub game : GamePromiseWith m l t side b ms
-  pub counts : CountsPromise (answerAtWith m l t) side b ms
+  pub counts : CountsPromise TrueAnswerIn (answerAtWith m l t) side b ms

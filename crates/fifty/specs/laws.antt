@@ -1,3 +1,4 @@
+pub mod Pawnless
 pub mod MarkLaws
 pub mod FiftyGames
 pub mod SharpGames

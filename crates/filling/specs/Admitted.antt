@@ -7,7 +7,7 @@ use Rattle.table_theory.specs.Tables.{Numbering}
 use Rattle.rules.specs.Chess.{chess}
 use Rattle.position.specs.declared.Men.{Men}
 use Rattle.position.specs.Posed.{materialFor}
-use Rattle.numbering.specs.Material.{known}
+use Rattle.numbering.specs.Material.{given}
 use Rattle.four_men.specs.Lending.{lent, borrowed}
 use Rattle.four_men.specs.Reading.{numbered, holdsDepth}
 use Rattle.four_men.specs.Answers.{lengthsFit}
@@ -18,7 +18,7 @@ over m first second = numbered (materialFor m) (lent first second)
 
 -- 1 and 7 do not refuse
 pub record Admitted (m : Men) (first second table : List ℕ) : Type 0 where
-  pub ending : T (known (materialFor m))
+  pub ending : T (given (materialFor m))
   pub colour : m .colour < 2
   pub lengths : T (lengthsFit (materialFor m) (lent first second) table)
 

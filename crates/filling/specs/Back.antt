@@ -9,7 +9,7 @@ use Rattle.table_theory.specs.Tables.{reads, settles}
 use Rattle.rules.specs.Chess.{chess}
 use Rattle.numbering.specs.Keys.{boardAt}
 use Rattle.numbering.specs.Number.{numberOf}
-use Rattle.numbering.specs.Material.{menOf}
+use Rattle.numbering.specs.Material.{known, menOf}
 use Rattle.position.specs.declared.Men.{Men}
 use Rattle.position.specs.declared.Place.{Place}
 use Rattle.position.specs.Posed.{boardIn, materialFor, Complete}
@@ -32,6 +32,10 @@ lentOf m first second taken = lentFor (m .first) (lent first second) (loneOf m t
 pub record Few (most : ℕ) (u v : List ℕ) (did : ℕ) : Type 0 where
   pub long : length v ≡ length u
   pub few : did ≤ most
+
+-- what a pass that works back is given: the men are pieces, and below depth k nothing is left to settle
+abbrev pub Backwards : Men → List ℕ → List ℕ → ℕ → List ℕ → Type 0
+Backwards m first second k t = T (known (materialFor m)) × Ready chess (over m first second) k t
 
 module _ (m : Men) (first second : List ℕ) (k : ℕ) where
   -- k odd: if it holds 1, the number is to be settled

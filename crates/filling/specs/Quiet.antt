@@ -3,12 +3,13 @@ use mathlib.Core.Path.{_≡_}
 use mathlib.Core.Bool.{Bool, false, cond}
 use mathlib.Core.List.{List}
 use Prim.Native.Nat.{ℕ, _+_, _/_, _<_, _≤_}
-use lib.Dec.{eqb}
+use lib.Dec.{T, eqb}
 use lib.ListN.{length, getD}
 use Rattle.finite.specs.Members.{_∈_}
 use Rattle.position.specs.declared.Men.{Men}
 use Rattle.position.specs.Posed.{materialFor}
 use Rattle.numbering.specs.declared.Material.{Material}
+use Rattle.numbering.specs.Material.{known}
 use Rattle.four_men.specs.Lending.{Lent, lent, borrowed}
 
 -- the byte stands at no number from `from` on, below `to`
@@ -16,8 +17,9 @@ pub record Absent (t : List ℕ) (byte from to : ℕ) : Type 0 where
   pub none : (m : ℕ) → from ≤ m → m < to → getD t m 0 ≡ byte → ⊥
 
 -- Pass k settles nothing for want of a successor from `from` on, below `to`, or in a lent table from `low` on, below
--- `high`: k is not 0, and depth k - 1 stands at none of them.
+-- `high`: the men are pieces, k is not 0, and depth k - 1 stands at none of them.
 pub record Quiet (m : Material) (l : Lent) (k : ℕ) (t : List ℕ) (from to low high : ℕ) : Type 0 where
+  pub pieces : T (known m)
   pub later : 0 < k
   pub absent : Absent t (1 + k) from to
   pub lent : (u : List ℕ) → u ∈ borrowed m l → Absent u (1 + k) low high

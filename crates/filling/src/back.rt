@@ -18,16 +18,16 @@ ghost use mathlib.Core.Path.{_≡_};
 ghost use mathlib.Core.Bool.{true, false};
 ghost use mathlib.Core.List.{List};
 ghost use Prim.Native.Nat.{ℕ, _<_, _≤_};
+ghost use lib.Dec.{T};
 ghost use lib.ListN.{length};
 ghost use Rattle.table_theory.specs.Tables.{passed};
 ghost use Rattle.table_theory.specs.Steps.{settledBy};
 ghost use Rattle.rules.specs.Chess.{chess};
+ghost use Rattle.numbering.specs.Material.{known};
 ghost use Rattle.position.specs.Posed.{materialFor};
-ghost use Rattle.four_men.specs.Lending.{lent};
 ghost use Rattle.retracting.specs.Retracting.{Seat, LegalLeft};
 ghost use Rattle.filling.specs.Admitted.{over, Admitted};
-ghost use Rattle.filling.specs.Trying.{Ready};
-ghost use Rattle.filling.specs.Back.{TriesNumber, TriesTo, TriesInto, TriesAt, SweepsOwn};
+ghost use Rattle.filling.specs.Back.{Backwards, TriesNumber, TriesTo, TriesInto, TriesAt, SweepsOwn};
 
 const KING: u8 = 5;
 
@@ -134,7 +134,7 @@ pub fn try_into(
 
 // Tries the positions that have a move to the one at this number, if it holds depth k - 1 and is legal.
 fn try_at(m: Men, k: u8, j: usize, first: &[u8], second: &[u8], table: &mut [u8]) -> u32
-    requires { ⌜ (0 < k) × (k < 254) × (j < length (now table)) × Admitted m (now first) (now second) (now table) ⌝ }
+    requires { ⌜ (0 < k) × (k < 254) × (j < length (now table)) × Admitted m (now first) (now second) (now table) × T (known (materialFor m)) ⌝ }
     ensures { λ r. ⌜ TriesAt m (now (first .entry)) (now (second .entry)) k j (now (table .entry)) (now (table .exit)) r ⌝ }
 {
     if table[j] != 1 + k {
@@ -149,7 +149,7 @@ fn try_at(m: Men, k: u8, j: usize, first: &[u8], second: &[u8], table: &mut [u8]
 
 // Tries back from all numbers of this table.
 fn pass_own(m: Men, k: u8, first: &[u8], second: &[u8], table: &mut [u8]) -> u32
-    requires { ⌜ (0 < k) × (k < 254) × Admitted m (now first) (now second) (now table) ⌝ }
+    requires { ⌜ (0 < k) × (k < 254) × Admitted m (now first) (now second) (now table) × T (known (materialFor m)) ⌝ }
     ensures { λ r. ⌜ SweepsOwn m (now (first .entry)) (now (second .entry)) k (length (now (table .entry))) (now (table .entry)) (now (table .exit)) r ⌝ }
 {
     let size = table.len();
@@ -164,7 +164,7 @@ fn pass_own(m: Men, k: u8, first: &[u8], second: &[u8], table: &mut [u8]) -> u32
 
 // Pass k, working back from the numbers that hold depth k - 1, in the lent tables and in this one.
 fn pass_back(m: Men, k: u8, first: &[u8], second: &[u8], table: &mut [u8]) -> u32
-    requires { ⌜ (0 < k) × (k < 254) × Admitted m (now first) (now second) (now table) × Ready chess (over m (now first) (now second)) k (now table) ⌝ }
+    requires { ⌜ (0 < k) × (k < 254) × Admitted m (now first) (now second) (now table) × Backwards m (now first) (now second) k (now table) ⌝ }
     ensures { λ r. ⌜ (r ≡ settledBy chess (over m (now (first .entry)) (now (second .entry))) k (now (table .entry))) × (now (table .exit) ≡ passed chess (over m (now (first .entry)) (now (second .entry))) k (now (table .entry))) ⌝ }
 {
     let a = pass_captures(m, k, first, second, &mut *table);
@@ -172,9 +172,9 @@ fn pass_back(m: Men, k: u8, first: &[u8], second: &[u8], table: &mut [u8]) -> u3
     a + b
 }
 
-// Pass k: over all numbers, or back from those of depth k - 1; mates have no depth before theirs.
+// Pass k: over all numbers, or, of pieces, back from those of depth k - 1; mates have no depth before theirs.
 pub fn pass_by(back: bool, m: Men, k: u8, first: &[u8], second: &[u8], table: &mut [u8]) -> u32
-    requires { ⌜ (k < 254) × Admitted m (now first) (now second) (now table) × (back ≡ true → Ready chess (over m (now first) (now second)) k (now table)) ⌝ }
+    requires { ⌜ (k < 254) × Admitted m (now first) (now second) (now table) × (back ≡ true → Backwards m (now first) (now second) k (now table)) ⌝ }
     ensures { λ r. ⌜ (r ≡ settledBy chess (over m (now (first .entry)) (now (second .entry))) k (now (table .entry))) × (now (table .exit) ≡ passed chess (over m (now (first .entry)) (now (second .entry))) k (now (table .entry))) ⌝ }
 {
     if !back {

@@ -1,8 +1,13 @@
 // The greatest byte of the lent tables: a pass that settles none is no end while one of them holds as great a depth.
+use deciding::PAWN;
 use position::Men;
 ghost use mathlib.Core.Path.{_≡_};
 ghost use mathlib.Core.Bool.{cond};
-ghost use lib.Dec.{ltb};
+ghost use lib.Dec.{T, ltb};
+ghost use lib.ListN.{length};
+ghost use Rattle.numbering.specs.declared.Material.{Material};
+ghost use Rattle.numbering.specs.Material.{given};
+ghost use Rattle.position.specs.Posed.{materialFor};
 ghost use Rattle.filling.specs.Admitted.{Deepest};
 ghost use Rattle.filling.specs.Greatest.{Greatest};
 
@@ -24,10 +29,14 @@ fn greatest_byte(table: &[u8]) -> u8
     greatest
 }
 
-// 0 where nothing is lent.
+// 0 where nothing is lent. A pawn's four tables are one run.
 pub fn deepest_lent(m: Men, first: &[u8], second: &[u8]) -> u8
+    requires { ⌜ T (given (materialFor m)) × (materialFor m ≡ Material.Pawn → length (now first) ≡ 236544) ⌝ }
     ensures { λ r. ⌜ Deepest m (now (first .entry)) (now (second .entry)) r ⌝ }
 {
+    if m.first == PAWN {
+        return greatest_byte(first);
+    }
     if 4 <= m.second {
         return 0;
     }

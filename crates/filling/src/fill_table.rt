@@ -10,23 +10,27 @@ use answers::Filled;
 use checking::lent_accepted;
 use four_men::NOT_ACCEPTED;
 use four_men::lengths_fit;
+use index::is_given;
 use index::is_known;
 use index::men_of;
 use numbering::Material;
 use position::BAD_MAN;
 use position::Men;
 use position::TABLE_LENGTH;
+ghost use mathlib.Core.Path.{_≡_};
+ghost use lib.Dec.{T};
 ghost use Rattle.table_theory.specs.Lending.{filledUntil};
 ghost use Rattle.rules.specs.Chess.{chess};
+ghost use Rattle.numbering.specs.Material.{known};
 ghost use Rattle.position.specs.Posed.{materialFor};
 ghost use Rattle.endings.specs.FilledTrue.{FillPromise};
 ghost use Rattle.four_men.specs.Lending.{lent, borrowed};
 ghost use Rattle.four_men.specs.Reading.{holdsDepth};
 ghost use Rattle.filling.specs.Admitted.{over, Admitted};
-ghost use Rattle.filling.specs.FillPromise.{Fills, FillPromiseWith};
+ghost use Rattle.filling.specs.FillPromise.{Fills, FillPromiseWith, FillBackPromise};
 
 fn fill_men(way: u8, m: Men, first: &[u8], second: &[u8], table: &mut [u8]) -> Filled
-    requires { ⌜ Admitted m (now first) (now second) (now table) ⌝ }
+    requires { ⌜ Admitted m (now first) (now second) (now table) × (way ≡ 1 → T (known (materialFor m))) ⌝ }
     ensures { λ r. ⌜ Fills (filledUntil chess (over m (now (first .entry)) (now (second .entry))) (holdsDepth (borrowed (materialFor m) (lent (now (first .entry)) (now (second .entry))))) (now (table .entry))) r (now (table .exit)) ⌝ }
 {
     let deepest = deepest_lent(m, first, second);
@@ -47,11 +51,12 @@ fn fill_men(way: u8, m: Men, first: &[u8], second: &[u8], table: &mut [u8]) -> F
     }
 }
 
-// The fill by passes in the way chosen.
+// The fill by passes in the way chosen: back only for pieces.
 fn fill_by(way: u8, m: Material, first: &[u8], second: &[u8], table: &mut [u8]) -> Filled
+    requires { ⌜ (way ≡ 1 → T (known m)) ⌝ }
     ensures { λ r. ⌜ FillPromiseWith m (lent (now (first .entry)) (now (second .entry))) (now (table .entry)) r (now (table .exit)) ⌝ }
 {
-    if !is_known(m) {
+    if !is_given(m) {
         return Filled::Refused(BAD_MAN);
     }
     if !lengths_fit(m, &*table, first, second) {
@@ -71,10 +76,14 @@ pub fn fill_with(m: Material, first: &[u8], second: &[u8], table: &mut [u8]) -> 
     fill_by(PASSES, m, first, second, &mut *table)
 }
 
-// The second fill, quicker: it works back from the positions just settled. Table, greatest depth and refusals are the first fill's.
+// The second fill, quicker: it works back from the positions just settled. Of pieces, table, greatest depth and refusals are the first fill's; king and
+// pawn is refused 1.
 pub fn fill_back(m: Material, first: &[u8], second: &[u8], table: &mut [u8]) -> Filled
-    ensures { λ r. ⌜ FillPromiseWith m (lent (now (first .entry)) (now (second .entry))) (now (table .entry)) r (now (table .exit)) ⌝ }
+    ensures { λ r. ⌜ FillBackPromise m (lent (now (first .entry)) (now (second .entry))) (now (table .entry)) r (now (table .exit)) ⌝ }
 {
+    if !is_known(m) {
+        return Filled::Refused(BAD_MAN);
+    }
     fill_by(BACK, m, first, second, &mut *table)
 }
 

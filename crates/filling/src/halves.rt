@@ -1,4 +1,5 @@
 // Which halves of the table a pass may settle a number in: by where the depth before its own stands.
+use deciding::PAWN;
 use index::HALF;
 use index::TABLE_SIZE;
 use position::Men;
@@ -27,7 +28,7 @@ pub fn stands(byte: u8, from: usize, to: usize, table: &[u8]) -> bool
 }
 
 // Whether pass k may settle a number whose successors' numbers are from `from` on, below `to`, or in a lent table
-// from `low` on, below `high`: mates apart, depth k - 1 must stand at one.
+// from `low` on, below `high`: mates apart, depth k - 1 must stand at one. With a pawn no half is left out.
 fn may_settle(
     m: Men,
     k: u8,
@@ -42,6 +43,9 @@ fn may_settle(
     requires { ⌜ (k < 254) × (to ≤ length (now table)) × (high ≤ 59136) × Admitted m (now first) (now second) (now table) ⌝ }
     ensures { λ r. ⌜ (r ≡ false → Quiet (materialFor m) (lent (now (first .entry)) (now (second .entry))) k (now (table .entry)) from to low high) ⌝ }
 {
+    if m.first == PAWN {
+        return true;
+    }
     if k == 0 {
         return true;
     }

@@ -1,11 +1,8 @@
 // One pass: the numbers that hold 1 and whose successors' bytes require depth k.
 use super::halves::black_may;
 use super::halves::white_may;
-use index::place_at;
-use index::shares;
+use deciding::requires_at;
 use position::Men;
-use successors::is_legal_number;
-use successors::requires_depth;
 ghost use mathlib.Core.Path.{_≡_};
 ghost use mathlib.Core.Bool.{false, cond};
 ghost use lib.Dec.{ltb};
@@ -18,8 +15,7 @@ ghost use Rattle.filling.specs.Admitted.{over, Admitted};
 ghost use Rattle.filling.specs.Settling.{Settle};
 ghost use Rattle.filling.specs.Quiet.{QuietHalves};
 
-// Whether pass k settles the number. Whether it is used and its position legal is asked last, of the few that would
-// be settled.
+// Whether pass k settles the number.
 pub fn settles(m: Men, k: u8, n: usize, first: &[u8], second: &[u8], table: &[u8]) -> bool
     requires { ⌜ (n < length (now table)) × Admitted m (now first) (now second) (now table) ⌝ }
     ensures { λ r. ⌜ r ≡ settlesOf chess (over m (now (first .entry)) (now (second .entry))) k (now (table .entry)) n ⌝ }
@@ -27,14 +23,7 @@ pub fn settles(m: Men, k: u8, n: usize, first: &[u8], second: &[u8], table: &[u8
     if table[n] != 1 {
         return false;
     }
-    let q = place_at(m, n as u32);
-    if shares(q) {
-        return false;
-    }
-    if !requires_depth(m, q, k, table, first, second) {
-        return false;
-    }
-    is_legal_number(m, n as u32)
+    requires_at(m, n as u32, k, table, first, second)
 }
 
 // Settles the number if pass k does, which is asked only where it may; 1 if it did, and else 0.

@@ -12,7 +12,7 @@ ghost use Rattle.table_theory.specs.Tables.{ended as endedOf};
 ghost use Rattle.rules.specs.Chess.{chess};
 ghost use Rattle.endings.specs.Answers.{resultOf};
 ghost use Rattle.filling.specs.Admitted.{over, Admitted};
-ghost use Rattle.filling.specs.Trying.{Ready};
+ghost use Rattle.filling.specs.Back.{Backwards};
 ghost use Rattle.filling.specs.Steps.{Hands};
 ghost use Rattle.filling.specs.Stepping.{lastOf, stepOver};
 
@@ -84,7 +84,7 @@ fn step_below(
     second: &[u8],
     table: &mut [u8],
 ) -> Step
-    requires { ⌜ (k < 254) × Admitted m (now first) (now second) (now table) × (way ≡ 1 → Ready chess (over m (now first) (now second)) k (now table)) ⌝ }
+    requires { ⌜ (k < 254) × Admitted m (now first) (now second) (now table) × (way ≡ 1 → Backwards m (now first) (now second) k (now table)) ⌝ }
     ensures { λ r. ⌜ Hands (stepOver (over m (now (first .entry)) (now (second .entry))) deepest k last (now (table .entry))) r (now (table .exit)) ⌝ }
 {
     let before = last_before(k, last, deepest);
@@ -144,7 +144,7 @@ pub fn step_at(
     second: &[u8],
     table: &mut [u8],
 ) -> Step
-    requires { ⌜ (k ≤ 254) × (deepest < 256) × Admitted m (now first) (now second) (now table) × (way ≡ 1 → Ready chess (over m (now first) (now second)) k (now table)) ⌝ }
+    requires { ⌜ (k ≤ 254) × (deepest < 256) × Admitted m (now first) (now second) (now table) × (way ≡ 1 → Backwards m (now first) (now second) k (now table)) ⌝ }
     ensures { λ r. ⌜ Hands (stepOver (over m (now (first .entry)) (now (second .entry))) deepest k last (now (table .entry))) r (now (table .exit)) ⌝ }
 {
     if k < DEPTHS {

@@ -12,7 +12,7 @@ use super::steps::step_at;
 use super::ways::PASSES;
 use answers::Filled;
 use four_men::lengths_fit;
-use index::is_known;
+use index::is_given;
 use index::men_of;
 use index::size_of;
 use numbering::Material;
@@ -48,7 +48,7 @@ pub fn start_with(m: Material, table: &mut [u8]) -> Step
     ensures { λ r. ⌜ Hands (handed (now (table .entry)) (goingOn 0 0) (startWith m (now (table .entry)))) r (now (table .exit)) ⌝ }
 {
     let progress = progress_at(GOING, 0, 0);
-    if !is_known(m) {
+    if !is_given(m) {
         return refuse(BAD_MAN, progress);
     }
     if table.len() != size_of(m) as usize {
@@ -109,7 +109,7 @@ pub fn step_with(
 ) -> Step
     ensures { λ r. ⌜ Hands (handed (now (table .entry)) progress (stepWith m (lent (now (first .entry)) (now (second .entry))) (now (table .entry)) progress)) r (now (table .exit)) ⌝ }
 {
-    if !is_known(m) {
+    if !is_given(m) {
         return refuse(BAD_MAN, progress);
     }
     if !lengths_fit(m, &*table, first, second) {

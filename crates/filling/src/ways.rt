@@ -8,7 +8,7 @@ ghost use Rattle.table_theory.specs.Tables.{passed};
 ghost use Rattle.table_theory.specs.Steps.{settledBy};
 ghost use Rattle.rules.specs.Chess.{chess};
 ghost use Rattle.filling.specs.Admitted.{over, Admitted};
-ghost use Rattle.filling.specs.Trying.{Ready};
+ghost use Rattle.filling.specs.Back.{Backwards};
 
 pub const PASSES: u8 = 0;
 
@@ -18,7 +18,7 @@ pub const EVERY: u8 = 2;
 
 // Pass k in the way chosen; how many numbers it settled.
 pub fn pass_in(way: u8, m: Men, k: u8, first: &[u8], second: &[u8], table: &mut [u8]) -> u32
-    requires { ⌜ (k < 254) × Admitted m (now first) (now second) (now table) × (way ≡ 1 → Ready chess (over m (now first) (now second)) k (now table)) ⌝ }
+    requires { ⌜ (k < 254) × Admitted m (now first) (now second) (now table) × (way ≡ 1 → Backwards m (now first) (now second) k (now table)) ⌝ }
     ensures { λ r. ⌜ (r ≡ settledBy chess (over m (now (first .entry)) (now (second .entry))) k (now (table .entry))) × (now (table .exit) ≡ passed chess (over m (now (first .entry)) (now (second .entry))) k (now (table .entry))) ⌝ }
 {
     if way == EVERY {

@@ -7,7 +7,7 @@ use Prim.Native.Nat.{ℕ}
 use lib.Dec.{T}
 use Rattle.answers.specs.declared.Checked.{Checked}
 use Rattle.numbering.specs.declared.Material.{Material}
-use Rattle.numbering.specs.Material.{known}
+use Rattle.numbering.specs.Material.{given}
 use Rattle.four_men.specs.Lending.{Lent}
 use Rattle.four_men.specs.Answers.{lengthsFit, lentAccepted, checkWith}
 use Rattle.four_men.specs.Truth.{TrueTableOf}
@@ -17,5 +17,5 @@ use Rattle.four_men.specs.Truth.{TrueTableOf}
 pub record CheckPromiseWith (m : Material) (l : Lent) (t : List ℕ) (answer : Checked) : Type 0 where
   pub answered : answer ≡ checkWith m l t
   pub true-only : (answer ≡ Checked.Accepted)
-      ↔ (T (known m) × T (lengthsFit m l t) × T (lentAccepted m l) × TrueTableOf m t)
-  pub not-accepted : (answer ≡ Checked.Refused 17) ↔ (T (known m) × T (lengthsFit m l t) × (lentAccepted m l ≡ false))
+      ↔ (T (given m) × T (lengthsFit m l t) × T (lentAccepted m l) × TrueTableOf m t)
+  pub not-accepted : (answer ≡ Checked.Refused 17) ↔ (T (given m) × T (lengthsFit m l t) × (lentAccepted m l ≡ false))

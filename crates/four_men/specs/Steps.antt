@@ -9,7 +9,7 @@ use Rattle.table_theory.specs.declared.Progress.{Progress}
 use Rattle.table_theory.specs.Steps.{Stepped, started, stepFrom}
 use Rattle.rules.specs.Chess.{chess}
 use Rattle.numbering.specs.declared.Material.{Material}
-use Rattle.numbering.specs.Material.{known, sizeOf}
+use Rattle.numbering.specs.Material.{given, sizeOf}
 use Rattle.four_men.specs.Lending.{Lent, borrowed}
 use Rattle.four_men.specs.Reading.{numbered, holdsDepth}
 use Rattle.four_men.specs.Answers.{lengthsFit}
@@ -25,13 +25,13 @@ nothing = record { first = []; second = [] }
 
 unfoldable pub startWith : Material → List ℕ → Call
 startWith m t =
-    cond (not (known m)) (Call.refused 1)
+    cond (not (given m)) (Call.refused 1)
     (cond (not (eqb (length t) (sizeOf m))) (Call.refused 7) (Call.made (started chess (numbered m nothing) t)))
 
 -- A step reads the lent tables' bytes as they stand: 17 is asked "at filling and checking only".
 unfoldable pub stepWith : Material → Lent → List ℕ → Progress → Call
 stepWith m l t p =
-    cond (not (known m)) (Call.refused 1)
+    cond (not (given m)) (Call.refused 1)
     (cond (not (lengthsFit m l t)) (Call.refused 7)
     (Call.made (stepFrom chess (numbered m l) (holdsDepth (borrowed m l)) p t)))
 

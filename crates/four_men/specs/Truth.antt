@@ -7,24 +7,30 @@ use lib.Dec.{T}
 use lib.ListN.{getD}
 use Rattle.finite.specs.Members.{_∈_}
 use Rattle.theory.specs.Value.{DepthIs, TrueByte}
-use Rattle.rules.specs.Rules.{Board, legal}
+use Rattle.rules.specs.Rules.{Board}
 use Rattle.rules.specs.Chess.{chess}
-use Rattle.numbering.specs.Number.{numberOf}
 use Rattle.answers.specs.declared.Filled.{Filled}
+use Rattle.answers.specs.declared.Answer.{Answer}
 use Rattle.endings.specs.Answers.{Fill}
+use Rattle.endings.specs.Truth.{TrueAnswerBy}
 use Rattle.numbering.specs.declared.Material.{Material}
-use Rattle.numbering.specs.Material.{OfMaterial, sizeOf}
+use Rattle.numbering.specs.Material.{OfMaterial, materialIn, legalIn, sizeOf}
+use Rattle.index.specs.Endings.{numberIn, normalIn, mapIn}
 use Rattle.four_men.specs.Lending.{Lent, borrowed}
 use Rattle.four_men.specs.Reading.{legalNumberOf}
 
 -- Every legal position's byte is its true value and depth, and every byte of an unused number or illegal position is 0.
 pub record TrueTableOf (m : Material) (t : List ℕ) : Type 0 where
-  pub legal-true : (b : Board) → T (legal b) → OfMaterial m b → TrueByte chess b (getD t (numberOf b) 0)
+  pub legal-true : (b : Board) → T (legalIn m b) → OfMaterial m b → TrueByte chess b (getD t (numberIn m b) 0)
   pub others-zero : (n : ℕ) → n < sizeOf m → legalNumberOf m n ≡ false → getD t n 0 ≡ 0
+
+-- an answer true of a board, its move chosen on the normal board of the board's own ending
+abbrev pub TrueAnswerIn : Board → Answer → Type 0
+TrueAnswerIn b = TrueAnswerBy (mapIn (materialIn (b .men))) (normalIn (materialIn (b .men))) b
 
 -- a legal board of the ending is decided in depth n
 abbrev pub DecidedOf : Material → ℕ → Type 0
-DecidedOf m n = (b : Board) × T (legal b) × OfMaterial m b × DepthIs chess n b
+DecidedOf m n = (b : Board) × T (legalIn m b) × OfMaterial m b × DepthIs chess n b
 
 -- What filling promises where 1, 7 and 17 do not refuse: "the greatest depth is the greatest that its steps have
 -- settled, or none decided".

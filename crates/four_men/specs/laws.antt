@@ -1,11 +1,18 @@
 pub mod Alone
 pub mod Materials
 pub mod Room
+pub mod Parts
 pub mod Same
 pub mod Captures
 pub mod Numbered
 pub mod Lent
+pub mod PawnWithin
+pub mod PawnLawful
+pub mod PawnLent
+pub mod Given
 pub mod Turned
+pub mod Pieces
+pub mod Carrying
 pub mod Checking
 pub mod Filling
 pub mod Steps
@@ -15,4 +22,5 @@ pub mod TurnedStanding
 pub mod MoveTurned
 pub mod LookingUp
 pub mod Games
+pub mod PawnTurned
 pub mod AloneGames

@@ -4,14 +4,14 @@ use Prim.Native.Nat.{ℕ, _/_, _%_}
 use lib.Dec.{leb, eqb}
 use Rattle.numbering.specs.Kings.{above, onDiagonal, kingsOf}
 use Rattle.numbering.specs.declared.Material.{Material}
-use Rattle.numbering.specs.Keys.{boardAt}
-use Rattle.numbering.specs.Number.{numberOf, used}
-use Rattle.numbering.specs.Material.{known, menOf, sizeOf}
+use Rattle.numbering.specs.Number.{numberOf}
+use Rattle.numbering.specs.Material.{given, materialIn, sizeOf}
 use Rattle.position.specs.declared.Position.{Position}
 use Rattle.position.specs.Keyed.{boardOf, lone, manSquare, keyed}
 use Rattle.position.specs.Refusals.{placingRefusal, placingWith}
 use Rattle.index.specs.declared.NumberAnswer.{NumberAnswer}
 use Rattle.index.specs.declared.Placed.{Placed}
+use Rattle.index.specs.Endings.{numberIn, boardFor, usedIn}
 
 -- "Numbering asks 1 to 5"
 unfoldable pub numberAnswer : Position → NumberAnswer
@@ -36,14 +36,16 @@ placedAt kind n =
     (cond (leb 59136 n) (Placed.Refused 8)
     (cond (unused (positionAt kind n)) (Placed.Refused 9) (Placed.At (positionAt kind n))))
 
--- ---- for one man and for two (02, P10)
+-- ---- for one man and for two (02, P10), and for a pawn (P12)
 
 unfoldable pub numberWith : Position → NumberAnswer
 numberWith p =
-    cond (eqb (placingWith p) 0) (NumberAnswer.Number (numberOf (boardOf p))) (NumberAnswer.Refused (placingWith p))
+    cond (eqb (placingWith p) 0) (NumberAnswer.Number (numberIn (materialIn (boardOf p .men)) (boardOf p)))
+    (NumberAnswer.Refused (placingWith p))
+
+-- what stands at a number below the ending's size, where it is used
+abbrev pub foundAt : Material → ℕ → Placed
+foundAt m n = cond (usedIn m n) (Placed.At (keyed (boardFor m n))) (Placed.Refused 9)
 
 unfoldable pub placedWith : Material → ℕ → Placed
-placedWith m n =
-    cond (not (known m)) (Placed.Refused 1)
-    (cond (leb (sizeOf m) n) (Placed.Refused 8)
-    (cond (used (boardAt (menOf m) n)) (Placed.At (keyed (boardAt (menOf m) n))) (Placed.Refused 9)))
+placedWith m n = cond (not (given m)) (Placed.Refused 1) (cond (leb (sizeOf m) n) (Placed.Refused 8) (foundAt m n))

@@ -1,3 +1,4 @@
+pub mod Endings
 pub mod Answers
 pub mod NumberLaws
 pub mod BackLaws

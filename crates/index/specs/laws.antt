@@ -12,3 +12,5 @@ pub mod NormalPlaceLaws
 pub mod WithLaws
 pub mod AloneLaws
 pub mod CornerLaws
+pub mod EndingsLaws
+pub mod PawnLaws

@@ -7,6 +7,7 @@ use super::least::place_from;
 use super::least::rising_key;
 use super::least::transposed_key;
 use super::least::turned_key;
+use super::pawns::pawn_normal_place;
 use position::Map;
 use position::Men;
 use position::Place;
@@ -103,6 +104,11 @@ fn normal_of(men: Men, q: Place) -> NormalPlace
 pub fn normal_place(p: Position) -> NormalPlace
     ensures { λ r. ⌜ (placingWith p ≡ 0 → Normalises p r) ⌝ }
 {
+    let first = p.first;
+    let man = man_in(first);
+    if man.kind == 4 {
+        return pawn_normal_place(p);
+    }
     let a = arrange(p);
     normal_of(a.men, a.place)
 }

@@ -5,16 +5,28 @@ ghost use mathlib.Core.Path.{_≡_};
 ghost use mathlib.Core.Bool.{cond};
 ghost use Prim.Native.Nat.{_<_};
 ghost use lib.Dec.{T};
-ghost use Rattle.numbering.specs.Material.{known, sizeOf};
+ghost use Rattle.numbering.specs.Material.{known, given, sizeOf};
 ghost use Rattle.position.specs.Posed.{materialFor};
 
-// Whether there is such an ending.
+// Whether there is such an ending of pieces.
 pub fn is_known(m: Material) -> bool
     ensures { λ r. ⌜ r ≡ known m ⌝ }
 {
     match m {
         Material::One(kind) => kind < 4,
         Material::Two(first, second, _) => (first <= second) & (second < 4),
+        Material::Pawn => false,
+    }
+}
+
+// Whether there is such an ending: of pieces, or king and pawn.
+pub fn is_given(m: Material) -> bool
+    ensures { λ r. ⌜ r ≡ given m ⌝ }
+{
+    match m {
+        Material::One(_) => is_known(m),
+        Material::Two(_, _, _) => is_known(m),
+        Material::Pawn => true,
     }
 }
 
@@ -25,6 +37,7 @@ pub fn size_of(m: Material) -> u32
     match m {
         Material::One(_) => 59136,
         Material::Two(_, _, _) => 3784704,
+        Material::Pawn => 196608,
     }
 }
 
@@ -40,7 +53,7 @@ fn second_colour(rivals: bool) -> u8
 
 // Its men.
 pub fn men_of(m: Material) -> Men
-    ensures { λ r. ⌜ (T (known m) → (materialFor r ≡ m) × (r .colour < 2)) ⌝ }
+    ensures { λ r. ⌜ (T (given m) → (materialFor r ≡ m) × (r .colour < 2)) ⌝ }
 {
     match m {
         Material::One(kind) => Men {
@@ -52,6 +65,11 @@ pub fn men_of(m: Material) -> Men
             first,
             second,
             colour: second_colour(rivals),
+        },
+        Material::Pawn => Men {
+            first: 4,
+            second: 4,
+            colour: 0,
         },
     }
 }

@@ -1,6 +1,9 @@
-// Looking a position up in its ending's table, of one man or of two.
+// Looking a position up in its ending's table: of one man, of two, or of king and pawn.
 use answers::Answer;
 use answers::BestMove;
+use deciding::PAWN;
+use deciding::byte_at;
+use deciding::verdict_on;
 use four_men::lengths_fit;
 use four_men::material_for;
 use index::normal_place;
@@ -10,11 +13,10 @@ use position::Map;
 use position::Position;
 use position::Slot;
 use position::TABLE_LENGTH;
+use position::man_in;
 use position::standing_with;
 use rules::promotion_of;
 use successors::Verdict;
-use successors::byte_at;
-use successors::verdict_on;
 ghost use mathlib.Core.Path.{_≡_};
 ghost use Rattle.symmetry.specs.Symmetry.{inverse};
 ghost use Rattle.position.specs.Maps.{symmetryOf};
@@ -50,8 +52,8 @@ fn carried_back(via: Map, advice: BestMove) -> BestMove
     }
 }
 
-// The value, the depth and a move, by the table of the position's own ending and the lent ones; or a refusal, 1 to 7 or
-// 11. It asks the normal position, so that one study has one move.
+// The value, the depth and a move, by the table of the position's own ending and the lent ones; or a refusal, 1 to 7,
+// 11 or 18. It asks the normal position, so that one study has one move.
 pub fn look_up_with(p: Position, table: &[u8], first: &[u8], second: &[u8]) -> Answer
     ensures { λ r. ⌜ r ≡ lookUpWith (lent (now (first .entry)) (now (second .entry))) (now (table .entry)) p ⌝ }
 {
@@ -73,11 +75,17 @@ pub fn look_up_with(p: Position, table: &[u8], first: &[u8], second: &[u8]) -> A
     }
 }
 
-// The same for the parts that keep to three men, whose tables borrow none: two men are refused 1.
+// The same for the parts that keep to three men, whose tables borrow none: two men are refused 1, and so is a
+// pawn.
 pub fn look_up(table: &[u8], p: Position) -> Answer
     ensures { λ r. ⌜ r ≡ lookUpOf (now (table .entry)) p ⌝ }
 {
+    let first = p.first;
     let second = p.second;
+    let man = man_in(first);
+    if man.kind == PAWN {
+        return Answer::Refused(BAD_MAN);
+    }
     match second {
         Slot::Present(_) => Answer::Refused(BAD_MAN),
         Slot::Absent => look_up_with(p, table, table, table),

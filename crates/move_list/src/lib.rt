@@ -8,6 +8,8 @@ mod promoting;
 pub use answers::count_of;
 pub use answers::legal_moves;
 pub use answers::move_count;
+pub use lists::moves_of;
+pub use promoting::promoting_set;
 
 // How many moves a list has room for: those of two men besides the kings.
 pub const ROOM: usize = 62;

@@ -12,3 +12,4 @@ pub mod AtLaws
 pub mod LoneLaws
 pub mod MirrorLaws
 pub mod FitLaws
+pub mod MaterialLaws

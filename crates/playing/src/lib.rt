@@ -1,14 +1,18 @@
 // A legal move played on a position as keyed.
+mod promoting;
+
 use board::has;
+use move_list::promoting_set;
 use movegen::legal_targets;
-use movegen::make;
 use position::Position;
 use position::Slot;
 use position::standing_with;
+use promoting::is_named;
+use promoting::make_as;
 ghost use mathlib.Core.Path.{_≡_};
 ghost use Rattle.playing.specs.Playing.{closedUp, playOf};
 
-// The position after the move; or the move is not legal; or a refusal from 1 to 6 of the position before it.
+// The position after the move; or the move is not legal; or a refusal from 1 to 6, or 18, of the position before it.
 pub enum Played {
     At(Position),
     NotLegal,
@@ -33,8 +37,9 @@ fn closed_up(p: Position) -> Position
     }
 }
 
-pub fn play(p: Position, from: u8, to: u8) -> Played
-    ensures { λ r. ⌜ r ≡ playOf p from to ⌝ }
+// A promotion names the piece by 1 and its kind; any other move has 0.
+pub fn play(p: Position, from: u8, to: u8, becomes: u8) -> Played
+    ensures { λ r. ⌜ r ≡ playOf p from to becomes ⌝ }
 {
     let refusal = standing_with(p);
     if refusal != 0 {
@@ -43,5 +48,8 @@ pub fn play(p: Position, from: u8, to: u8) -> Played
     if !has(legal_targets(p, from), to) {
         return Played::NotLegal;
     }
-    Played::At(closed_up(make(p, from, to)))
+    if !is_named(has(promoting_set(p, from), to), becomes) {
+        return Played::NotLegal;
+    }
+    Played::At(closed_up(make_as(p, from, to, becomes)))
 }

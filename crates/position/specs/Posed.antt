@@ -5,7 +5,7 @@ use Prim.Native.Nat.{ℕ, _<_}
 use lib.Dec.{T, leb, eqb}
 use Rattle.rules.specs.Rules.{Board, pieceOf}
 use Rattle.numbering.specs.declared.Material.{Material}
-use Rattle.numbering.specs.Material.{known, OfMaterial}
+use Rattle.numbering.specs.Material.{known, oneOf, OfMaterial}
 use Rattle.position.specs.declared.Slot.{Slot}
 use Rattle.position.specs.declared.Slot.the-variants.{Absent, Present}
 use Rattle.position.specs.declared.Position.{Position}
@@ -33,7 +33,7 @@ boardIn m q = boardOf (posed m q)
 
 -- the material of these men
 abbrev pub materialFor : Men → Material
-materialFor m = cond (leb 4 (m .second)) (Material.One (m .first)) (Material.Two (m .first) (m .second) (eqb (m .colour) 1))
+materialFor m = cond (leb 4 (m .second)) (oneOf (m .first)) (Material.Two (m .first) (m .second) (eqb (m .colour) 1))
 
 -- all the men of an ending are there, and 1 to 5 do not refuse the position
 pub record Complete (m : Men) (q : Place) : Type 0 where

@@ -8,3 +8,4 @@ pub mod OwnerLaws
 pub mod ChangedRefusals
 pub mod PosedLaws
 pub mod BothSizes
+pub mod StandingWith

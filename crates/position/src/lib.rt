@@ -58,6 +58,8 @@ pub const NOT_IN_SET: u8 = 15;
 
 pub const TOO_MANY_PLIES: u8 = 16;
 
+pub const BAD_PAWN: u8 = 18;
+
 // Room for a piece besides the kings.
 pub enum Slot {
     Absent,

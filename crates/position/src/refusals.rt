@@ -1,5 +1,6 @@
 // The refusals of a position, the lowest that applies.
 use super::BAD_MAN;
+use super::BAD_PAWN;
 use super::BAD_SIDE;
 use super::BAD_SQUARE;
 use super::KINGS_TOUCH;
@@ -12,7 +13,7 @@ use super::other;
 use board::has;
 use board::targets;
 ghost use mathlib.Core.Path.{_≡_};
-ghost use Rattle.position.specs.Refusals.{badMen, badSide, badSquare, sharedSquare, slotForeign, slotOff, slotOn, slotsShare, laterRefusal, placingRefusal, orInCheck, standingRefusal, badMenOf, placingWith, standingWith};
+ghost use Rattle.position.specs.Refusals.{badMen, badSide, badSquare, badPawn, sharedSquare, slotForeign, slotOff, slotAstray, slotOn, slotsShare, laterRefusal, placingRefusal, orInCheck, standingRefusal, badMenOf, placingWith, standingWith};
 
 // Whether the men are none that have a table.
 fn bad_men(first: Slot, second: Slot) -> bool
@@ -27,14 +28,14 @@ fn bad_men(first: Slot, second: Slot) -> bool
     }
 }
 
-// The same, where two men may have one.
+// The same, where two men may have one, and a lone pawn.
 fn bad_men_of(first: Slot, second: Slot) -> bool
     ensures { λ r. ⌜ r ≡ badMenOf first second ⌝ }
 {
     match first {
         Slot::Absent => true,
         Slot::Present(m) => match second {
-            Slot::Absent => 4 <= m.kind,
+            Slot::Absent => 5 <= m.kind,
             Slot::Present(n) => (4 <= m.kind) | (4 <= n.kind),
         },
     }
@@ -78,6 +79,25 @@ fn bad_square(p: Position) -> bool
     (64 <= p.white_king) | ((64 <= p.black_king) | (is_off(first) | is_off(second)))
 }
 
+// Whether a man is a pawn on rank 1 or 8.
+fn is_astray(slot: Slot) -> bool
+    ensures { λ r. ⌜ r ≡ slotAstray slot ⌝ }
+{
+    match slot {
+        Slot::Absent => false,
+        Slot::Present(m) => (m.kind == 4) & ((m.square < 8) | (56 <= m.square)),
+    }
+}
+
+// Whether one of the men is.
+fn bad_pawn(p: Position) -> bool
+    ensures { λ r. ⌜ r ≡ badPawn p ⌝ }
+{
+    let first = p.first;
+    let second = p.second;
+    is_astray(first) | is_astray(second)
+}
+
 // Whether a man stands on a square.
 fn is_on(square: u8, slot: Slot) -> bool
     ensures { λ r. ⌜ r ≡ slotOn square slot ⌝ }
@@ -111,7 +131,7 @@ fn shared_square(p: Position) -> bool
             | ((is_on(black, first) | is_on(black, second)) | men_share(first, second)))
 }
 
-// Refusals 2 to 5, the lowest that applies; 0 where none does.
+// Refusals 2 to 5 and 18, the first that applies; 0 where none does.
 fn later_refusal(p: Position) -> u8
     ensures { λ r. ⌜ r ≡ laterRefusal p ⌝ }
 {
@@ -120,6 +140,9 @@ fn later_refusal(p: Position) -> u8
     }
     if bad_square(p) {
         return BAD_SQUARE;
+    }
+    if bad_pawn(p) {
+        return BAD_PAWN;
     }
     if shared_square(p) {
         return SHARED_SQUARE;
@@ -130,7 +153,7 @@ fn later_refusal(p: Position) -> u8
     0
 }
 
-// Refusals 1 to 5, the lowest that applies; 0 where none does. Two men are refused.
+// Refusals 1 to 5, the lowest that applies; 0 where none does. Two men are refused, and a pawn.
 pub fn placing_refusal(p: Position) -> u8
     ensures { λ r. ⌜ r ≡ placingRefusal p ⌝ }
 {
@@ -142,7 +165,7 @@ pub fn placing_refusal(p: Position) -> u8
     later_refusal(p)
 }
 
-// The same for one man and for two.
+// The same for one man and for two, and for a lone pawn, with 18 after 3.
 pub fn placing_with(p: Position) -> u8
     ensures { λ r. ⌜ r ≡ placingWith p ⌝ }
 {
@@ -154,7 +177,7 @@ pub fn placing_with(p: Position) -> u8
     later_refusal(p)
 }
 
-// A refusal from 1 to 5, or else 6 where it applies.
+// Such a refusal, or else 6 where it applies.
 fn or_in_check(p: Position, refusal: u8) -> u8
     ensures { λ r. ⌜ r ≡ orInCheck p refusal ⌝ }
 {
@@ -167,14 +190,14 @@ fn or_in_check(p: Position, refusal: u8) -> u8
     0
 }
 
-// Refusals 1 to 6, the lowest that applies; 0 where none does. Two men are refused.
+// Refusals 1 to 6, the lowest that applies; 0 where none does. Two men are refused, and a pawn.
 pub fn standing_refusal(p: Position) -> u8
     ensures { λ r. ⌜ r ≡ standingRefusal p ⌝ }
 {
     or_in_check(p, placing_refusal(p))
 }
 
-// The same for one man and for two.
+// The same for one man and for two, and for a lone pawn, with 18 after 3.
 pub fn standing_with(p: Position) -> u8
     ensures { λ r. ⌜ r ≡ standingWith p ⌝ }
 {

@@ -16,9 +16,9 @@ pub use Rattle.words.specs.Words.{numberWord, placedWord, countWord, filledWord
 
 -- ---- the move list, over a lent list of bytes
 
--- from-square, to-square, 1 where the move takes and 0 where not, and 0
+-- from-square, to-square, 1 where the move takes and 0 where not, and what a pawn becomes
 abbrev pub moveBytes : Move → List ℕ
-moveBytes m = m .from ∷ m .to ∷ flagOf (m .takes) ∷ 0 ∷ []
+moveBytes m = m .from ∷ m .to ∷ flagOf (m .takes) ∷ m .becomes ∷ []
 
 -- 62 places of four bytes
 abbrev pub listSize : ℕ

@@ -17,7 +17,7 @@ const LIST_BYTES: usize = 4 * 62;
 // The answer where another length is lent.
 const NO_LIST: u32 = 255;
 
-// Writes each move's from-square, to-square, and whether it takes; all else is 0.
+// Writes each move's from-square, to-square, whether it takes, and what a pawn becomes; all else is 0.
 fn write_moves(list: MoveList, bytes: &mut [u8])
     requires { ⌜ (length (now bytes) ≡ listSize) × (list .count ≤ room) ⌝ }
     ensures { λ r. ⌜ now (bytes .exit) ≡ listBytes (take (list .count) (list .moves)) ⌝ }
@@ -31,12 +31,12 @@ fn write_moves(list: MoveList, bytes: &mut [u8])
         bytes[4 * i] = m.from;
         bytes[4 * i + 1] = m.to;
         bytes[4 * i + 2] = flag(m.takes);
-        bytes[4 * i + 3] = 0;
+        bytes[4 * i + 3] = m.becomes;
         i += 1;
     }
 }
 
-// Refusals 1 to 6 leave all bytes zero; with another length than 248 nothing is written.
+// Refusals 1 to 6 and 18 leave all bytes zero; with another length than 248 nothing is written.
 #[no_mangle]
 pub extern "C" fn sledgewren_moves(
     side: u8,

@@ -16,7 +16,7 @@ ghost use Rattle.words.specs.Men.{positionRead};
 ghost use Rattle.words.specs.Endings.{materialRead, endingOf, tableBytes};
 ghost use Rattle.sledgewren.specs.Words.{numberWord, placedWord, countWord};
 
-// Refusals 1 to 5.
+// Refusals 1 to 5 and 18.
 #[no_mangle]
 pub extern "C" fn sledgewren_number(side: u8, white: u8, black: u8, first: u32, second: u32) -> u32
     ensures { λ r. ⌜ r ≡ numberWord (numberWith (positionRead side white black first second)) ⌝ }
@@ -32,7 +32,7 @@ pub extern "C" fn sledgewren_position(ending: u32, number: u32) -> u64
     placed_word(position_with(material_read(ending), number))
 }
 
-// Refusals 1 to 6.
+// Refusals 1 to 6 and 18.
 #[no_mangle]
 pub extern "C" fn sledgewren_count(side: u8, white: u8, black: u8, first: u32, second: u32) -> u32
     ensures { λ r. ⌜ r ≡ countWord (countAnswer (positionRead side white black first second)) ⌝ }

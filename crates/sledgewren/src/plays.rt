@@ -7,7 +7,7 @@ ghost use Rattle.playing.specs.Playing.{playOf};
 ghost use Rattle.words.specs.Men.{positionRead};
 ghost use Rattle.words.specs.Played.{playedWord};
 
-// Refusals 1 to 6.
+// `becomes` is what a pawn becomes, 1 + the piece's code, and 0 in every other move. Refusals 1 to 6 and 18.
 #[no_mangle]
 pub extern "C" fn sledgewren_play(
     side: u8,
@@ -17,9 +17,10 @@ pub extern "C" fn sledgewren_play(
     second: u32,
     from: u8,
     to: u8,
+    becomes: u8,
 ) -> u64
-    ensures { λ r. ⌜ r ≡ playedWord (playOf (positionRead side white black first second) from to) ⌝ }
+    ensures { λ r. ⌜ r ≡ playedWord (playOf (positionRead side white black first second) from to becomes) ⌝ }
 {
     let p = position_read(side, white, black, first, second);
-    played_word(play(p, from, to))
+    played_word(play(p, from, to, becomes))
 }

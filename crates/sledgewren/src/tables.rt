@@ -1,5 +1,6 @@
-// Filling a table, checking one, and looking a position up, with one man or two. The small tables are those of the
-// first man's kind and of the second's; with one man they are not read.
+// Filling a table, checking one, and looking a position up, with one piece, two or a pawn. The small tables are those
+// of the first man's kind and of the second's; a pawn's are the four pieces' in the first, one after the other; with
+// one piece they are not read.
 use checking::check_with;
 use fifty::look_up_at_with;
 use filling::fill_back;
@@ -12,6 +13,7 @@ use words::position_read;
 ghost use mathlib.Core.Path.{_≡_};
 ghost use Rattle.four_men.specs.Lending.{lent};
 ghost use Rattle.four_men.specs.Answers.{fillWith, checkWith};
+ghost use Rattle.filling.specs.FillPromise.{fillBackWith};
 ghost use Rattle.fifty.specs.Marks.{lookUpAtWith};
 ghost use Rattle.words.specs.Men.{positionRead};
 ghost use Rattle.words.specs.Endings.{materialRead};
@@ -31,7 +33,7 @@ pub extern "C" fn sledgewren_fill(
     filled_word(fill_with(m, small_first, small_second, &mut *table))
 }
 
-// The same, quicker: it works back from the positions just settled.
+// The same of pieces, quicker: it works back from the positions just settled. King and pawn is refused 1.
 #[no_mangle]
 pub extern "C" fn sledgewren_fill_back(
     ending: u32,
@@ -39,7 +41,7 @@ pub extern "C" fn sledgewren_fill_back(
     small_second: &[u8],
     table: &mut [u8],
 ) -> u32
-    ensures { λ r. ⌜ (r ≡ filledWord (fillWith (materialRead ending) (lent (now («small_first» .entry)) (now («small_second» .entry))) (now (table .entry)) .answer)) × (now (table .exit) ≡ fillWith (materialRead ending) (lent (now («small_first» .entry)) (now («small_second» .entry))) (now (table .entry)) .bytes) ⌝ }
+    ensures { λ r. ⌜ (r ≡ filledWord (fillBackWith (materialRead ending) (lent (now («small_first» .entry)) (now («small_second» .entry))) (now (table .entry)) .answer)) × (now (table .exit) ≡ fillBackWith (materialRead ending) (lent (now («small_first» .entry)) (now («small_second» .entry))) (now (table .entry)) .bytes) ⌝ }
 {
     let m = material_read(ending);
     filled_word(fill_back(m, small_first, small_second, &mut *table))
@@ -59,7 +61,7 @@ pub extern "C" fn sledgewren_check(
     checked_word(check_with(m, table, small_first, small_second))
 }
 
-// Refusals 1 to 7, 11 and 19.
+// Refusals 1 to 7, 11, 18 and 19.
 #[no_mangle]
 pub extern "C" fn sledgewren_look_up(
     side: u8,

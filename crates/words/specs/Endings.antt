@@ -5,16 +5,17 @@ use mathlib.Core.List.{_++_}
 use Prim.Native.Nat.{ℕ, _+_, _-_, _*_, _^_}
 use lib.Dec.{eqb}
 use Rattle.numbering.specs.declared.Material.{Material}
-use Rattle.numbering.specs.Material.{known, materialIn, sizeOf}
+use Rattle.numbering.specs.Material.{given, oneOf, materialIn, sizeOf}
 use Rattle.position.specs.Keyed.{slotMen}
 use Rattle.words.specs.Words.{flagOf}
 use Rattle.words.specs.Reading.{bits}
 use Rattle.words.specs.Men.{manRead}
 
--- one man: his kind; two: bits 0-7 the first's kind, 8-15 1 + the second's, bit 16 one each
+-- one man: his kind, a pawn's being 4; two: bits 0-7 the first's kind, 8-15 1 + the second's, bit 16 one each
 abbrev pub materialWord : Material → ℕ
 materialWord (Material.One kind) = kind
 materialWord (Material.Two first second rivals) = first + (second + 1) * 2 ^ 8 + flagOf rivals * 2 ^ 16
+materialWord Material.Pawn = 4
 
 -- no ending: its word is refused 1 wherever an ending is asked for
 abbrev pub noMaterial : Material
@@ -23,7 +24,7 @@ noMaterial = Material.One 255
 -- "below 256 one man; else two, where bits 8-15 are not 0 and bits 17-31 are"
 abbrev pub materialRead : ℕ → Material
 materialRead word =
-    cond (eqb (bits 8 24 word) 0) (Material.One (bits 0 8 word))
+    cond (eqb (bits 8 24 word) 0) (oneOf (bits 0 8 word))
     (cond (eqb (bits 8 8 word) 0) noMaterial
     (cond (eqb (bits 17 15 word) 0) (Material.Two (bits 0 8 word) (bits 8 8 word - 1) (eqb (bits 16 1 word) 1)) noMaterial))
 
@@ -32,7 +33,7 @@ abbrev pub noEnding : ℕ
 noEnding = 4294967295
 
 abbrev pub endingWord : Material → ℕ
-endingWord m = cond (known m) (materialWord m) noEnding
+endingWord m = cond (given m) (materialWord m) noEnding
 
 -- of the men of two words, whichever comes first and whoever owns them
 abbrev pub endingOf : ℕ → ℕ → ℕ
@@ -40,4 +41,4 @@ endingOf first second = endingWord (materialIn (slotMen (manRead first) ++ slotM
 
 -- how long an ending's table is; 0 where there is no such ending
 abbrev pub tableBytes : Material → ℕ
-tableBytes m = cond (known m) (sizeOf m) 0
+tableBytes m = cond (given m) (sizeOf m) 0

@@ -1,5 +1,6 @@
 -- A host's moves in a game, read from the words of `sledgewren_look_up` by the bit ranges of include/sledgewren.h,
--- and what is promised of the game; one man or two, through captures until bare kings. Definitions only.
+-- and what is promised of the game; of every ending, through captures and promotions until bare kings. Definitions
+-- only.
 use mathlib.Core.Path.{_≡_}
 use mathlib.Core.Bool.{Bool, false, cond}
 use mathlib.Core.Logic.{_↔_}
@@ -14,16 +15,16 @@ use Rattle.rules.specs.declared.Move.{Move}
 use Rattle.rules.specs.Rules.{Board, empty}
 use Rattle.rules.specs.Chess.{chess}
 use Rattle.numbering.specs.declared.Material.{Material}
-use Rattle.endings.specs.Truth.{TrueAnswer}
 use Rattle.endings.specs.GamePromise.{given}
 use Rattle.four_men.specs.Lending.{Lent}
 use Rattle.four_men.specs.Reading.{numbered}
+use Rattle.four_men.specs.Truth.{TrueAnswerIn}
 use Rattle.fifty.specs.FiftyPromise.{answerAtWith, PlaysBy, ClearBy, Within, FiftyPromiseWith}
 use Rattle.words.specs.Words.{markedWord}
 use Rattle.words.specs.Reading.{adviceRead, answerRead, markRead}
 
 -- what `sledgewren_look_up` answers when it is given the board's side, kings and men, and the count, and is lent the
--- table of the ending then on the board: t, or, for a man left alone, the small table of his kind
+-- table of the ending then on the board: t, or, for a piece left alone or made of a pawn, the small table of its kind
 unfoldable pub lookUpWord : Material → Lent → List ℕ → Board → ℕ → ℕ
 lookUpWord m l t b c = markedWord (answerAtWith m l t b c)
 
@@ -41,11 +42,11 @@ pub record HostPromise (m : Material) (l : Lent) (t : List ℕ) (side : Bool) (b
   -- all that the theorem about games at any counts promises
   pub game : FiftyPromiseWith m l t side b ms
   -- what the first position is called, read from its word, is its true value and depth
-  pub called : (c : ℕ) → c ≤ 99 → TrueAnswer b (answerRead (lookUpWord m l t b c))
+  pub called : (c : ℕ) → c ≤ 99 → TrueAnswerIn b (answerRead (lookUpWord m l t b c))
   -- so it is for every position of the game, bare kings apart
   pub answers : (i : ℕ) → i ≤ length ms → empty (atPly chess b ms i .men) ≡ false → (c : ℕ) → c ≤ 99
-      → TrueAnswer (atPly chess b ms i) (answerRead (lookUpWord m l t (atPly chess b ms i) c))
-  -- bit 25 is set exactly where it is decided and the count plus the depth is at most 100
+      → TrueAnswerIn (atPly chess b ms i) (answerRead (lookUpWord m l t (atPly chess b ms i) c))
+  -- bit 25 is set exactly where there is no pawn, it is decided, and the count plus the depth is at most 100
   pub marked : (i : ℕ) → i ≤ length ms → empty (atPly chess b ms i .men) ≡ false → (c : ℕ) → c ≤ 99
       → T (markRead (lookUpWord m l t (atPly chess b ms i) c)) ↔ Within (atPly chess b ms i) c
   -- set at the first position, it says that the game is won clear of the fifty-move rule

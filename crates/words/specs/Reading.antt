@@ -6,7 +6,7 @@ use mathlib.Core.List.{List}
 use Prim.Native.Nat.{ℕ, _/_, _%_, _^_, _≤_, _<_}
 use lib.Dec.{eqb}
 use lib.ListN.{getD}
-use Rattle.rules.specs.Rules.{pieceOf, moveOf}
+use Rattle.rules.specs.Rules.{pieceOf, promotionOf}
 use Rattle.answers.specs.declared.BestMove.{BestMove}
 use Rattle.answers.specs.declared.Answer.{Answer}
 use Rattle.answers.specs.declared.Checked.{Checked}
@@ -47,6 +47,7 @@ seated (Material.Two j k rivals) side white first black second = record {
   first = Present (pieceOf j 0 first);
   second = Present (pieceOf k (cond rivals 1 0) second);
 }
+seated Material.Pawn side white first black second = lone 4 side white first black
 
 -- "bits 0-7 refusal, 8-15 side, 16-23 white king, 24-31 the first man's square, 32-39 black king, 40-47 the second
 -- man's"; the ending is the caller's
@@ -67,9 +68,11 @@ filledRead word = unlessRefused (cond (eqb (bits 8 1 word) 1) (Filled.Greatest (
 abbrev pub checkedRead : ℕ → Checked
 checkedRead word = unlessRefused (cond (eqb (bits 8 1 word) 1) (Checked.Wrong (bits 32 32 word)) Checked.Accepted) Checked.Refused word
 
--- "bit 24 a move is given, 32-39 from, 40-47 to, bit 48 it takes"
+-- "bit 24 a move is given, 32-39 from, 40-47 to, bit 48 it takes, 56-63 what a pawn becomes"
 abbrev pub adviceRead : ℕ → BestMove
-adviceRead word = cond (eqb (bits 24 1 word) 1) (BestMove.Play (moveOf (bits 32 8 word) (bits 40 8 word) (eqb (bits 48 1 word) 1))) BestMove.NoMove
+adviceRead word =
+    cond (eqb (bits 24 1 word) 1)
+    (BestMove.Play (promotionOf (bits 32 8 word) (bits 40 8 word) (eqb (bits 48 1 word) 1) (bits 56 8 word))) BestMove.NoMove
 
 -- win 1, loss 2, draw 3, with a depth
 abbrev pub valueRead : ℕ → ℕ → BestMove → Answer
@@ -132,9 +135,9 @@ CheckedFits Checked.Accepted = Unit {0}
 CheckedFits (Checked.Wrong n) = n < 2 ^ 32
 CheckedFits (Checked.Refused k) = RefusalFits k
 
--- a move that promotes nothing
+-- a move on two squares; "what a pawn becomes: 0 for nothing, else 1 + the piece's code"
 abbrev pub AdviceFits : BestMove → Type 0
-AdviceFits (BestMove.Play m) = Byte (m .from) × Byte (m .to) × (m .becomes ≡ 0)
+AdviceFits (BestMove.Play m) = Byte (m .from) × Byte (m .to) × (m .becomes < 5)
 AdviceFits BestMove.NoMove = Unit {0}
 
 abbrev pub AnswerFits : Answer → Type 0

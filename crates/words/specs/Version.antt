@@ -11,4 +11,4 @@ abbrev pub versionWord : Version → ℕ
 versionWord v = v .major * 2 ^ 16 + v .minor * 2 ^ 8 + v .patch
 
 abbrev pub current : Version
-current = record { major = 0; minor = 1; patch = 0 }
+current = record { major = 0; minor = 2; patch = 0 }

@@ -50,9 +50,9 @@ abbrev pub flagOf : Bool → ℕ
 flagOf true = 1
 flagOf false = 0
 
--- bit 24 a move is given, 32-39 from, 40-47 to, bit 48 it takes
+-- bit 24 a move is given, 32-39 from, 40-47 to, bit 48 it takes, 56-63 what a pawn becomes
 abbrev pub adviceWord : BestMove → ℕ
-adviceWord (Play m) = 2 ^ 24 + m .from * 2 ^ 32 + m .to * 2 ^ 40 + flagOf (m .takes) * 2 ^ 48
+adviceWord (Play m) = 2 ^ 24 + m .from * 2 ^ 32 + m .to * 2 ^ 40 + flagOf (m .takes) * 2 ^ 48 + m .becomes * 2 ^ 56
 adviceWord NoMove = 0
 
 -- bits 0-7 refusal, 8-15 value (win 1, loss 2, draw 3), 16-23 depth, and the move's

@@ -1,14 +1,14 @@
 // An ending as one word, and the ending of two men.
 use super::flag;
 use super::men::man_read;
-use index::is_known;
+use index::is_given;
 use index::size_of;
 use numbering::Material;
 use position::Slot;
 use rules::Piece;
 ghost use mathlib.Core.Path.{_≡_};
 ghost use mathlib.Core.List.{[], _∷_, _++_};
-ghost use Rattle.numbering.specs.Material.{materialIn};
+ghost use Rattle.numbering.specs.Material.{oneOf, materialIn};
 ghost use Rattle.position.specs.Keyed.{slotMen};
 ghost use Rattle.words.specs.Endings.{materialWord, materialRead, endingOf, tableBytes};
 
@@ -17,11 +17,21 @@ const NO_KIND: u8 = 255;
 
 const NO_ENDING: u32 = 0xFFFF_FFFF;
 
+// The ending of one man of this kind.
+fn one_of(kind: u8) -> Material
+    ensures { λ r. ⌜ r ≡ oneOf kind ⌝ }
+{
+    if kind == 4 {
+        return Material::Pawn;
+    }
+    Material::One(kind)
+}
+
 pub fn material_read(word: u32) -> Material
     ensures { λ r. ⌜ r ≡ materialRead word ⌝ }
 {
     if word / 0x100 % 0x100_0000 == 0 {
-        return Material::One((word % 0x100) as u8);
+        return one_of((word % 0x100) as u8);
     }
     let second = word / 0x100 % 0x100;
     if second == 0 {
@@ -45,6 +55,7 @@ fn material_word(m: Material) -> u32
         Material::Two(first, second, rivals) => {
             first as u32 + (second as u32 + 1) * 0x100 + flag(rivals) as u32 * 0x1_0000
         },
+        Material::Pawn => 4,
     }
 }
 
@@ -63,7 +74,7 @@ fn joined(a: Piece, slot: Slot) -> Material
     ensures { λ r. ⌜ r ≡ materialIn (a ∷ slotMen slot) ⌝ }
 {
     match slot {
-        Slot::Absent => Material::One(a.kind),
+        Slot::Absent => one_of(a.kind),
         Slot::Present(c) => pair(a, c),
     }
 }
@@ -73,7 +84,7 @@ fn alone(slot: Slot) -> Material
 {
     match slot {
         Slot::Absent => Material::One(4),
-        Slot::Present(a) => Material::One(a.kind),
+        Slot::Present(a) => one_of(a.kind),
     }
 }
 
@@ -91,7 +102,7 @@ pub fn ending_of(first: u32, second: u32) -> u32
     ensures { λ r. ⌜ r ≡ endingOf first second ⌝ }
 {
     let m = material_in(man_read(first), man_read(second));
-    if !is_known(m) {
+    if !is_given(m) {
         return NO_ENDING;
     }
     material_word(m)
@@ -101,7 +112,7 @@ pub fn ending_of(first: u32, second: u32) -> u32
 pub fn table_bytes(m: Material) -> u32
     ensures { λ r. ⌜ r ≡ tableBytes m ⌝ }
 {
-    if !is_known(m) {
+    if !is_given(m) {
         return 0;
     }
     size_of(m)

@@ -94,16 +94,17 @@ pub fn flag(takes: bool) -> u8
 }
 
 fn move_word(m: Move) -> u64
-    ensures { λ r. ⌜ (r ≡ adviceWord (BestMove.Play m)) × (r < 2 ^ 49) ⌝ }
+    ensures { λ r. ⌜ (r ≡ adviceWord (BestMove.Play m)) × (r < 255 * 2 ^ 56 + 2 ^ 49) ⌝ }
 {
     0x100_0000
         + m.from as u64 * 0x1_0000_0000
         + m.to as u64 * 0x100_0000_0000
         + flag(m.takes) as u64 * 0x1_0000_0000_0000
+        + m.becomes as u64 * 0x100_0000_0000_0000
 }
 
 fn advice_word(a: BestMove) -> u64
-    ensures { λ r. ⌜ (r ≡ adviceWord a) × (r < 2 ^ 49) ⌝ }
+    ensures { λ r. ⌜ (r ≡ adviceWord a) × (r < 255 * 2 ^ 56 + 2 ^ 49) ⌝ }
 {
     match a {
         BestMove::Play(m) => move_word(m),
@@ -114,13 +115,13 @@ fn advice_word(a: BestMove) -> u64
 // A value, a depth and a move.
 fn value_word(value: u64, depth: u8, a: BestMove) -> u64
     requires { ⌜ value ≤ 3 ⌝ }
-    ensures { λ r. ⌜ (r ≡ value * 2 ^ 8 + depth * 2 ^ 16 + adviceWord a) × (r < 2 ^ 50) ⌝ }
+    ensures { λ r. ⌜ (r ≡ value * 2 ^ 8 + depth * 2 ^ 16 + adviceWord a) × (r < 255 * 2 ^ 56 + 2 ^ 50) ⌝ }
 {
     value * 0x100 + depth as u64 * 0x1_0000 + advice_word(a)
 }
 
 fn answer_word(a: Answer) -> u64
-    ensures { λ r. ⌜ (r ≡ answerWord a) × (r < 2 ^ 50) ⌝ }
+    ensures { λ r. ⌜ (r ≡ answerWord a) × (r < 255 * 2 ^ 56 + 2 ^ 50) ⌝ }
 {
     match a {
         Answer::Win(n, advice) => value_word(1, n, advice),

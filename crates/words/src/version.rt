@@ -4,7 +4,7 @@ ghost use Rattle.words.specs.Version.{versionWord, current};
 
 const MAJOR: u8 = 0;
 
-const MINOR: u8 = 1;
+const MINOR: u8 = 2;
 
 const PATCH: u8 = 0;
 

@@ -1,4 +1,5 @@
-//! Gaviota's published tables, probed through libgaviotatb: two kings and one man of either side.
+//! Gaviota's published tables, probed through libgaviotatb: two kings and one man or pawn of
+//! either side.
 
 use std::ffi::{c_char, c_int, c_uchar, c_uint, CString};
 
@@ -13,10 +14,10 @@ const NO_PIECE: c_uchar = 0;
 const KING: c_uchar = 6;
 const SCHEME_4: c_int = 4;
 
-/// Queen, rook, bishop, knight.
-const PIECES: [c_uchar; 4] = [5, 4, 3, 2];
+/// Queen, rook, bishop, knight, pawn.
+const PIECES: [c_uchar; 5] = [5, 4, 3, 2, 1];
 
-/// Room for the decompressed tables of all four endings.
+/// Room for the decompressed tables of all five endings.
 const CACHE: usize = 32 << 20;
 
 #[link(name = "gaviotatb")]
@@ -89,7 +90,7 @@ impl Gaviota {
     ) -> Probed {
         let with_man = |king: u8| [king as c_uint, square as c_uint, NO_SQUARE];
         let alone = |king: u8| [king as c_uint, NO_SQUARE, NO_SQUARE];
-        let man_pieces = [KING, PIECES[kind as usize & 3], NO_PIECE];
+        let man_pieces = [KING, PIECES[kind as usize % PIECES.len()], NO_PIECE];
         let king_pieces = [KING, NO_PIECE, NO_PIECE];
         let (white, white_pieces, black, black_pieces) = match colour {
             0 => (with_man(white_king), man_pieces, alone(black_king), king_pieces),

@@ -17,7 +17,7 @@ use Rattle.position.specs.Keyed.{boardOf, manKind}
 use Rattle.position.specs.Refusals.{standingRefusal}
 use Rattle.position.specs.laws.Legality.{standing-facts}
 use Rattle.endings.specs.FilledTrue.{Shallow}
-use Rattle.endings.specs.Truth.{TrueAnswer}
+use Rattle.endings.specs.Truth.{TrueAnswerBy, TrueAnswer}
 use Rattle.endings.specs.laws.Checking.{keyed-lone}
 use Rattle.slips.specs.Slip.{slipOf}
 use Rattle.slips.specs.Fits.{AdviceFits, AnswerFits}
@@ -37,13 +37,13 @@ module _ (p : Position) (z : standingRefusal p ≡ 0) (s : Shallow (manKind p)) 
       go (inr h) = let f = standing-facts p z in absurd (s n h (boardOf p, f .1, keyed-lone (manKind p) p refl z, d))
 
   true-fits : (a : Answer) → TrueAnswer (boardOf p) a → AnswerFits a
-  true-fits a (TrueAnswer.won n m w f e) =
+  true-fits a (TrueAnswerBy.won n m w f e) =
       subst AnswerFits (sym e) (depth-fits n (DepthIs.win w), move-fits (boardOf p) m (standing-facts p z .1) (f .legal))
-  true-fits a (TrueAnswer.lost n m w f e) =
+  true-fits a (TrueAnswerBy.lost n m w f e) =
       subst AnswerFits (sym e) (depth-fits n (DepthIs.loss w), move-fits (boardOf p) m (standing-facts p z .1) (f .legal))
-  true-fits a (TrueAnswer.mate w o e) = subst AnswerFits (sym e) (omega arith, tt)
-  true-fits a (TrueAnswer.drawn m w f e) = subst AnswerFits (sym e) (move-fits (boardOf p) m (standing-facts p z .1) (f .legal))
-  true-fits a (TrueAnswer.stalemate w o e) = subst AnswerFits (sym e) tt
+  true-fits a (TrueAnswerBy.mate w o e) = subst AnswerFits (sym e) (omega arith, tt)
+  true-fits a (TrueAnswerBy.drawn m w f e) = subst AnswerFits (sym e) (move-fits (boardOf p) m (standing-facts p z .1) (f .legal))
+  true-fits a (TrueAnswerBy.stalemate w o e) = subst AnswerFits (sym e) tt
 
 pub one-answer-a-slip : (p q : Position) (a c : Answer) → standingRefusal p ≡ 0 → Shallow (manKind p)
     → TrueAnswer (boardOf p) a

@@ -18,8 +18,8 @@ use Rattle.table_theory.specs.Tables.{reads, requiredByte, wrongAt}
 use Rattle.rules.specs.Rules.{Board}
 use Rattle.rules.specs.Chess.{chess}
 use Rattle.numbering.specs.declared.Material.{Material}
-use Rattle.numbering.specs.Material.{known, menOf, sizeOf}
-use Rattle.numbering.specs.Keys.{boardAt}
+use Rattle.numbering.specs.Material.{given, sizeOf}
+use Rattle.index.specs.Endings.{boardFor}
 use Rattle.answers.specs.declared.Checked.{Checked}
 use Rattle.position.specs.declared.Men.{Men}
 use Rattle.position.specs.Posed.{materialFor}
@@ -33,7 +33,7 @@ use Rattle.four_men.specs.laws.Alone.{check-alone}
 use Rattle.four_men.specs.laws.Checking.{long-of}
 use Rattle.position.specs.declared.Place.{Place}
 use Rattle.successors.specs.declared.Standing.{Standing}
-use Rattle.successors.specs.Successors.{StandingAt}
+use Rattle.deciding.specs.Deciding.{StandingFor}
 use Rattle.checking.specs.Right.{Numbers, Ended, RightBelow, found}
 
 -- ---- the byte required at a number
@@ -45,7 +45,7 @@ module _ (m : Material) (l : Lent) (t : List ℕ) (n c : ℕ) where
   zero-right e = sym (rw e)
 
   -- a legal position stands there
-  pub position-right : (b : Board) (r : Bool) → b ≡ boardAt (menOf m) n → legalNumberOf m n ≡ true
+  pub position-right : (b : Board) (r : Bool) → b ≡ boardFor m n → legalNumberOf m n ≡ true
       → r ≡ eqb c (requiredAt chess (reads chess (numbered m l) t) b) → r ≡ eqb c (requiredByte chess (numbered m l) t n)
   unfolding requiredByte numbered
   position-right b r e g h =
@@ -53,20 +53,21 @@ module _ (m : Material) (l : Lent) (t : List ℕ) (n c : ℕ) where
 
 -- what code finds there
 pub legal-there : (m : Men) (n : ℕ) (s : Standing) (q : Place) → Numbers m n
-    → (T (known (materialFor m)) → m .colour < 2 → n < sizeOf (materialFor m) → StandingAt m n s) → s ≡ Standing.Legal q
-    → StandingAt m n (Standing.Legal q)
-legal-there m n s q h f e = subst (StandingAt m n) e (f (h .0 .ending) (h .0 .colour) (h .1))
+    → (T (given (materialFor m)) → m .colour < 2 → n < sizeOf (materialFor m) → StandingFor m n s) → s ≡ Standing.Legal q
+    → StandingFor m n (Standing.Legal q)
+legal-there m n s q h f e = subst (StandingFor m n) e (f (h .0 .ending) (h .0 .colour) (h .1))
 
 pub none-there : (m : Men) (n : ℕ) (s : Standing) → Numbers m n
-    → (T (known (materialFor m)) → m .colour < 2 → n < sizeOf (materialFor m) → StandingAt m n s) → s ≡ Standing.Nothing
+    → (T (given (materialFor m)) → m .colour < 2 → n < sizeOf (materialFor m) → StandingFor m n s) → s ≡ Standing.Nothing
     → legalNumberOf (materialFor m) n ≡ false
-none-there m n s h f e = subst (StandingAt m n) e (f (h .0 .ending) (h .0 .colour) (h .1))
+none-there m n s h f e = subst (StandingFor m n) e (f (h .0 .ending) (h .0 .colour) (h .1))
 
 -- ---- the loop
 
 pub size-most : (m : Material) → sizeOf m ≤ 3784704
 size-most (Material.One kind) = omega arith
 size-most (Material.Two first second rivals) = omega arith
+size-most Material.Pawn = omega arith
 
 module _ (m : Material) (l : Lent) (t : List ℕ) where
   right-at : (n : ℕ) → eqb (getD t n 0) (requiredByte chess (numbered m l) t n) ≡ true
@@ -105,7 +106,7 @@ module _ (m : Material) (l : Lent) (t : List ℕ) where
 
   -- ---- the refusals before it, as the code asks them
 
-  module _ (is : Bool) (e : is ≡ known m) where
+  module _ (is : Bool) (e : is ≡ given m) where
     pub refused-ending : is ≡ false → Checked.Refused 1 ≡ checkWith m l t
     unfolding checkWith
     refused-ending z = sym (rw (sym e ∙ z))
@@ -117,11 +118,11 @@ module _ (m : Material) (l : Lent) (t : List ℕ) where
 
       module _ (long : fit ≡ true) where
         -- the men by which the table is read
-        pub their-table : (n : Men) → (T (known m) → (materialFor n ≡ m) × (n .colour < 2)) → Ended n (length t)
+        pub their-table : (n : Men) → (T (given m) → (materialFor n ≡ m) × (n .colour < 2)) → Ended n (length t)
         their-table n h =
-            let k : T (known m) = of-true (sym e ∙ g) in
+            let k : T (given m) = of-true (sym e ∙ g) in
             let w = h k in (
-              record { ending = subst⁻¹ (λ (x : Material). T (known x)) (w .0) k; colour = w .1 },
+              record { ending = subst⁻¹ (λ (x : Material). T (given x)) (w .0) k; colour = w .1 },
               long-of m l t (of-true (sym f ∙ long)) ∙ ap sizeOf (sym (w .0)),
             )
 
@@ -130,7 +131,7 @@ module _ (m : Material) (l : Lent) (t : List ℕ) where
           unfolding checkWith
           refused-lent z = sym (rw (sym e ∙ g, sym f ∙ long, sym a ∙ z))
 
-          pub found-last : ok ≡ true → (n : Men) → (T (known m) → (materialFor n ≡ m) × (n .colour < 2))
+          pub found-last : ok ≡ true → (n : Men) → (T (given m) → (materialFor n ≡ m) × (n .colour < 2))
               → (r : Checked) → r ≡ found (materialFor n) l t → r ≡ checkWith m l t
           unfolding checkWith found
           found-last z n h r q =

@@ -28,7 +28,7 @@ use Rattle.numbering.specs.Change.{changedBy}
 use Rattle.numbering.specs.Number.{arranged, rulingMap, rulingOrder, normalised, numberOf}
 use Rattle.position.specs.declared.Position.{Position}
 use Rattle.position.specs.Keyed.{boardOf, lone}
-use Rattle.position.specs.Refusals.{badSide, badSquare, sharedSquare, placingRefusal, standingRefusal}
+use Rattle.position.specs.Refusals.{badSide, badSquare, badPawn, sharedSquare, placingRefusal, standingRefusal}
 use Rattle.index.specs.declared.NumberAnswer.{NumberAnswer}
 use Rattle.index.specs.declared.Placed.{Placed}
 use Rattle.index.specs.Answers.{numberAnswer, positionAt, unused, placedAt}
@@ -81,7 +81,7 @@ each no-more c m = absurd (List·Memᴰ·not-nil m)
 each (also h rest) c m = ⊎-elim (λ e. subst CaseHolds (sym e) h) (each rest c) (List·Memᴰ·cases-cons m)
 
 pub bench : (c : Case) → c ∈ starred → CaseHolds c
-unfolding numberAnswer numberOf keyOf keyFrom normalised arranged rulingMap rulingOrder changedBy crossed exchangeable crosses firstBlack like falling ordered prefers kingMap turn swapsKings badSide changed swapped other mapped boardOf badSquare sharedSquare placingRefusal standingRefusal apart positionAt unused pairOf rank kingPair kingRule cornered separate reaches any all numbers line shift stays touching mated moves allMoves movesFrom movesOnto flatMap filter squares canMove goes goesTo stands moved inCheck attacked attacks occupied
+unfolding numberAnswer numberOf keyOf keyFrom normalised arranged rulingMap rulingOrder changedBy crossed exchangeable crosses firstBlack like falling ordered prefers kingMap turn swapsKings badSide changed swapped other mapped boardOf badSquare badPawn sharedSquare placingRefusal standingRefusal apart positionAt unused pairOf rank kingPair kingRule cornered separate reaches any all numbers line shift stays touching mated moves allMoves movesFrom movesOnto flatMap filter squares canMove goes goesTo stands moved inCheck attacked attacks occupied
 bench =
     each
     (also refl

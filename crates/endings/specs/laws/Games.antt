@@ -14,6 +14,7 @@ use Rattle.finite.specs.Members.{map-in}
 use Rattle.theory.specs.Play.{LegalGame, Follows, after, atPly, Chooses, Promised}
 use Rattle.theory.specs.laws.Choice.{legal-take}
 use Rattle.theory.specs.laws.Games.{promised}
+use Rattle.symmetry.specs.Symmetry.{Symmetry}
 use Rattle.rules.specs.declared.Piece.{Piece}
 use Rattle.rules.specs.declared.Move.{Move}
 use Rattle.rules.specs.Rules.{Board, pieceOf, empty, legal}
@@ -27,7 +28,7 @@ use Rattle.answers.specs.declared.Answer.{Answer}
 use Rattle.answers.specs.declared.Checked.{Checked}
 use Rattle.endings.specs.Ending.{Lone, Ending, byteOf}
 use Rattle.endings.specs.laws.EndingDrawn.{ending-closed, bare-over, bare-drawn}
-use Rattle.endings.specs.Truth.{TrueAnswer}
+use Rattle.endings.specs.Truth.{TrueAnswerBy, TrueAnswer}
 use Rattle.endings.specs.Answers.{checkOf, answerOf, chosen, lookUpOf}
 use Rattle.endings.specs.laws.Turning.{ending-carries, chosen-chooses}
 use Rattle.endings.specs.laws.LookingUp.{accepted-bytes, look-up-answers, look-up-true, over-none}
@@ -77,17 +78,17 @@ answer-move n a = go (leb n 1) (eqb (n % 2) 1)
     go false false = refl
 
 -- from what is promised of a value to what is promised of its name
-pub told-by : (bytes : Board → ℕ) (pick : Board → Option Move) (side : Bool) (b : Board) (ms : List Move) (a : Answer)
-    → TrueAnswer b a → Promised chess bytes pick side b ms → Told a side b ms
-told-by bytes pick side b ms a (TrueAnswer.won n m w f e) p =
+pub told-by : {by : Board → Symmetry} {normal : Board → Board} (bytes : Board → ℕ) (pick : Board → Option Move) (side : Bool) (b : Board) (ms : List Move) (a : Answer)
+    → TrueAnswerBy by normal b a → Promised chess bytes pick side b ms → Told a side b ms
+told-by bytes pick side b ms a (TrueAnswerBy.won n m w f e) p =
     subst (λ (c : Answer). Told c side b ms) (sym e) (p .won n w, p .won-other n w)
-told-by bytes pick side b ms a (TrueAnswer.lost n m w f e) p =
+told-by bytes pick side b ms a (TrueAnswerBy.lost n m w f e) p =
     subst (λ (c : Answer). Told c side b ms) (sym e) (p .lost-other n w, p .lost n w)
-told-by bytes pick side b ms a (TrueAnswer.mate w o e) p =
+told-by bytes pick side b ms a (TrueAnswerBy.mate w o e) p =
     subst (λ (c : Answer). Told c side b ms) (sym e) (p .lost-other 0 w, p .lost 0 w)
-told-by bytes pick side b ms a (TrueAnswer.drawn m w f e) p =
+told-by bytes pick side b ms a (TrueAnswerBy.drawn m w f e) p =
     subst (λ (c : Answer). Told c side b ms) (sym e) (p .drawn w)
-told-by bytes pick side b ms a (TrueAnswer.stalemate w o e) p =
+told-by bytes pick side b ms a (TrueAnswerBy.stalemate w o e) p =
     subst (λ (c : Answer). Told c side b ms) (sym e) (p .drawn w)
 
 module _ (kind : ℕ) (t : List ℕ) (ok : checkOf kind t ≡ Checked.Accepted) where

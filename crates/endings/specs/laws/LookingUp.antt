@@ -18,6 +18,7 @@ use Rattle.theory.specs.Play.{Over, firstSuited, suits, Answered}
 use Rattle.theory.specs.laws.Choice.{suits-draw, suits-less, draw-suits, less-suits}
 use Rattle.theory.specs.laws.OnePly.{answered-at}
 use Rattle.table_theory.specs.laws.Acceptance.{accepted-consistent}
+use Rattle.symmetry.specs.Symmetry.{Symmetry}
 use Rattle.rules.specs.declared.Move.{Move}
 use Rattle.rules.specs.Rules.{Board, legal, moves}
 use Rattle.rules.specs.Changed.{mappedMove}
@@ -32,11 +33,11 @@ use Rattle.answers.specs.declared.Checked.{Checked}
 use Rattle.endings.specs.Ending.{Ending, tableSize, byteOf, ending}
 use Rattle.endings.specs.laws.EndingDrawn.{ending-closed}
 use Rattle.endings.specs.laws.EndingLaws.{lawful, outer-true}
-use Rattle.endings.specs.Truth.{First, Chosen, TrueAnswer}
-use Rattle.endings.specs.Answers.{checkOf, answerOf, chosen, lookUpOf}
+use Rattle.endings.specs.Truth.{First, ChosenBy, TrueAnswerBy, TrueAnswer}
+use Rattle.endings.specs.Answers.{checkOf, answerOf, chosenBy, chosen, lookUpOf}
 use Rattle.endings.specs.GamePromise.{given}
 use Rattle.endings.specs.laws.Checking.{byte-reads, keyed-ending, accepted-ending}
-use Rattle.endings.specs.laws.Turning.{Carries, normal-ending, ending-carries, given-some, chosen-first, chosen-suits, chosen-chooses}
+use Rattle.endings.specs.laws.Turning.{CarriesBy, normal-ending, ending-carries, given-some, chosen-first, chosen-suits, chosen-chooses}
 
 -- ---- the answer of a true byte
 
@@ -113,13 +114,14 @@ module _ (reads : Board → ℕ) (q : Board) (true-next : TrueNext reads q) wher
       let k = depth-sought n e h v i in
       (λ s. depth-odd chess (n - 1) (played q v) (k .0 s) (omega arith), λ l. k .1 (DepthIs.win l))
 
-module _ (reads : Board → ℕ) (b : Board) (c : Carries reads b) where
-  first-of : (Sought : Board → Type 0) → Seeks reads Sought (normalised b) → (m : Move)
-      → firstSuited chess reads (normalised b) ≡ some m
-      → First (λ v. Sought (played (normalised b) v)) (moves (normalised b)) m
+module _ {by : Board → Symmetry} {normal : Board → Board} (reads : Board → ℕ) (b : Board)
+    (c : CarriesBy by normal reads b) where
+  first-of : (Sought : Board → Type 0) → Seeks reads Sought (normal b) → (m : Move)
+      → firstSuited chess reads (normal b) ≡ some m
+      → First (λ v. Sought (played (normal b) v)) (moves (normal b)) m
   unfolding firstSuited
   first-of Sought same m e =
-      let n = normalised b in
+      let n = normal b in
       let f = first-split (λ v. suits (reads n) (reads (played n v))) (moves n) m e in
       record {
         before = f .0;
@@ -133,60 +135,60 @@ module _ (reads : Board → ℕ) (b : Board) (c : Carries reads b) where
             (Memᴰ·append-left (m ∷ f .1) i) in refuted (f .4 v i) (same v j .1 s);
       }
 
-  chosen-of : (Sought : Board → Type 0) → Seeks reads Sought b → Seeks reads Sought (normalised b) → (m : Move)
-      → chosen reads b ≡ BestMove.Play m → Chosen Sought b m
+  chosen-of : (Sought : Board → Type 0) → Seeks reads Sought b → Seeks reads Sought (normal b) → (m : Move)
+      → chosenBy by normal reads b ≡ BestMove.Play m → ChosenBy by normal Sought b m
   chosen-of Sought here there m e =
       let s = chosen-suits reads b c m e in
       record {
         legal = s .0;
         leads = here m (s .0) .0 (s .1);
         there = first-of Sought there
-            (mappedMove (normalBy b) m) (chosen-first reads b m e);
+            (mappedMove (by b) m) (chosen-first by normal reads b m e);
       }
 
-  pub over-none : Over chess b → chosen reads b ≡ BestMove.NoMove
-  over-none o = go (chosen reads b) (λ m e. chosen-suits reads b c m e .0)
+  pub over-none : Over chess b → chosenBy by normal reads b ≡ BestMove.NoMove
+  over-none o = go (chosenBy by normal reads b) (λ m e. chosen-suits reads b c m e .0)
     where
       go : (a : BestMove) → ((m : Move) → a ≡ BestMove.Play m → m ∈ moves b) → a ≡ BestMove.NoMove
       go (BestMove.Play m) f = absurd (none-in o (f m refl))
       go BestMove.NoMove f = refl
 
   module _ (truth : TrueByte chess b (reads b)) (next : TrueNext reads b)
-      (normal-next : TrueNext reads (normalised b)) where
+      (normal-next : TrueNext reads (normal b)) where
     abbrev advice : BestMove
-    advice = chosen reads b
+    advice = chosenBy by normal reads b
 
     -- a move where the game goes on
     abbrev Goes : Type 0
     Goes = (m : Move) × (given advice ≡ some m) × (m ∈ moves b)
 
-    pub true-answer : Over chess b ⊎ Goes → TrueAnswer b (answerOf (reads b) advice)
+    pub true-answer : Over chess b ⊎ Goes → TrueAnswerBy by normal b (answerOf (reads b) advice)
     true-answer g = go truth g
       where
         play : (x : Goes) → advice ≡ BestMove.Play (x .0)
         play x = given-some advice (x .0) (x .1)
 
-        go : TrueByte chess b (reads b) → Over chess b ⊎ Goes → TrueAnswer b (answerOf (reads b) advice)
+        go : TrueByte chess b (reads b) → Over chess b ⊎ Goes → TrueAnswerBy by normal b (answerOf (reads b) advice)
         go (TrueByte.win n v e) (inl o) = absurd (won-moves b n v o)
         go (TrueByte.win n v e) (inr x) =
             let d = won-odd chess n b v in
-            TrueAnswer.won n (x .0) v (chosen-of (LostIn chess (n - 1)) (won-sought reads b next n d e)
-            (won-sought reads (normalised b) normal-next n d (c .own ∙ e)) (x .0) (play x))
+            TrueAnswerBy.won n (x .0) v (chosen-of (LostIn chess (n - 1)) (won-sought reads b next n d e)
+            (won-sought reads (normal b) normal-next n d (c .own ∙ e)) (x .0) (play x))
             (rw (e, play x) (answer-win n (BestMove.Play (x .0)) d))
         go (TrueByte.loss n v e) (inl o) =
             let z = lost-over b n v o in
-            TrueAnswer.mate (subst (λ (k : ℕ). LostIn chess k b) z v) o
+            TrueAnswerBy.mate (subst (λ (k : ℕ). LostIn chess k b) z v) o
             (rw (e, z, over-none o) (answer-loss 0 BestMove.NoMove refl))
         go (TrueByte.loss n v e) (inr x) =
             let d = lost-even chess n b v in
             let h = lost-moves b n v (x .0) (x .2) in
-            TrueAnswer.lost n (x .0) v (chosen-of (WonIn chess (n - 1)) (lost-sought reads b next n d h e)
-            (lost-sought reads (normalised b) normal-next n d h (c .own ∙ e)) (x .0) (play x))
+            TrueAnswerBy.lost n (x .0) v (chosen-of (WonIn chess (n - 1)) (lost-sought reads b next n d h e)
+            (lost-sought reads (normal b) normal-next n d h (c .own ∙ e)) (x .0) (play x))
             (rw (e, play x) (answer-loss n (BestMove.Play (x .0)) d))
-        go (TrueByte.draw v e) (inl o) = TrueAnswer.stalemate v o (rw (e, over-none o) (answer-draw BestMove.NoMove))
+        go (TrueByte.draw v e) (inl o) = TrueAnswerBy.stalemate v o (rw (e, over-none o) (answer-draw BestMove.NoMove))
         go (TrueByte.draw v e) (inr x) =
-            TrueAnswer.drawn (x .0) v (chosen-of (Drawn chess) (draw-sought reads b next e)
-            (draw-sought reads (normalised b) normal-next (c .own ∙ e)) (x .0) (play x))
+            TrueAnswerBy.drawn (x .0) v (chosen-of (Drawn chess) (draw-sought reads b next e)
+            (draw-sought reads (normal b) normal-next (c .own ∙ e)) (x .0) (play x))
             (rw (e, play x) (answer-draw (BestMove.Play (x .0))))
 
 -- ---- an accepted table

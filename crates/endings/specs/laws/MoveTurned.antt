@@ -29,7 +29,7 @@ use Rattle.position.specs.laws.ChangedRefusals.{change-board, standing-changed}
 use Rattle.answers.specs.declared.BestMove.{BestMove}
 use Rattle.answers.specs.declared.Answer.{Answer}
 use Rattle.endings.specs.Ending.{Lone, tableSize, byteOf}
-use Rattle.endings.specs.Answers.{adviceOf, answerOf, mappedAdvice, mappedAnswer, chosen, lookUpOf}
+use Rattle.endings.specs.Answers.{adviceOf, answerOf, mappedAdvice, mappedAnswer, chosenBy, chosen, lookUpOf}
 use Rattle.endings.specs.MoveTurned.{MoveTurned}
 use Rattle.endings.specs.laws.EndingLaws.{Turned}
 use Rattle.endings.specs.laws.IndexLaws.{lone-has}
@@ -66,13 +66,13 @@ module _ (kind : ℕ) (t : List ℕ) (m : Symmetry) (x : Bool) (b : Board) (l : 
   -- both boards have one normal board, and so one move there
   there : chosen (byteOf t) c
       ≡ mappedAdvice (inverse (normalBy c)) (adviceOf (firstSuited chess (byteOf t) (normalised b)))
-  unfolding chosen
+  unfolding chosenBy
   there =
       ap (λ (n : Board). mappedAdvice (inverse (normalBy c)) (adviceOf (firstSuited chess (byteOf t) n)))
       (ap normalised (sym as-changed) ∙ same-normal b has turning)
 
   chosen-plain : (T (twoFit b) → m .swap ≡ false) → chosen (byteOf t) c ≡ mappedAdvice m (chosen (byteOf t) b)
-  unfolding chosen
+  unfolding chosenBy
   chosen-plain h =
       there
       ∙ advice-by (inverse (normalBy c)) m (inverse (normalBy b))
@@ -82,7 +82,7 @@ module _ (kind : ℕ) (t : List ℕ) (m : Symmetry) (x : Bool) (b : Board) (l : 
 
   chosen-mirrored : T (twoFit b) → m .swap ≡ true
       → chosen (byteOf t) c ≡ mappedAdvice m (mappedAdvice (mirror b) (chosen (byteOf t) b))
-  unfolding chosen mirror
+  unfolding chosenBy mirror
   chosen-mirrored w h =
       there
       ∙ advice-by-three (inverse (normalBy c)) m (mirror b) (inverse (normalBy b))

@@ -28,7 +28,7 @@ use Rattle.numbering.specs.Number.{normalBy, normalised, numberOf}
 use Rattle.numbering.specs.laws.FitLaws.{few-normal}
 use Rattle.answers.specs.declared.BestMove.{BestMove}
 use Rattle.endings.specs.Ending.{Lone, Ending, byteOf}
-use Rattle.endings.specs.Answers.{adviceOf, mappedAdvice, chosen}
+use Rattle.endings.specs.Answers.{adviceOf, mappedAdvice, chosenBy}
 use Rattle.endings.specs.GamePromise.{given}
 use Rattle.endings.specs.laws.EndingDrawn.{ending-closed}
 use Rattle.endings.specs.laws.EndingLaws.{has-man, Turned, turned-alike}
@@ -69,12 +69,15 @@ module _ (kind : ℕ) (b : Board) (d : Ending kind b) where
 -- ---- bytes
 
 -- The moves of a board, and what the bytes say of it and of what its moves leave, go with the map by which it is made normal.
-pub record Carries (reads : Board → ℕ) (b : Board) : Type 0 where
-  pub own : reads (normalised b) ≡ reads b
-  pub forth : (v : Move) → v ∈ moves b → mappedMove (normalBy b) v ∈ moves (normalised b)
-  pub back : (v : Move) → v ∈ moves (normalised b) → mappedMove (inverse (normalBy b)) v ∈ moves b
-  pub next : (v : Move) → v ∈ moves b
-      → reads (played (normalised b) (mappedMove (normalBy b) v)) ≡ reads (played b v)
+pub record CarriesBy (by : Board → Symmetry) (normal : Board → Board) (reads : Board → ℕ) (b : Board) : Type 0 where
+  pub own : reads (normal b) ≡ reads b
+  pub forth : (v : Move) → v ∈ moves b → mappedMove (by b) v ∈ moves (normal b)
+  pub back : (v : Move) → v ∈ moves (normal b) → mappedMove (inverse (by b)) v ∈ moves b
+  pub next : (v : Move) → v ∈ moves b → reads (played (normal b) (mappedMove (by b) v)) ≡ reads (played b v)
+
+-- of pieces
+abbrev pub Carries : (Board → ℕ) → Board → Type 0
+Carries = CarriesBy normalBy normalised
 
 module _ (kind : ℕ) (t : List ℕ) where
   pub byte-turned : (b c : Board) → Turned kind b c → byteOf t c ≡ byteOf t b
@@ -124,10 +127,10 @@ given-some (BestMove.Play v) m e = cc
 given-some BestMove.NoMove m e = let z : _≡_ {A = ℕ} 0 1 = cc in absurd (omega arith)
 
 -- on the normal board it is the first that suits
-pub chosen-first : (reads : Board → ℕ) (b : Board) (m : Move) → chosen reads b ≡ BestMove.Play m
-    → firstSuited chess reads (normalised b) ≡ some (mappedMove (normalBy b) m)
-unfolding chosen
-chosen-first reads b m e = found (normalBy b) (firstSuited chess reads (normalised b)) m e
+pub chosen-first : (by : Board → Symmetry) (normal : Board → Board) (reads : Board → ℕ) (b : Board) (m : Move) → chosenBy by normal reads b ≡ BestMove.Play m
+    → firstSuited chess reads (normal b) ≡ some (mappedMove (by b) m)
+unfolding chosenBy
+chosen-first by normal reads b m e = found (by b) (firstSuited chess reads (normal b)) m e
 
 -- a legal move that suits
 abbrev Suited : (Board → ℕ) → Board → Move → Type 0
@@ -136,36 +139,37 @@ Suited reads b v = (v ∈ moves b) × T (suits (reads b) (reads (played b v)))
 firsts : (reads : Board → ℕ) → Chooses chess (λ b. Unit {0}) reads (firstSuited chess reads)
 firsts reads = first-chooses chess (λ b. Unit {0}) reads
 
-module _ (reads : Board → ℕ) (b : Board) (c : Carries reads b) where
-  suited-forth : (v : Move) → Suited reads b v → Suited reads (normalised b) (mappedMove (normalBy b) v)
+module _ {by : Board → Symmetry} {normal : Board → Board} (reads : Board → ℕ) (b : Board)
+    (c : CarriesBy by normal reads b) where
+  suited-forth : (v : Move) → Suited reads b v → Suited reads (normal b) (mappedMove (by b) v)
   suited-forth v s = (c .forth v (s .0), subst⁻¹ T (ap₂ suits (c .own) (c .next v (s .0))) (s .1))
 
-  suited-back : (v : Move) → Suited reads (normalised b) v → Suited reads b (mappedMove (inverse (normalBy b)) v)
+  suited-back : (v : Move) → Suited reads (normal b) v → Suited reads b (mappedMove (inverse (by b)) v)
   suited-back v s =
       let i = c .back v (s .0) in
-      let e = ap (λ (w : Move). reads (played (normalised b) w)) (sym (move-forth (normalBy b) v))
-      ∙ c .next (mappedMove (inverse (normalBy b)) v) i in
+      let e = ap (λ (w : Move). reads (played (normal b) w)) (sym (move-forth (by b) v))
+      ∙ c .next (mappedMove (inverse (by b)) v) i in
       (i, subst T (ap₂ suits (c .own) e) (s .1))
 
-  pub chosen-suits : (m : Move) → chosen reads b ≡ BestMove.Play m → Suited reads b m
+  pub chosen-suits : (m : Move) → chosenBy by normal reads b ≡ BestMove.Play m → Suited reads b m
   chosen-suits m e =
-      let v = mappedMove (normalBy b) m in
-      subst (Suited reads b) (move-back (normalBy b) m)
-      (suited-back v (firsts reads .sound (normalised b) tt v (chosen-first reads b m e)))
+      let v = mappedMove (by b) m in
+      subst (Suited reads b) (move-back (by b) m)
+      (suited-back v (firsts reads .sound (normal b) tt v (chosen-first by normal reads b m e)))
 
-  chosen-some : (m : Move) → Suited reads b m → (k : Move) × (given (chosen reads b) ≡ some k)
-  unfolding chosen
+  chosen-some : (m : Move) → Suited reads b m → (k : Move) × (given (chosenBy by normal reads b) ≡ some k)
+  unfolding chosenBy
   chosen-some m s =
       let there = suited-forth m s in
-      let f = firsts reads .total (normalised b) tt (mappedMove (normalBy b) m) (there .0) (there .1) in (
-        mappedMove (inverse (normalBy b)) (f .0),
-        ap (λ (o : Option Move). given (mappedAdvice (inverse (normalBy b)) (adviceOf o))) (f .1),
+      let f = firsts reads .total (normal b) tt (mappedMove (by b) m) (there .0) (there .1) in (
+        mappedMove (inverse (by b)) (f .0),
+        ap (λ (o : Option Move). given (mappedAdvice (inverse (by b)) (adviceOf o))) (f .1),
       )
 
 -- Where moves and bytes are carried it is a rule for ties.
-pub chosen-chooses : (D : Board → Type 0) (reads : Board → ℕ) → ((b : Board) → D b → Carries reads b)
-    → Chooses chess D reads (λ b. given (chosen reads b))
-chosen-chooses D reads carries = record {
-  sound = λ b d m e. chosen-suits reads b (carries b d) m (given-some (chosen reads b) m e);
+pub chosen-chooses : {by : Board → Symmetry} {normal : Board → Board} (D : Board → Type 0) (reads : Board → ℕ) → ((b : Board) → D b → CarriesBy by normal reads b)
+    → Chooses chess D reads (λ b. given (chosenBy by normal reads b))
+chosen-chooses {by} {normal} D reads carries = record {
+  sound = λ b d m e. chosen-suits reads b (carries b d) m (given-some (chosenBy by normal reads b) m e);
   total = λ b d m i s. chosen-some reads b (carries b d) m (i, s);
 }

@@ -1,4 +1,6 @@
 -- `fifty::look_up_at` meets its contract.
+use mathlib.Core.Path.{refl}
+use mathlib.Core.Bool.{true}
 use Rattle.fifty.specs.Marks.{lookUpAt}
 use Rattle.fifty.specs.laws.MarkLaws.{marked-found}
 use Rattle.fifty.proofs.look_up_at.Statement.{statement}
@@ -12,7 +14,7 @@ marked-at-requires c κs = tt
 
 returns : tie.Need-returns
 unfolding lookUpAt
-returns c = marked-found _ _ _ _ (c .before .look-up .ensures) (c .marked-at .ensures)
+returns c = marked-found true true _ _ _ _ refl (c .before .look-up .ensures) (c .marked-at .ensures)
 
 pub look-up-at-spec : {M : Type 1} → statement M
 look-up-at-spec = tie.close (tie.spec look-up-requires marked-at-requires returns)

@@ -4,6 +4,9 @@ use Rattle.fifty.specs.laws.MarkLaws.{marked-found}
 use Rattle.fifty.proofs.look_up_at_with.Statement.{statement}
 use Rattle.fifty.proofs.look_up_at_with.Tie as tie
 
+is-pawnless-requires : tie.Need-is-pawnless-requires
+is-pawnless-requires c κs = tt
+
 look-up-with-requires : tie.Need-look-up-with-requires
 look-up-with-requires c κs = tt
 
@@ -12,7 +15,7 @@ marked-at-requires c κs = tt
 
 returns : tie.Need-returns
 unfolding lookUpAtWith
-returns c = marked-found _ _ _ _ (c .before .look-up-with .ensures) (c .marked-at .ensures)
+returns c = marked-found _ _ _ _ _ _ (c .before .before .is-pawnless .ensures) (c .before .look-up-with .ensures) (c .marked-at .ensures)
 
 pub look-up-at-with-spec : {M : Type 1} → statement M
-look-up-at-with-spec = tie.close (tie.spec look-up-with-requires marked-at-requires returns)
+look-up-at-with-spec = tie.close (tie.spec is-pawnless-requires look-up-with-requires marked-at-requires returns)

@@ -10,7 +10,7 @@ is-marked-requires : tie.Need-is-marked-requires
 is-marked-requires c κs = tt
 
 returns : tie.Need-returns
-returns c = marked-with _ _ _ _ (c .before .at-count .ensures) (c .is-marked .ensures)
+returns c = marked-with (c .before .before .args .free) _ _ _ _ (c .before .at-count .ensures) (c .is-marked .ensures)
 
 pub marked-at-spec : {M : Type 1} → statement M
 marked-at-spec = tie.close (tie.spec at-count-requires is-marked-requires returns)

@@ -28,24 +28,27 @@ use Rattle.rules.specs.laws.MoveLists.{none-promotes}
 use Rattle.numbering.specs.declared.Material.{Material}
 use Rattle.numbering.specs.Keys.{boardAt}
 use Rattle.numbering.specs.Number.{numberOf, used}
-use Rattle.numbering.specs.Material.{known, menOf, OfMaterial, sizeOf}
+use Rattle.numbering.specs.Material.{known, given, menOf, OfMaterial, sizeOf}
+use Rattle.numbering.specs.laws.MaterialLaws.{one-piece}
 use Rattle.position.specs.declared.Men.{Men}
 use Rattle.position.specs.declared.Place.{Place}
 use Rattle.position.specs.Posed.{boardIn, materialFor, Complete}
 use Rattle.position.specs.laws.PosedLaws.{complete-spread}
 use Rattle.index.specs.Seats.{Seated}
 use Rattle.index.specs.laws.SeatLaws.{known-two}
-use Rattle.index.specs.laws.PlaceLaws.{material-by}
+use Rattle.index.specs.Endings.{numberIn, boardFor}
+use Rattle.index.specs.laws.EndingsLaws.{legal-of, of-legal, pieces-number, pieces-board}
+use Rattle.index.specs.laws.PlaceLaws.{material-by, piece-by}
 use Rattle.numbering.specs.Men.{materialOf}
 use Rattle.endings.specs.Ending.{byteOf}
 use Rattle.index.specs.laws.CompleteLaws.{complete-seated}
 use Rattle.movegen.specs.Places.{squareAfter, placeAfter}
 use Rattle.movegen.specs.laws.Places.{place-moved}
 use Rattle.four_men.specs.Lending.{Lent, lent}
-use Rattle.four_men.specs.Reading.{Within, full, lentFor, lentTo, lentByte, legalNumberOf, numbered}
+use Rattle.four_men.specs.Reading.{Within, full, lentFor, lentTo, partFor, lentByte, legalNumberOf, numbered}
 use Rattle.four_men.specs.laws.Captures.{within-closed}
 use Rattle.four_men.specs.laws.Materials.{one-of, two-of}
-use Rattle.four_men.specs.laws.Numbered.{number-live, live-at, lawfulWith}
+use Rattle.four_men.specs.laws.Numbered.{live-is, number-live, live-at, lawfulWith}
 use Rattle.successors.specs.Successors.{kingAt, StandingAt}
 use Rattle.successors.specs.declared.Standing.{Standing}
 use Rattle.successors.specs.laws.PlaceLaws.{starts}
@@ -57,7 +60,7 @@ use Rattle.retracting.specs.laws.Leaving.{left-lone, left-number, left-legal}
 use Rattle.filling.specs.Admitted.{over, Admitted}
 use Rattle.filling.specs.Settling.{Settle}
 use Rattle.filling.specs.Trying.{Midway, Went, Tried, Ready}
-use Rattle.filling.specs.Back.{Few, Due, Ripe, TriesNumber, TriesTo, TriesInto, TriedAt, TriesAt, Which, lentOf, TriedLone, TriesLone, Sweeps, SweptAll, SweepsAll, SweepsOwn}
+use Rattle.filling.specs.Back.{Few, Backwards, Due, Ripe, TriesNumber, TriesTo, TriesInto, TriedAt, TriesAt, Which, lentOf, TriedLone, TriesLone, Sweeps, SweptAll, SweepsAll, SweepsOwn}
 use Rattle.filling.specs.laws.Code.{sized, size-over, in-size, lent-long}
 use Rattle.filling.specs.laws.Trying.{midway-start, cause, went-none, went-then, went-one, now-there, tried-kept, tried-in, tried-out, went-end, byte-stands}
 use Rattle.filling.specs.laws.Won.{won-from}
@@ -71,9 +74,15 @@ filter-few p (x ∷ l) = go (p x) (filter-few p l)
     go true h = omega arith
     go false h = omega arith
 
+-- two men are pieces
+two-known : (m : Men) → T (given (materialFor m)) → m .second < 4 → T (known (materialFor m))
+two-known m w h =
+    let e = material-by m false (lt-leb 4 (m .second) h) in
+    subst⁻¹ (λ (x : Material). T (known x)) e (subst (λ (x : Material). T (given x)) e w)
+
 kinds-small : (m : Men) (first second t : List ℕ) → Admitted m first second t → m .second < 4 → (taken : ℕ) → loneOf m taken .first < 4
 kinds-small m first second t a h taken =
-    let z = known-two m (a .ending) (lt-leb 4 (m .second) h) in go (eqb taken 1) (omega (arith, z .0, h)) h
+    let z = known-two m (two-known m (a .ending) h) (lt-leb 4 (m .second) h) in go (eqb taken 1) (omega (arith, z .0, h)) h
   where
     go : (x : Bool) → m .first < 4 → m .second < 4 → cond x (m .second) (m .first) < 4
     go true f s = s
@@ -90,7 +99,8 @@ lone-read m l M kind colour s c e f =
 
 -- ---- what is to be settled has a move to a position of depth k - 1: at a number of this table, or in a lent one
 
-module _ (m : Men) (first second t : List ℕ) (a : Admitted m first second t) (k : ℕ) (some : 0 < k) where
+module _ (m : Men) (w : T (known (materialFor m))) (first second t : List ℕ) (a : Admitted m first second t) (k : ℕ)
+    (some : 0 < k) where
   abbrev M : Material
   M = materialFor m
 
@@ -113,9 +123,10 @@ module _ (m : Men) (first second t : List ℕ) (a : Admitted m first second t) (
   unfolding byteOf
   bare-read (Material.One kind) c f = refl
   bare-read (Material.Two i j r) c f = ap (λ (x : List Piece). cond (empty x) 1 (getD (lentTo i l x) (numberOf c) 0)) f
+  bare-read Material.Pawn c f = ap (λ (x : List Piece). cond (empty x) 1 (getD (partFor l x) (numberOf c) 0)) f
 
   single : (c : Board) → 4 ≤ m .second → lentByte M l c ≡ 1
-  single c h = ap (λ (x : Material). lentByte x l c) (material-by m true (le-leb 4 (m .second) h))
+  single c h = ap (λ (x : Material). lentByte x l c) (piece-by m w (le-leb 4 (m .second) h))
 
   lone-live : (kind colour s : ℕ) (c : Board) → kind < 4 → T (legal c) → c .men ≡ pieceOf kind colour s ∷ []
       → T (legalNumberOf (Material.One kind) (numberOf c))
@@ -124,28 +135,33 @@ module _ (m : Men) (first second t : List ℕ) (a : Admitted m first second t) (
       number-live (Material.One kind) (subst⁻¹ T (lt-ltb kind 4 h) tt) c (record { legality = g; men = inl (ap materialOf e) })
       (subst⁻¹ (λ (y : List Piece). T (full (Material.One kind) y)) e tt) .1
 
+  at-is : (n : ℕ) → boardFor M n ≡ boardAt (menOf M) n
+  at-is n = ap (λ (at : ℕ → Board). at n) (pieces-board M w)
+
   caused : (n : ℕ) → n < sizeOf M → T (settles chess (numbered M l) k t n) → Own n ⊎ Lower n
   unfolding settles numbered
-  caused n h s = go (cause chess (numbered M l) k t n some s)
+  caused n h s =
+      go (subst (λ (b : Board). (c : Board) × (c ∈ next chess b) × (reads chess (numbered M l) t c ≡ 1 + k)) (at-is n)
+      (cause chess (numbered M l) k t n some s))
     where
       live : T (legalNumberOf M n)
       live = and-left (legalNumberOf M n) _ (and-right (eqb (getD t n 0) 1) _ s)
 
       there : Within M (boardAt (menOf M) n)
-      there = live-at M (a .ending) n h live .0
+      there = live-at M w n h live .0
 
       lower : (c : Board) → c ∈ next chess (boardAt (menOf M) n) → full M (c .men) ≡ false → lentByte M l c ≡ 1 + k
           → (4 ≤ m .second) ⊎ (m .second < 4) → Lower n
       lower c i o e (inl g) = absurd (omega (arith, some, sym (single c g) ∙ e))
       lower c i o e (inr g) =
-          let x = captured m (a .ending) (a .colour) g n h live c i o
+          let x = captured m w (a .colour) g n h live c i o
           (λ z. absurd (omega (arith, some, sym (bare-read M c z) ∙ e))) in (
             g,
             x .taken,
             x .which,
             numberOf c,
             lone-live (loneOf m (x .taken) .first) (x .colour) (x .square) c (kinds-small m first second t a g (x .taken))
-                (within-closed M (boardAt (menOf M) n) c there i .legality) (x .alone),
+                (legal-of M w c (within-closed M w (boardAt (menOf M) n) c there i .legality)) (x .alone),
             sym (lone-read m l M (loneOf m (x .taken) .first) (x .colour) (x .square) c
                 (material-by m false (lt-leb 4 (m .second) g)) (x .alone)) ∙ e,
             x .back,
@@ -155,16 +171,17 @@ module _ (m : Men) (first second t : List ℕ) (a : Admitted m first second t) (
       go x = by (decided (full M (x .0 .men)))
         where
           d : Within M (x .0)
-          d = within-closed M (boardAt (menOf M) n) (x .0) there (x .1)
+          d = within-closed M w (boardAt (menOf M) n) (x .0) there (x .1)
 
           by : T (full M (x .0 .men)) ⊎ T (not (full M (x .0 .men))) → Own n ⊎ Lower n
           by (inl u) =
-              let v = number-live M (a .ending) (x .0) d u in inl (
+              let v = number-live M w (x .0) d u in inl (
                 numberOf (x .0),
                 v .0,
                 v .1,
-                sym (reads-inside chess (numbered M l) t (x .0) u) ∙ x .2,
-                λ q w e. taken-back m (a .ending) n h live (x .0) (x .1) u q w e,
+                ap (λ (f : Board → ℕ). getD t (f (x .0)) 0) (sym (pieces-number M w))
+                    ∙ sym (reads-inside chess (numbered M l) t (x .0) u) ∙ x .2,
+                λ q z e. taken-back m w n h live (x .0) (x .1) u q z e,
               )
           by (inr o) =
               inr (lower (x .0) (x .1) (false-of o) (sym (reads-outside chess (numbered M l) t (x .0) (false-of o)) ∙ x .2)
@@ -173,8 +190,8 @@ module _ (m : Men) (first second t : List ℕ) (a : Admitted m first second t) (
   pub back-done : (u : List ℕ) (did : ℕ) → Went chess (over m first second) k t t u did → SweptAll m first second k t u
       → ((j : ℕ) → j < length t → getD t j 0 ≡ 1 + k → TriedAt m first second k t u j)
       → (did ≡ settledBy chess (over m first second) k t) × (u ≡ passed chess (over m first second) k t)
-  back-done u did w lone all =
-      went-end chess (over m first second) k t (sized m first second t a) u did w (λ n h s e. go n h s e)
+  back-done u did done lone all =
+      went-end chess (over m first second) k t (sized m first second t a) u did done (λ n h s e. go n h s e)
     where
       by : (n : ℕ) → Own n ⊎ Lower n → Tried chess (over m first second) k t u n
       by n (inl x) s e =
@@ -237,15 +254,15 @@ module _ (m : Men) (first second : List ℕ) (k : ℕ) (u : List ℕ) (a : Admit
 
 -- captures first, then this table's numbers
 pub back-both : (m : Men) (first second t : List ℕ) (a : Admitted m first second t) (k : ℕ) → 0 < k
-    → Ready chess (over m first second) k t → (v x : List ℕ) (did more : ℕ) → SweepsAll m first second k t v did
+    → Backwards m first second k t → (v x : List ℕ) (did more : ℕ) → SweepsAll m first second k t v did
     → SweepsOwn m first second k (length v) v x more
     → (did + more ≡ settledBy chess (over m first second) k t) × (x ≡ passed chess (over m first second) k t)
 back-both m first second t a k some r v x did more f g =
     let G = over m first second in
     let long = sized m first second t a in
-    let p = f .1 t (midway-start chess G k t) r in
-    let y = g .1 t (p .0 .midway) r in
-    back-done m first second t a k some x (did + more) (went-then chess G k t long t v x did more (p .0) (y .0))
+    let p = f .1 t (midway-start chess G k t) (r .1) in
+    let y = g .1 t (p .0 .midway) (r .1) in
+    back-done m (r .0) first second t a k some x (did + more) (went-then chess G k t long t v x did more (p .0) (y .0))
     (λ h taken which i e live.
     let q = p .1 h taken which i e live in (
       q .0,
@@ -303,13 +320,15 @@ module _ (m : Men) (first second u : List ℕ) (a : Admitted m first second u) (
 
 -- ---- k odd: a position that has a move to one of depth k - 1
 
-full-own : (m : Material) (b : Board) → OfMaterial m b → T (full m (b .men))
-full-own (Material.One kind) b o = subst⁻¹ (λ (l : List Piece). T (full (Material.One kind) l)) (one-of kind (b .men) o .1) tt
-full-own (Material.Two j k r) b o = subst⁻¹ (λ (l : List Piece). T (full (Material.Two j k r) l)) (two-of j k r (b .men) o .2) tt
+full-own : (m : Material) → T (known m) → (b : Board) → OfMaterial m b → T (full m (b .men))
+full-own Material.Pawn w b o = absurd w
+full-own (Material.One kind) w b o = subst⁻¹ (λ (l : List Piece). T (full (Material.One kind) l)) (one-of kind (b .men) o .1) tt
+full-own (Material.Two j k r) w b o = subst⁻¹ (λ (l : List Piece). T (full (Material.Two j k r) l)) (two-of j k r (b .men) o .2) tt
 
-manned : (m : Material) (b : Board) → OfMaterial m b → empty (b .men) ≡ false
-manned (Material.One kind) b o = ap (λ (l : List Piece). empty l) (one-of kind (b .men) o .1)
-manned (Material.Two j k r) b o = ap (λ (l : List Piece). empty l) (two-of j k r (b .men) o .2)
+manned : (m : Material) → T (known m) → (b : Board) → OfMaterial m b → empty (b .men) ≡ false
+manned Material.Pawn w b o = absurd w
+manned (Material.One kind) w b o = ap (λ (l : List Piece). empty l) (one-of kind (b .men) o .1)
+manned (Material.Two j k r) w b o = ap (λ (l : List Piece). empty l) (two-of j k r (b .men) o .2)
 
 module _ (m : Men) (o q : Place) (from to : ℕ) (l : Leads m o from to q) where
   next-in : boardIn m q ∈ next chess (boardIn m o)
@@ -318,17 +337,26 @@ module _ (m : Men) (o q : Place) (from to : ℕ) (l : Leads m o from to q) where
       Memᴰ·cast
       (ap (λ (p : Place). boardIn m p) (sym (l .arrives)) ∙ place-moved from to (on .0) (on .1) m o)
       (map-in (played (boardIn m o))
-      (in-moves (boardIn m o) from to (manned (materialFor m) (boardIn m o) (l .complete .men)) (l .can)
+      (in-moves (boardIn m o) from to (manned (materialFor m) (l .complete .ending) (boardIn m o) (l .complete .men)) (l .can)
       (none-promotes (boardIn m o) from to (legal-pawnless (boardIn m o) (l .legality)))))
+
+  due-in : (first second : List ℕ) (k : ℕ) (t : List ℕ) → Ripe m first second k t q
+      → Due m first second k t (numberIn (materialFor m) (boardIn m o))
+  unfolding lawfulWith numbered
+  due-in first second k t r = λ odd e.
+      won-from chess (over m first second) k t odd (r .ready)
+      (lawfulWith (materialFor m) (l .complete .ending) (lent first second)) (boardIn m o) (boardIn m q)
+      (record {
+        legality = of-legal (materialFor m) (l .complete .ending) (boardIn m o) (l .legality);
+        men = inl (l .complete .men);
+      })
+      (full-own (materialFor m) (l .complete .ending) (boardIn m o) (l .complete .men)) next-in (r .byte) e
 
   pub due-from : (first second : List ℕ) (k : ℕ) (t : List ℕ) → Ripe m first second k t q
       → Due m first second k t (numberOf (boardIn m o))
-  unfolding lawfulWith numbered
-  due-from first second k t r = λ odd e.
-      won-from chess (over m first second) k t odd (r .ready)
-      (lawfulWith (materialFor m) (l .complete .ending) (lent first second)) (boardIn m o) (boardIn m q)
-      (record { legality = l .legality; men = inl (l .complete .men) }) (full-own (materialFor m) (boardIn m o) (l .complete .men))
-      next-in (r .byte) e
+  due-from first second k t r =
+      subst (λ (f : Board → ℕ). Due m first second k t (f (boardIn m o)))
+      (pieces-number (materialFor m) (l .complete .ending)) (due-in first second k t r)
 
 -- ---- one piece
 
@@ -487,7 +515,7 @@ module _ (m : Men) (first second : List ℕ) (k j : ℕ) where
       all-left m q (w .1)
       (subst⁻¹ (λ (b : Board). T (legal b)) (w .2)
       (and-right (used (boardAt (menOf (materialFor m)) j)) (legal (boardAt (menOf (materialFor m)) j))
-      (unfold legalNumberOf in of-true (w .0))))
+      (subst T (live-is (materialFor m) (w .1 .ending) j) (of-true (w .0)))))
 
   module _ (u : List ℕ) (a : Admitted m first second u) where
     -- its byte in the table before the pass
@@ -504,11 +532,12 @@ module _ (m : Men) (first second : List ℕ) (k j : ℕ) where
     unfolding numbered
     ripe-at q w h t e r =
         let M = materialFor m in
-        let x = live-at M (a .ending) j (in-size m first second u a j h) (of-true (w .0)) in
+        let x = live-at M (w .1 .ending) j (in-size m first second u a j h) (of-true (w .0)) in
         record {
           ready = r;
           byte = ap (reads chess (over m first second) t) (w .2)
               ∙ reads-inside chess (over m first second) t (boardAt (menOf M) j) (x .1)
+              ∙ ap (λ (f : Board → ℕ). getD t (f (boardAt (menOf M) j)) 0) (pieces-number M (w .1 .ending))
               ∙ ap (λ (i : ℕ). getD t i 0) (x .2) ∙ e;
         }
 
@@ -579,23 +608,36 @@ module _ (m : Men) (first second : List ℕ) (k : ℕ) (u : List ℕ) (a : Admit
   long-of t w = sym (w .long) ∙ sized m first second u a
 
   module _ (two : m .second < 4) (taken : ℕ) (which : Which taken) (j : ℕ) where
+    pieces : T (known (materialFor m))
+    pieces = two-known m (a .ending) two
+
+    -- the man left alone is a piece
+    abbrev kind : ℕ
+    kind = loneOf m taken .first
+
+    kind-known : T (known (Material.One kind))
+    kind-known = subst⁻¹ T (lt-ltb kind 4 (kinds-small m first second u a two taken)) tt
+
+    lone-is : materialFor (loneOf m taken) ≡ Material.One kind
+    lone-is = one-piece kind (kinds-small m first second u a two taken)
+
     module _ (t : Place) (w : StandingAt (loneOf m taken) j (Standing.Legal t)) where
       legal-lone : T (legal (boardIn (loneOf m taken) t))
       legal-lone =
+          let M = materialFor (loneOf m taken) in
           subst⁻¹ (λ (b : Board). T (legal b)) (w .2)
-          (and-right (used (boardAt (menOf (Material.One (loneOf m taken .first))) j)) (legal (boardAt (menOf (Material.One (loneOf m taken .first))) j))
-          (unfold legalNumberOf in of-true (w .0)))
+          (and-right (used (boardAt (menOf M) j)) (legal (boardAt (menOf M) j))
+          (subst T (live-is M (w .1 .ending) j) (of-true (w .0))))
 
       pub lone-left : LegalLeft m (leftPlace m taken t) taken
-      lone-left = left-legal m (a .ending) (a .colour) two taken which t (w .1) legal-lone
+      lone-left = left-legal m pieces (a .colour) two taken which t (w .1) legal-lone
 
       ripe-lone : j < 59136 → getD (lentOf m first second taken) j 0 ≡ 1 + k → (x : List ℕ) → Ready chess G k x
           → Ripe m first second k x (leftPlace m taken t)
       unfolding numbered
       ripe-lone h e x r =
-          let o = left-lone m (a .ending) (a .colour) two taken which t (w .1) legal-lone in
+          let o = left-lone m pieces (a .colour) two taken which t (w .1) legal-lone in
           let M = material-by m false (lt-leb 4 (m .second) two) in
-          let kind = loneOf m taken .first in
           let q = boardIn m (leftPlace m taken t) in
           let f : full (materialFor m) (q .men) ≡ false =
           ap₂ full M (o .2) in
@@ -604,8 +646,9 @@ module _ (m : Men) (first second : List ℕ) (k : ℕ) (u : List ℕ) (a : Admit
             byte = reads-outside chess G x q f
                 ∙ lone-read m (lent first second) (materialFor m) kind (o .0) (o .1) q M (o .2)
                 ∙ ap (λ (i : ℕ). getD (lentOf m first second taken) i 0)
-                (left-number m (a .ending) (a .colour) two taken which t (w .1) legal-lone ∙ ap numberOf (w .2)
-                ∙ live-at (Material.One kind) (w .1 .ending) j h (of-true (w .0)) .2)
+                (left-number m pieces (a .colour) two taken which t (w .1) legal-lone ∙ ap numberOf (w .2)
+                ∙ live-at (materialFor (loneOf m taken)) (w .1 .ending) j
+                (subst⁻¹ (λ (x : Material). j < sizeOf x) lone-is h) (of-true (w .0)) .2)
                 ∙ e;
           }
 
@@ -613,7 +656,8 @@ module _ (m : Men) (first second : List ℕ) (k : ℕ) (u : List ℕ) (a : Admit
           → TriesInto m first second k (leftPlace m taken t) u v did → TriesLone m first second k taken j u v did
       lone-tried h e v did f = (
         f .0,
-        λ x y r. let p = f .1 x y (ripe-lone h e x r) in (p .0, λ e live. (t, w .1, w .2, p .1)),
+        λ x y r. let p = f .1 x y (ripe-lone h e x r) in
+            (p .0, λ e live. (t, w .1, w .2 ∙ ap (λ (x : Material). boardAt (menOf x) j) lone-is, p .1)),
       )
 
     pub lone-other : (getD (lentOf m first second taken) j 0 ≡ 1 + k → ⊥) → TriesLone m first second k taken j u u 0
@@ -622,10 +666,13 @@ module _ (m : Men) (first second : List ℕ) (k : ℕ) (u : List ℕ) (a : Admit
       λ x y r. (went-none chess G k x (long-of x y) u y, λ e. absurd (n e)),
     )
 
-    pub lone-nothing : legalNumberOf (Material.One (loneOf m taken .first)) j ≡ false → TriesLone m first second k taken j u u 0
-    lone-nothing n = (
+    pub lone-nothing : legalNumberOf (materialFor (loneOf m taken)) j ≡ false → TriesLone m first second k taken j u u 0
+    lone-nothing z = (
       record { long = refl; few = omega arith },
-      λ x y r. (went-none chess G k x (long-of x y) u y, λ e live. absurd (refuted n live)),
+      λ x y r. (
+        went-none chess G k x (long-of x y) u y,
+        λ e live. absurd (refuted (ap (λ (x : Material). legalNumberOf x j) (sym lone-is) ∙ z) live),
+      ),
     )
 
     -- what the code finds there
@@ -644,7 +691,8 @@ module _ (m : Men) (first second : List ℕ) (k : ℕ) (u : List ℕ) (a : Admit
           → StandingAt (loneOf m taken) j s
       lone-standing men s e f =
           subst (λ (x : Men). T (known (materialFor x)) → x .colour < 2 → j < sizeOf (materialFor x) → StandingAt x j s) e f
-          (subst⁻¹ T (lt-ltb (loneOf m taken .first) 4 (kinds-small m first second u a two taken)) tt) (omega arith) lone-in
+          (subst⁻¹ (λ (x : Material). T (known x)) lone-is kind-known) (omega arith)
+          (subst⁻¹ (λ (x : Material). j < sizeOf x) lone-is lone-in)
 
   -- ---- a whole lent table
 

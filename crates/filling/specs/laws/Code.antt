@@ -1,6 +1,6 @@
 -- Laws by which filling's code is proved: the lengths and the numbering that it is given, and a number's verdict.
 use mathlib.Core.Path.{_≡_, refl, sym, ap, subst, subst⁻¹, _∙_}
-use mathlib.Core.Bool.{Bool, true, false, cond, _&&_, and-true, and-false}
+use mathlib.Core.Bool.{Bool, true, false, cond, _&&_}
 use mathlib.Core.List.{List}
 use Prim.Native.Nat.{ℕ, _+_, _<_, _≤_}
 use native.Mathlib.Omega.{arith}
@@ -9,21 +9,19 @@ use lib.ListN.{length, getD}
 use borrow.Author.Tests.{lt-leb, eq-eqb, ne-eqb}
 use Rattle.finite.specs.Truth.{and-left, and-right}
 use Rattle.finite.specs.Mapped.{mapFrom}
-use Rattle.theory.specs.Required.{requiredAt}
-use Rattle.table_theory.specs.Tables.{reads, settles, startByte}
+use Rattle.table_theory.specs.Tables.{settles, startByte}
 use Rattle.rules.specs.Chess.{chess}
-use Rattle.numbering.specs.Keys.{boardAt}
-use Rattle.numbering.specs.Number.{used}
 use Rattle.numbering.specs.declared.Material.{Material}
-use Rattle.numbering.specs.Material.{known, menOf, largeSize, sizeOf}
+use Rattle.numbering.specs.Material.{given, oneOf, largeSize, sizeOf}
 use Rattle.position.specs.declared.Men.{Men}
-use Rattle.position.specs.declared.Place.{Place}
-use Rattle.position.specs.Posed.{materialFor, boardIn}
+use Rattle.position.specs.Posed.{materialFor}
 use Rattle.endings.specs.Ending.{tableSize}
 use Rattle.four_men.specs.Lending.{Lent, lent}
 use Rattle.four_men.specs.Reading.{legalNumberOf, numbered}
 use Rattle.four_men.specs.Answers.{lengthsFit}
 use Rattle.four_men.specs.Steps.{nothing}
+use Rattle.pawn_numbers.specs.PawnNumber.{pawnSize}
+use Rattle.deciding.specs.Deciding.{requiredOf}
 use Rattle.four_men.specs.laws.Checking.{long-of}
 use Rattle.filling.specs.Admitted.{over, Admitted}
 
@@ -34,6 +32,7 @@ size-over m first second = refl
 pub size-most : (m : Material) → sizeOf m ≤ 3784704
 size-most (Material.One kind) = omega arith
 size-most (Material.Two j k r) = omega arith
+size-most Material.Pawn = omega arith
 
 -- ---- what is admitted
 
@@ -60,23 +59,31 @@ module _ (m : Men) (first second t : List ℕ) (a : Admitted m first second t) w
       fits : (m : Material) → T (lengthsFit m (lent first second) t) → T (lengthsFit m (lent first second) u)
       fits (Material.One kind) h = rw e h
       fits (Material.Two j k r) h = rw e h
+      fits Material.Pawn h = rw e h
 
   -- with two men the lent tables have their lengths
   pub lent-long : m .second < 4 → (length first ≡ tableSize) × (length second ≡ tableSize)
   lent-long h =
       let f : T (lengthsFit (Material.Two (m .first) (m .second) (eqb (m .colour) 1)) (lent first second) t) =
       subst (λ (x : Bool). T (lengthsFit
-      (cond x (Material.One (m .first)) (Material.Two (m .first) (m .second) (eqb (m .colour) 1)))
+      (cond x (oneOf (m .first)) (Material.Two (m .first) (m .second) (eqb (m .colour) 1)))
       (lent first second) t)) (lt-leb 4 (m .second) h) (a .lengths) in
       let g = and-right (eqb (length t) largeSize) (eqb (length first) tableSize && eqb (length second) tableSize) f in (
         eqb→eq (length first) tableSize (and-left (eqb (length first) tableSize) (eqb (length second) tableSize) g),
         eqb→eq (length second) tableSize (and-right (eqb (length first) tableSize) (eqb (length second) tableSize) g),
       )
 
+  -- a pawn's run of four has its length
+  pub run-long : materialFor m ≡ Material.Pawn → length first ≡ 236544
+  run-long e =
+      let f : T (lengthsFit Material.Pawn (lent first second) t) =
+      subst (λ (x : Material). T (lengthsFit x (lent first second) t)) e (a .lengths) in
+      eqb→eq (length first) 236544 (and-right (eqb (length t) pawnSize) (eqb (length first) 236544) f)
+
 pub admitted-of : (m : Material) (men : Men) (first second t : List ℕ) → (materialFor men ≡ m) × (men .colour < 2)
-    → T (known m) → T (lengthsFit m (lent first second) t) → Admitted men first second t
+    → T (given m) → T (lengthsFit m (lent first second) t) → Admitted men first second t
 admitted-of m men first second t e w h = record {
-  ending = subst (λ (x : Material). T (known x)) (sym (e .0)) w;
+  ending = subst (λ (x : Material). T (given x)) (sym (e .0)) w;
   colour = e .1;
   lengths = subst (λ (x : Material). T (lengthsFit x (lent first second) t)) (sym (e .0)) h;
 }
@@ -88,27 +95,10 @@ module _ (m : Men) (first second t : List ℕ) (k n : ℕ) where
   unfolding settles
   verdict-settled h = sym (rw (ne-eqb (getD t n 0) 1 h))
 
-  pub verdict-unused : used (boardAt (menOf (materialFor m)) n) ≡ false → false ≡ settles chess (over m first second) k t n
-  unfolding settles numbered legalNumberOf
-  verdict-unused e = sym (rw e (and-false (eqb (getD t n 0) 1)))
-
-  -- the position at the number, and whether the rule requires depth k of it
-  module _ (q : Place) (own : boardIn m q ≡ boardAt (menOf (materialFor m)) n) (needs : Bool)
-      (f : needs ≡ eqb (requiredAt chess (reads chess (over m first second) t) (boardIn m q)) (2 + k)) where
-    required : needs ≡ eqb (requiredAt chess (reads chess (over m first second) t) (over m first second .at n)) (2 + k)
-    unfolding numbered
-    required = f ∙ ap (λ b. eqb (requiredAt chess (reads chess (over m first second) t) b) (2 + k)) own
-
-    pub verdict-no : needs ≡ false → false ≡ settles chess (over m first second) k t n
-    unfolding settles
-    verdict-no e =
-        sym (rw (sym required ∙ e, and-false (over m first second .live n)) (and-false (eqb (getD t n 0) 1)))
-
-    pub verdict-yes : getD t n 0 ≡ 1 → needs ≡ true → (live : Bool) → live ≡ legalNumberOf (materialFor m) n
-        → live ≡ settles chess (over m first second) k t n
-    unfolding settles numbered
-    verdict-yes one e live l =
-        l ∙ sym (rw (eq-eqb (getD t n 0) 1 one, sym required ∙ e) (and-true (legalNumberOf (materialFor m) n)))
+  pub verdict-required : getD t n 0 ≡ 1 → (needs : Bool) → needs ≡ requiredOf m first second t k n
+      → needs ≡ settles chess (over m first second) k t n
+  unfolding settles numbered requiredOf
+  verdict-required one needs e = e ∙ sym (rw (eq-eqb (getD t n 0) 1 one))
 
 -- ---- the starting bytes
 

@@ -1,10 +1,13 @@
 -- Laws by which the code of the whole fill is proved: what the steps come to, and what is promised of it.
-use mathlib.Core.Path.{_≡_, refl, sym, ap, ap₂, subst, fun-ext, _∙_}
-use mathlib.Core.Bool.{Bool, true, false}
+use mathlib.Core.Path.{_≡_, refl, sym, ap, ap₂, subst, subst⁻¹, fun-ext, _∙_}
+use mathlib.Core.Bool.{Bool, true, false, cond}
+use mathlib.Core.Logic.{_⊎_, inl, inr}
 use mathlib.Core.List.{List, List·Memᴰ·head, List·Memᴰ·tail}
-use Prim.Native.Nat.{ℕ, _-_, _<_}
-use lib.ListN.{length, getD}
-use Rattle.finite.specs.Truth.{of-true}
+use Prim.Native.Nat.{ℕ, _+_, _*_, _-_, _<_, _≤_}
+use native.Mathlib.Omega.{arith}
+use lib.ListN.{length, take, drop, getD, length-take, List·getD-eq-default}
+use lib.Seq.{getD-take, getD-drop}
+use Rattle.finite.specs.Truth.{of-true, true-of, le-or-lt, refuted}
 use Rattle.finite.specs.Members.{none-in}
 use Rattle.finite.specs.Mapped.{mapFrom, length-mapFrom}
 use Rattle.table_theory.specs.Tables.{Outcome, undecided, ended, startByte}
@@ -15,10 +18,11 @@ use Rattle.endings.specs.Answers.{resultOf, Fill}
 use Rattle.endings.specs.FilledTrue.{FillPromise}
 use Rattle.endings.specs.laws.FilledTrue.{fill-promised}
 use Rattle.numbering.specs.declared.Material.{Material}
-use Rattle.numbering.specs.Material.{known}
+use Rattle.numbering.specs.Material.{known, given}
+use Rattle.numbering.specs.laws.MaterialLaws.{known-given}
 use Rattle.position.specs.declared.Men.{Men}
 use Rattle.position.specs.Posed.{materialFor}
-use Rattle.four_men.specs.Lending.{Lent, lent, borrowed}
+use Rattle.four_men.specs.Lending.{Lent, lent, partOf, borrowed}
 use Rattle.four_men.specs.Reading.{numbered, holdsDepth}
 use Rattle.four_men.specs.Answers.{lengthsFit, lentAccepted, fillWith}
 use Rattle.four_men.specs.Truth.{FillTrueOf, LentBytes}
@@ -27,7 +31,7 @@ use Rattle.four_men.specs.laws.Filling.{filled-1, filled-7, filled-17, fill-wit
 use Rattle.four_men.specs.laws.Alone.{fill-alone}
 use Rattle.filling.specs.Admitted.{over, Deepest}
 use Rattle.filling.specs.Stepping.{deeperThan}
-use Rattle.filling.specs.FillPromise.{Fills, FillPromiseWith}
+use Rattle.filling.specs.FillPromise.{Fills, FillPromiseWith, fillBackWith, FillBackPromise}
 use Rattle.filling.specs.laws.Code.{start-any}
 
 -- ---- what the steps come to
@@ -61,6 +65,19 @@ module _ (m : Men) (first second t u : List ℕ)
 
 -- ---- what is promised
 
+-- a part of bytes is of bytes
+part-byte : (kind : ℕ) (run : List ℕ) → ((n : ℕ) → getD run n 0 < 256) → (t : List ℕ) → t ≡ partOf kind run → (n : ℕ)
+    → getD t n 0 < 256
+unfolding partOf
+part-byte kind run f t e n = subst⁻¹ (λ (u : List ℕ). getD u n 0 < 256) e (go (le-or-lt 59136 n))
+  where
+    go : (59136 ≤ n) ⊎ (n < 59136) → getD (take 59136 (drop (kind * 59136) run)) n 0 < 256
+    go (inl h) =
+        let z = length-take 59136 (drop (kind * 59136) run) in
+        let g : length (take 59136 (drop (kind * 59136) run)) ≤ n = omega (arith, z) in
+        rw (List·getD-eq-default (take 59136 (drop (kind * 59136) run)) 0 g) (omega arith)
+    go (inr h) = rw (getD-take, getD-drop) (f (kind * 59136 + n))
+
 -- the lent tables are bytes
 pub lent-bytes : (m : Material) (first second : List ℕ) → ((n : ℕ) → getD first n 0 < 256)
     → ((n : ℕ) → getD second n 0 < 256) → LentBytes m (lent first second)
@@ -69,6 +86,12 @@ lent-bytes (Material.Two j k r) first second f s t (List·Memᴰ·head e) n =
     subst (λ (u : List ℕ). getD u n 0 < 256) (sym e) (f n)
 lent-bytes (Material.Two j k r) first second f s t (List·Memᴰ·tail (List·Memᴰ·head e)) n =
     subst (λ (u : List ℕ). getD u n 0 < 256) (sym e) (s n)
+lent-bytes Material.Pawn first second f s t (List·Memᴰ·head e) n = part-byte 0 first f t e n
+lent-bytes Material.Pawn first second f s t (List·Memᴰ·tail (List·Memᴰ·head e)) n = part-byte 1 first f t e n
+lent-bytes Material.Pawn first second f s t (List·Memᴰ·tail (List·Memᴰ·tail (List·Memᴰ·head e))) n =
+    part-byte 2 first f t e n
+lent-bytes Material.Pawn first second f s t (List·Memᴰ·tail (List·Memᴰ·tail (List·Memᴰ·tail (List·Memᴰ·head e)))) n =
+    part-byte 3 first f t e n
 
 module _ (m : Material) (l : Lent) (t : List ℕ) (small : LentBytes m l) where
   promised : (a : Filled) (u : List ℕ) → a ≡ fillWith m l t .answer → u ≡ fillWith m l t .bytes
@@ -90,18 +113,18 @@ module _ (m : Material) (l : Lent) (t : List ℕ) (small : LentBytes m l) where
   is : (a : Filled) (u : List ℕ) → fillWith m l t ≡ record { answer = a; bytes = u } → FillPromiseWith m l t a u
   is a u z = promised a u (sym (ap (λ (o : Fill). o .answer) z)) (sym (ap (λ (o : Fill). o .bytes) z))
 
-  pub promised-1 : known m ≡ false → FillPromiseWith m l t (Filled.Refused 1) t
+  pub promised-1 : given m ≡ false → FillPromiseWith m l t (Filled.Refused 1) t
   promised-1 w = is (Filled.Refused 1) t (filled-1 m l t w)
 
-  pub promised-7 : known m ≡ true → lengthsFit m l t ≡ false → FillPromiseWith m l t (Filled.Refused 7) t
+  pub promised-7 : given m ≡ true → lengthsFit m l t ≡ false → FillPromiseWith m l t (Filled.Refused 7) t
   promised-7 w n = is (Filled.Refused 7) t (filled-7 m l t (of-true w) n)
 
-  pub promised-17 : known m ≡ true → lengthsFit m l t ≡ true → lentAccepted m l ≡ false
+  pub promised-17 : given m ≡ true → lengthsFit m l t ≡ true → lentAccepted m l ≡ false
       → FillPromiseWith m l t (Filled.Refused 17) t
   promised-17 w n x = is (Filled.Refused 17) t (filled-17 m l t (of-true w) (of-true n) x)
 
 pub promised-filled : (m : Material) (men : Men) (first second t : List ℕ) (a : Filled) (u : List ℕ)
-    → LentBytes m (lent first second) → known m ≡ true → lengthsFit m (lent first second) t ≡ true
+    → LentBytes m (lent first second) → given m ≡ true → lengthsFit m (lent first second) t ≡ true
     → lentAccepted m (lent first second) ≡ true → materialFor men ≡ m
     → Fills (filledUntil chess (over men first second)
     (holdsDepth (borrowed (materialFor men) (lent first second))) t) a u
@@ -122,3 +145,40 @@ pub promised-one : (kind : ℕ) (first second t : List ℕ) (a : Filled) (u : Li
 promised-one kind first second t a u p =
     let z = fill-alone kind (lent first second) t in
     fill-promised kind t a u (p .answered ∙ ap (λ (o : Fill). o .answer) z) (p .left ∙ ap (λ (o : Fill). o .bytes) z)
+
+-- ---- working back: of pieces
+
+module _ (m : Material) (l : Lent) (t : List ℕ) where
+  pub back-refused : known m ≡ false → FillBackPromise m l t (Filled.Refused 1) t
+  unfolding fillBackWith
+  back-refused e = record {
+    answered = sym (rw e);
+    left = sym (rw e);
+    refused-1 = λ z. (refl, refl);
+    pieces = λ w. absurd (refuted e w);
+  }
+
+  pub back-pieces : known m ≡ true → (a : Filled) (u : List ℕ) → FillPromiseWith m l t a u → FillBackPromise m l t a u
+  unfolding fillBackWith
+  back-pieces e a u p = record {
+    answered = rw e (p .answered);
+    left = rw e (p .left);
+    refused-1 = λ z. absurd (refuted z (of-true e));
+    pieces = λ w. p;
+  }
+
+-- one man is a piece, or refused
+pub back-one : (kind : ℕ) (first second t : List ℕ) (a : Filled) (u : List ℕ)
+    → FillBackPromise (Material.One kind) (lent first second) t a u → FillPromise kind t a u
+unfolding fillBackWith
+back-one kind first second t a u p =
+    let z = fill-alone kind (lent first second) t in
+    let same = same-one (known (Material.One kind)) refl in
+    fill-promised kind t a u (p .answered ∙ ap (λ (o : Fill). o .answer) (same ∙ z))
+    (p .left ∙ ap (λ (o : Fill). o .bytes) (same ∙ z))
+  where
+    same-one : (x : Bool) → known (Material.One kind) ≡ x
+        → cond x (fillWith (Material.One kind) (lent first second) t) (record { answer = Filled.Refused 1; bytes = t })
+        ≡ fillWith (Material.One kind) (lent first second) t
+    same-one true e = refl
+    same-one false e = sym (filled-1 (Material.One kind) (lent first second) t e)

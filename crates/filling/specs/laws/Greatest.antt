@@ -6,11 +6,18 @@ use mathlib.Core.List.{List, [], _∷_}
 use Prim.Native.Nat.{ℕ, zero, suc, _+_, _<_, _≤_}
 use native.Mathlib.Omega.{arith}
 use lib.Dec.{T, leb, ltb, leb→le, le→leb}
-use lib.ListN.{length, getD}
+use lib.ListN.{length, getD, take, drop, take-append-drop, drop-of-length-le}
+use lib.Seq.{drop-drop}
 use borrow.Author.Tests.{le-leb, lt-leb, le-ltb, lt-ltb}
 use Rattle.finite.specs.Truth.{true-of, fails, or-left, or-right, le-or-lt}
 use Rattle.finite.specs.Members.{any}
+use Rattle.finite.specs.Tests.{any-append}
 use Rattle.position.specs.declared.Men.{Men}
+use Rattle.position.specs.Posed.{materialFor}
+use Rattle.numbering.specs.declared.Material.{Material}
+use Rattle.numbering.specs.Material.{known}
+use Rattle.index.specs.laws.PlaceLaws.{piece-by}
+use Rattle.four_men.specs.Lending.{lent, partOf, borrowed}
 use Rattle.four_men.specs.Reading.{holdsDepth}
 use Rattle.filling.specs.Admitted.{Deepest}
 use Rattle.filling.specs.Greatest.{GreatestBelow, Greatest}
@@ -91,12 +98,49 @@ greatest-holds t byte k g = go (le-or-lt (2 + k) byte)
         omega (arith, g .most (w .0) (w .1), leb→le (2 + k) (getD t (w .0) 0) (w .2), h))
         ∙ sym (lt-leb (2 + k) byte h)
 
+-- ---- a run of four tables
+
+module _ (f : ℕ → Bool) (run : List ℕ) (n : length run ≡ 236544) where
+  split : (l : List ℕ) → any f l ≡ (any f (take 59136 l) || any f (drop 59136 l))
+  split l = ap (any f) (sym (take-append-drop 59136 l)) ∙ any-append f (take 59136 l) (drop 59136 l)
+
+  again : (a : ℕ) → any f (drop a run) ≡ (any f (take 59136 (drop a run)) || any f (drop (a + 59136) run))
+  again a =
+      split (drop a run)
+      ∙ ap (λ (l : List ℕ). any f (take 59136 (drop a run)) || any f l) (drop-drop 59136 a run)
+
+  ended : any f (drop 236544 run) ≡ false
+  unfolding any
+  ended = ap (any f) (drop-of-length-le run {i = 236544} (omega (arith, n)))
+
+  pub four-parts : any (λ t. any f t) (partOf 0 run ∷ partOf 1 run ∷ partOf 2 run ∷ partOf 3 run ∷ []) ≡ any f run
+  unfolding any partOf
+  four-parts =
+      sym (again 0
+      ∙ ap (λ (x : Bool). any f (take 59136 run) || x) (again 59136
+      ∙ ap (λ (x : Bool). any f (take 59136 (drop 59136 run)) || x) (again 118272
+      ∙ ap (λ (x : Bool). any f (take 59136 (drop 118272 run)) || x) (again 177408
+      ∙ ap (λ (x : Bool). any f (take 59136 (drop 177408 run)) || x) ended))))
+
 -- ---- of the lent tables
 
 module _ (m : Men) (first second : List ℕ) where
-  pub deepest-none : 4 ≤ m .second → Deepest m first second 0
+  pub deepest-none : T (known (materialFor m)) → 4 ≤ m .second → Deepest m first second 0
   unfolding holdsDepth any
-  deepest-none h = record { small = omega arith; holds = λ k. rw (le-leb 4 (m .second) h) (sym (lt-leb (2 + k) 0 (omega arith))) }
+  deepest-none w h = record {
+    small = omega arith;
+    holds = λ k. rw (piece-by m w (le-leb 4 (m .second) h)) (sym (lt-leb (2 + k) 0 (omega arith)));
+  }
+
+  -- a pawn's four: what they hold, the run holds
+  pub deepest-pawn : materialFor m ≡ Material.Pawn → length first ≡ 236544 → (r : ℕ) → Greatest first r → r < 256
+      → Deepest m first second r
+  unfolding holdsDepth any partOf
+  deepest-pawn e n r g b = record {
+    small = b;
+    holds = λ k. ap (λ (x : Material). holdsDepth (borrowed x (lent first second)) k) e
+        ∙ four-parts (λ b. leb (2 + k) b) first n ∙ greatest-holds first r k g;
+  }
 
   either : (a c k : ℕ) → a ≤ c → (leb (2 + k) a || leb (2 + k) c) ≡ leb (2 + k) c
   either a c k h = go (le-or-lt (2 + k) a)

@@ -33,26 +33,30 @@ use Rattle.four_men.specs.laws.Materials.{own-material}
 
 -- ---- the side to move at a number
 
-pub side-below : (m : Material) (n : ℕ) → n < sizeOf m / 2 → boardAt (menOf m) n .side ≡ 0
+pub side-below : (m : Material) → T (known m) → (n : ℕ) → n < sizeOf m / 2 → boardAt (menOf m) n .side ≡ 0
 unfolding boardAt leading
-side-below (Material.One kind) n h = omega arith
-side-below (Material.Two j k r) n h = omega arith
+side-below Material.Pawn w n h = absurd w
+side-below (Material.One kind) w n h = omega arith
+side-below (Material.Two j k r) w n h = omega arith
 
-pub side-above : (m : Material) (n : ℕ) → n < sizeOf m → sizeOf m / 2 ≤ n → boardAt (menOf m) n .side ≡ 1
+pub side-above : (m : Material) → T (known m) → (n : ℕ) → n < sizeOf m → sizeOf m / 2 ≤ n → boardAt (menOf m) n .side ≡ 1
 unfolding boardAt leading
-side-above (Material.One kind) n h g = omega arith
-side-above (Material.Two j k r) n h g = omega arith
+side-above Material.Pawn w n h g = absurd w
+side-above (Material.One kind) w n h g = omega arith
+side-above (Material.Two j k r) w n h g = omega arith
 
 -- and back
-pub below-side : (m : Material) (n : ℕ) → boardAt (menOf m) n .side ≡ 0 → n < sizeOf m / 2
+pub below-side : (m : Material) → T (known m) → (n : ℕ) → boardAt (menOf m) n .side ≡ 0 → n < sizeOf m / 2
 unfolding boardAt leading
-below-side (Material.One kind) n e = omega arith
-below-side (Material.Two j k r) n e = omega arith
+below-side Material.Pawn w n e = absurd w
+below-side (Material.One kind) w n e = omega arith
+below-side (Material.Two j k r) w n e = omega arith
 
-pub above-side : (m : Material) (n : ℕ) → boardAt (menOf m) n .side ≡ 1 → sizeOf m / 2 ≤ n
+pub above-side : (m : Material) → T (known m) → (n : ℕ) → boardAt (menOf m) n .side ≡ 1 → sizeOf m / 2 ≤ n
 unfolding boardAt leading
-above-side (Material.One kind) n e = omega arith
-above-side (Material.Two j k r) n e = omega arith
+above-side Material.Pawn w n e = absurd w
+above-side (Material.One kind) w n e = omega arith
+above-side (Material.Two j k r) w n e = omega arith
 
 -- ---- men in standard order: the number keeps the side to move
 

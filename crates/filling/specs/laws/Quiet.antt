@@ -27,7 +27,10 @@ use Rattle.position.specs.Posed.{materialFor}
 use Rattle.numbering.specs.Keys.{boardAt}
 use Rattle.numbering.specs.Number.{numberOf}
 use Rattle.numbering.specs.declared.Material.{Material}
-use Rattle.numbering.specs.Material.{known, menOf, sizeOf}
+use Rattle.numbering.specs.Material.{known, oneOf, menOf, sizeOf}
+use Rattle.index.specs.Endings.{boardFor}
+use Rattle.index.specs.laws.EndingsLaws.{legal-of, pieces-number, pieces-board}
+use Rattle.index.specs.laws.PlaceLaws.{material-by, piece-by}
 use Rattle.endings.specs.Ending.{LoneOf, Lone, tableSize, byteOf}
 use Rattle.endings.specs.laws.Halves.{side-next, number-side}
 use Rattle.endings.specs.laws.IndexLaws.{number-of-ending}
@@ -44,6 +47,7 @@ use Rattle.filling.specs.laws.Halves.{side-below, side-above, below-side
 abbrev pub OneSide : Material → Type 0
 OneSide (Material.One kind) = Unit {0}
 OneSide (Material.Two j k r) = r ≡ false
+OneSide Material.Pawn = Unit {0}
 
 -- depth k - 1 stands in a lent table, at a number that a successor may have
 abbrev pub Lower : Material → Lent → ℕ → ℕ → Type 0
@@ -102,6 +106,7 @@ module _ (l : Lent) (d : ℕ) (n : ℕ) (q : Board) (legality : T (legal q)) (so
 
   pub fewer : (m : Material) → T (known m) → q ∈ next chess (boardAt (menOf m) n) → Fewer m q → lentByte m l q ≡ 1 + d
       → Lower m l d (boardAt (menOf m) n .side)
+  fewer Material.Pawn v i f e = absurd v
   fewer (Material.One kind) v i f e = absurd (omega arith)
   fewer (Material.Two j k r) v i (inl f) e = absurd (bare (lentTo j l (q .men)) f e)
   fewer (Material.Two j k r) v i (inr (inl f)) e = alone j k j r v i f e
@@ -111,18 +116,23 @@ module _ (m : Material) (w : T (known m)) (l : Lent) (k : ℕ) (t : List ℕ) (n
   abbrev board : Board
   board = boardAt (menOf m) n
 
+  at-is : boardFor m n ≡ board
+  at-is = ap (λ (at : ℕ → Board). at n) (pieces-board m w)
+
   -- a number that pass k settles, k not 0, has a successor that holds depth k - 1
   cause : 0 < k → T (settles chess (numbered m l) k t n) → Cause m l k t (board .side)
   unfolding settles numbered
   cause some s =
       let byte = requiredAt chess (reads chess (numbered m l) t) board in
-      let last = and-right (eqb (getD t n 0) 1) (legalNumberOf m n && eqb byte (2 + k)) s in
+      let there = subst (λ (b : Board). T (eqb (getD t n 0) 1 && (legalNumberOf m n && eqb
+      (requiredAt chess (reads chess (numbered m l) t) b) (2 + k)))) at-is s in
+      let last = and-right (eqb (getD t n 0) 1) (legalNumberOf m n && eqb byte (2 + k)) there in
       let e = eqb→eq byte (2 + k) (and-right (legalNumberOf m n) (eqb byte (2 + k)) last) in
       let b = byte-before
       (required-rule (mated board) (map (reads chess (numbered m l) t) (next chess board))) (omega (arith, e)) in
       let v = map-out (reads chess (numbered m l) t) (b .0) (next chess board) (b .1) in
       go (v .0)
-      (within-closed m board (v .0) (live-at m w n h (and-left (legalNumberOf m n) (eqb byte (2 + k)) last) .0) (v .1))
+      (within-closed m w board (v .0) (live-at m w n h (and-left (legalNumberOf m n) (eqb byte (2 + k)) last) .0) (v .1))
       (v .1) (sym (v .2) ∙ before (b .0) (sym e ∙ b .2)) (decided (full m (v .0 .men)))
     where
       before : (b : ℕ) → 2 + k ≡ 1 + b → b ≡ 1 + k
@@ -133,10 +143,11 @@ module _ (m : Material) (w : T (known m)) (l : Lent) (k : ℕ) (t : List ℕ) (n
       go q d i r (inl f) =
           Cause.own (numberOf q) (number-live m w q d f .0)
           (number-side-with m w q (numbers m w q d f) (standard-next m n q i w f) ∙ side-next board q i)
-          (sym (reads-inside chess (numbered m l) t q f) ∙ r)
+          (ap (λ (f : Board → ℕ). getD t (f q) 0) (sym (pieces-number m w))
+          ∙ sym (reads-inside chess (numbered m l) t q f) ∙ r)
       go q d i r (inr o) =
           Cause.lower
-          (fewer l k n q (d .legality) some m w i (fewer-of m q d (false-of o))
+          (fewer l k n q (legal-of m w q (d .legality)) some m w i (fewer-of m q d (false-of o))
           (sym (reads-outside chess (numbered m l) t q (false-of o)) ∙ r))
 
 -- ---- the numbers lent that a side's successors may have
@@ -145,8 +156,12 @@ one-side : (m : Men) → m .colour ≡ 0 → OneSide (materialFor m)
 one-side m e = go (leb 4 (m .second))
   where
     go : (x : Bool) → OneSide
-        (cond x (Material.One (m .first)) (Material.Two (m .first) (m .second) (eqb (m .colour) 1)))
-    go true = tt
+        (cond x (oneOf (m .first)) (Material.Two (m .first) (m .second) (eqb (m .colour) 1)))
+    go true = single (eqb (m .first) 4)
+      where
+        single : (y : Bool) → OneSide (cond y Material.Pawn (Material.One (m .first)))
+        single true = tt
+        single false = tt
     go false = ap (λ (c : ℕ). eqb c 1) e
 
 in-upper : (m : Men) (i : ℕ) → (OneSide (materialFor m) → i / 64 / 462 ≡ 1) → lowOf m ≤ i
@@ -173,28 +188,34 @@ module _ (men : Men) (l : Lent) (k : ℕ) (t : List ℕ) where
   abbrev pub BlackQuiet : Type 0
   BlackQuiet = Quiet m l k t 0 (sizeOf m / 2) 0 (highOf men)
 
-  module _ (w : T (known (materialFor men))) (n : ℕ) (h : n < sizeOf (materialFor men)) where
+  module _ (n : ℕ) (h : n < sizeOf (materialFor men)) where
     quiet-white : n < sizeOf m / 2 → WhiteQuiet → settles chess (numbered m l) k t n ≡ false
     quiet-white low q =
-        fails (settles chess (numbered m l) k t n) (λ s. none (cause m w l k t n h (q .later) s))
+        fails (settles chess (numbered m l) k t n) (λ s. none (cause m (q .pieces) l k t n h (q .later) s))
       where
+        w : T (known m)
+        w = q .pieces
+
         none : Cause m l k t (boardAt (menOf m) n .side) → ⊥
         none (Cause.own i b e r) =
-            q .absent .none i (above-side m i (e ∙ ap (λ (x : ℕ). 1 - x) (side-below m n low))) b r
+            q .absent .none i (above-side m w i (e ∙ ap (λ (x : ℕ). 1 - x) (side-below m w n low))) b r
         none (Cause.lower x) =
             q .lent (x .0) (x .1) .none (x .2)
-            (in-upper men (x .2) (λ o. x .4 o ∙ ap (λ (x : ℕ). 1 - x) (side-below m n low))) (x .3) (x .5)
+            (in-upper men (x .2) (λ o. x .4 o ∙ ap (λ (x : ℕ). 1 - x) (side-below m w n low))) (x .3) (x .5)
 
     quiet-black : sizeOf m / 2 ≤ n → BlackQuiet → settles chess (numbered m l) k t n ≡ false
     quiet-black high q =
-        fails (settles chess (numbered m l) k t n) (λ s. none (cause m w l k t n h (q .later) s))
+        fails (settles chess (numbered m l) k t n) (λ s. none (cause m (q .pieces) l k t n h (q .later) s))
       where
+        w : T (known m)
+        w = q .pieces
+
         none : Cause m l k t (boardAt (menOf m) n .side) → ⊥
         none (Cause.own i b e r) =
-            q .absent .none i (omega arith) (below-side m i (e ∙ ap (λ (x : ℕ). 1 - x) (side-above m n h high))) r
+            q .absent .none i (omega arith) (below-side m w i (e ∙ ap (λ (x : ℕ). 1 - x) (side-above m w n h high))) r
         none (Cause.lower x) =
             q .lent (x .0) (x .1) .none (x .2) (omega arith)
-            (in-lower men (x .2) (x .3) (λ o. x .4 o ∙ ap (λ (x : ℕ). 1 - x) (side-above m n h high))) (x .5)
+            (in-lower men (x .2) (x .3) (λ o. x .4 o ∙ ap (λ (x : ℕ). 1 - x) (side-above m w n h high))) (x .5)
 
     -- in place: the half's answer, asked of the table at the pass's start
     pub quiet-in-place : (u : List ℕ) (white black may : Bool) → (white ≡ false → WhiteQuiet)
@@ -230,36 +251,32 @@ quiet-here m first second t a k n h u white black may fw fb e up off =
         → (white ≡ false → Quiet (materialFor m) (lent first second) k t (s / 2) s (lowOf m) 59136)
         → (black ≡ false → Quiet (materialFor m) (lent first second) k t 0 (s / 2) 0 (highOf m))
         → may ≡ cond (ltb n (s / 2)) white black → settles chess (over m first second) k u n ≡ false) z
-        (λ h fw fb e. quiet-in-place m (lent first second) k t (a .ending) n h u white black may fw fb e up off)
+        (λ h fw fb e. quiet-in-place m (lent first second) k t n h u white black may fw fb e up off)
 
 -- ---- nothing found
 
 module _ (m : Men) (l : Lent) (k : ℕ) (t : List ℕ) (from to low high : ℕ) (z : k ≡ 0 → ⊥)
-    (a : Absent t (1 + k) from to) where
+    (a : Absent t (1 + k) from to) (w : T (known (materialFor m))) where
   positive : 0 < k
   positive = omega arith
 
   none-in-any : (bs : List (List ℕ)) → borrowed (materialFor m) l ≡ bs
       → ((u : List ℕ) → u ∈ bs → Absent u (1 + k) low high) → Quiet (materialFor m) l k t from to low high
   none-in-any bs e f =
-      record { later = positive; absent = a; lent = λ u i. f u (subst (λ (l : List (List ℕ)). u ∈ l) e i) }
+      record { pieces = w; later = positive; absent = a; lent = λ u i. f u (subst (λ (l : List (List ℕ)). u ∈ l) e i) }
 
   -- with one man nothing is lent
   pub quiet-one : 4 ≤ m .second → Quiet (materialFor m) l k t from to low high
   quiet-one h =
-      none-in-any []
-      (ap (λ (x : Bool). borrowed
-      (cond x (Material.One (m .first)) (Material.Two (m .first) (m .second) (eqb (m .colour) 1))) l)
-      (le-leb 4 (m .second) h)) (λ u i. absurd (none-in refl i))
+      none-in-any [] (ap (λ (x : Material). borrowed x l) (piece-by m w (le-leb 4 (m .second) h)))
+      (λ u i. absurd (none-in refl i))
 
   -- with two, both lent tables are asked
   pub quiet-two : m .second < 4 → Absent (l .first) (1 + k) low high → Absent (l .second) (1 + k) low high
       → Quiet (materialFor m) l k t from to low high
   quiet-two h b c =
       none-in-any (l .first ∷ l .second ∷ [])
-      (ap (λ (x : Bool). borrowed
-      (cond x (Material.One (m .first)) (Material.Two (m .first) (m .second) (eqb (m .colour) 1))) l)
-      (lt-leb 4 (m .second) h)) either
+      (ap (λ (x : Material). borrowed x l) (material-by m false (lt-leb 4 (m .second) h))) either
     where
       either : (u : List ℕ) → u ∈ (l .first ∷ l .second ∷ []) → Absent u (1 + k) low high
       either u (List·Memᴰ·head e) = subst⁻¹ (λ (v : List ℕ). Absent v (1 + k) low high) e b

@@ -14,6 +14,9 @@ enum-told c = search needs
 enum-told-2 : tie.Need-enum-told-2
 enum-told-2 c = search needs
 
+enum-told-3 : tie.Need-enum-told-3
+enum-told-3 c = search needs
+
 returns : tie.Need-returns
 returns c =
     let a = c .before .before .args in
@@ -26,5 +29,11 @@ returns-2 c =
     sym (ap (λ (m : Material). lengthsFit m (lent (now (a .first)) (now (a .second))) (now (a .table)))
     (c .enum-told2 .given .1))
 
+returns-3 : tie.Need-returns-3
+returns-3 c =
+    let a = c .before .before .args in
+    sym (ap (λ (m : Material). lengthsFit m (lent (now (a .first)) (now (a .second))) (now (a .table)))
+    (c .enum-told3 .given .1))
+
 pub lengths-fit-spec : {M : Type 1} → statement M
-lengths-fit-spec = tie.close (tie.spec enum-told enum-told-2 returns returns-2)
+lengths-fit-spec = tie.close (tie.spec enum-told enum-told-2 enum-told-3 returns returns-2 returns-3)

@@ -28,7 +28,10 @@ use Rattle.numbering.specs.declared.Material.{Material}
 use Rattle.numbering.specs.Material.{OfMaterial}
 use Rattle.four_men.specs.Steps.{nothing}
 use Rattle.four_men.specs.GamePromise.{lookedUp, deskMoveWith, GamePromiseWith}
-use Rattle.four_men.specs.laws.Alone.{check-alone, reads-alone, look-up-alone}
+use Rattle.four_men.specs.laws.Alone.{check-alone, reads-alone, lone-piece, look-up-alone}
+use Rattle.four_men.specs.Truth.{TrueAnswerIn}
+use Rattle.four_men.specs.laws.Materials.{lone-material}
+use Rattle.four_men.specs.laws.Pieces.{answer-out}
 use Rattle.four_men.specs.laws.Games.{second-none, games-with}
 
 -- ---- two ways of picking that agree on the positions of a game promise the same
@@ -70,9 +73,9 @@ module _ (D : Board → Type 0) (closed : (b q : Board) → D b → (v : Move) �
 -- ---- one man
 
 module _ (kind : ℕ) (t : List ℕ) where
-  looked-alone : (b : Board) → Lone kind b → lookedUp (Material.One kind) nothing t b ≡ lookUpOf t (keyed b)
+  looked-alone : (b : Board) → T (legal b) → Lone kind b → lookedUp (Material.One kind) nothing t b ≡ lookUpOf t (keyed b)
   unfolding lookedUp
-  looked-alone b w = look-up-alone nothing t (keyed b) (second-none kind b w)
+  looked-alone b g w = look-up-alone nothing t (keyed b) (second-none kind b w) (lone-piece kind b g w)
 
   pub desk-alone : (b : Board) → Ending kind b → deskMoveWith (Material.One kind) nothing t b ≡ deskMove t b
   unfolding deskMoveWith deskMove
@@ -85,11 +88,7 @@ module _ (kind : ℕ) (t : List ℕ) where
           subst⁻¹ (λ (ms : List Piece). cond (empty ms) none
           (moveOfAnswer (lookedUp (Material.One kind) nothing t b))
           ≡ cond (empty ms) none (moveOfAnswer (lookUpOf t (keyed b)))) e refl
-      go (inr w) = ap (λ (a : Answer). cond (empty (b .men)) none (moveOfAnswer a)) (looked-alone b w)
-
-  pub lone-material : (b : Board) → Lone kind b → OfMaterial (Material.One kind) b
-  unfolding materialOf
-  lone-material b w = ap materialOf (w .1 .1)
+      go (inr w) = ap (λ (a : Answer). cond (empty (b .men)) none (moveOfAnswer a)) (looked-alone b (d .legality) w)
 
   pub closed : (b q : Board) → Ending kind b → (v : Move) → v ∈ moves b → q ≡ played b v → Ending kind q
   closed b q d v i e = subst⁻¹ (Ending kind) e (ending-closed kind b (played b v) d (map-in (played b) i))
@@ -98,9 +97,9 @@ module _ (kind : ℕ) (t : List ℕ) where
   pub games-alone : checkOf kind t ≡ Checked.Accepted → (b : Board) → T (legal b) → Lone kind b → (side : Bool)
       (ms : List Move) → LegalGame chess b ms → Follows chess (deskMove t) side b ms → GamePromise t side b ms
   games-alone ok b g w side ms game follows = record {
-    called = answer b w (whole .called);
-    told = subst (λ (a : Answer). Told a side b ms) (looked-alone b w) (whole .told);
-    answers = λ i h n. answer (atPly chess b ms i) (man i n) (whole .answers i h n);
+    called = answer b g w (whole .called);
+    told = subst (λ (a : Answer). Told a side b ms) (looked-alone b g w) (whole .told);
+    answers = λ i h n. answer (atPly chess b ms i) (there i .legality) (man i n) (whole .answers i h n);
     bare = whole .bare;
     promised = promised-same (Ending kind) closed (deskMoveWith (Material.One kind) nothing t) (deskMove t) desk-alone
         (byteOf t) side b ms start game (back (not side))
@@ -117,16 +116,21 @@ module _ (kind : ℕ) (t : List ℕ) where
           (λ c d. sym (desk-alone c d)) s b ms start game
 
       whole : GamePromiseWith (Material.One kind) nothing t side b ms
-      whole = games-with (Material.One kind) nothing t (check-alone kind nothing t ∙ ok) b g (lone-material b w) side ms
+      whole = games-with (Material.One kind) nothing t (check-alone kind nothing t ∙ ok) b g (lone-material kind b w) side ms
           game (back side follows)
 
-      answer : (c : Board) → Lone kind c → TrueAnswer c (lookedUp (Material.One kind) nothing t c)
+      answer : (c : Board) → T (legal c) → Lone kind c → TrueAnswerIn c (lookedUp (Material.One kind) nothing t c)
           → TrueAnswer c (lookUpOf t (keyed c))
-      answer c x a = subst (TrueAnswer c) (looked-alone c x) a
+      answer c v x a =
+          subst (TrueAnswer c) (looked-alone c v x)
+          (answer-out (Material.One kind) c v (lone-material kind c x) _ a)
+
+      there : (i : ℕ) → Ending kind (atPly chess b ms i)
+      there i = stays (Ending kind) closed (deskMove t) (deskMove t) (λ c d. refl) b (take i ms) start
+          (legal-take chess i b ms game)
 
       man : (i : ℕ) → empty (atPly chess b ms i .men) ≡ false → Lone kind (atPly chess b ms i)
-      man i n = go (stays (Ending kind) closed (deskMove t) (deskMove t) (λ c d. refl) b (take i ms) start
-          (legal-take chess i b ms game) .men)
+      man i n = go (there i .men)
         where
           go : (atPly chess b ms i .men ≡ []) ⊎ Lone kind (atPly chess b ms i) → Lone kind (atPly chess b ms i)
           go (inl e) = absurd (refuted n (subst⁻¹ (λ (l : List Piece). T (empty l)) e tt))

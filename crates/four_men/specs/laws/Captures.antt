@@ -5,7 +5,9 @@ use mathlib.Core.Bool.{Bool, true, false, not}
 use mathlib.Core.Logic.{_⊎_, inl, inr, ⊎-elim}
 use mathlib.Core.List.{List, [], _∷_, map}
 use Prim.Native.Nat.{ℕ}
+use native.Mathlib.Omega.{arith}
 use lib.Dec.{T, eqb}
+use borrow.Author.Tests.{ne-eqb}
 use Rattle.finite.specs.Truth.{refuted}
 use Rattle.finite.specs.Members.{_∈_, map-out, none-in}
 use Rattle.finite.specs.Filter.{filter, keep}
@@ -20,7 +22,8 @@ use Rattle.numbering.specs.Men.{materialOf}
 use Rattle.endings.specs.Ending.{Lone}
 use Rattle.endings.specs.laws.EndingDrawn.{ending-closed, bare-over}
 use Rattle.numbering.specs.declared.Material.{Material}
-use Rattle.numbering.specs.Material.{OfMaterial}
+use Rattle.numbering.specs.Material.{known, OfMaterial}
+use Rattle.index.specs.laws.EndingsLaws.{legal-of, of-legal}
 use Rattle.four_men.specs.Reading.{Fewer, Within, full}
 use Rattle.four_men.specs.laws.Materials.{one-of, two-of, both-kinds, few-of, full-of}
 
@@ -66,13 +69,14 @@ either-kind : (j k i : ℕ) (r : Bool) (q : Board) → (i ≡ j) ⊎ (i ≡ k) �
 either-kind j k i r q (inl e) w = inr (inl (subst (λ (x : ℕ). Lone x q) e w))
 either-kind j k i r q (inr e) w = inr (inr (subst (λ (x : ℕ). Lone x q) e w))
 
-own-next : (m : Material) (b q : Board) → T (legal b) → OfMaterial m b → q ∈ next chess b
+own-next : (m : Material) → T (known m) → (b q : Board) → T (legal b) → OfMaterial m b → q ∈ next chess b
     → OfMaterial m q ⊎ Fewer m q
-own-next (Material.One kind) b q t e h =
+own-next Material.Pawn s b q t e h = absurd s
+own-next (Material.One kind) s b q t e h =
     let w = one-of kind (b .men) e in
     ⊎-elim (λ r. inl (r ∙ ap materialOf (sym (w .1)) ∙ e)) (λ r. inr r)
     (subst (λ (l : List Piece). Leaves l (q .men)) (w .1) (leaves-next b q t h))
-own-next (Material.Two j k r) b q t e h =
+own-next (Material.Two j k r) s b q t e h =
     let w = two-of j k r (b .men) e in
     go (w .0) (w .1) (w .2) (both-kinds j k r (w .0) (w .1) (w .3))
     (subst (λ (l : List Piece). Leaves l (q .men)) (w .2) (leaves-next b q t h))
@@ -86,38 +90,45 @@ own-next (Material.Two j k r) b q t e h =
 
 -- ---- closed
 
-pub fewer-next : (m : Material) (b q : Board) → Within m b → Fewer m b → q ∈ next chess b → Fewer m q
-fewer-next (Material.One kind) b q d e h = absurd (none-in (ap (map (played b)) (bare-over b (d .legality) e)) h)
-fewer-next (Material.Two j k r) b q d (inl e) h =
+pub fewer-next : (m : Material) → T (known m) → (b q : Board) → Within m b → Fewer m b → q ∈ next chess b → Fewer m q
+fewer-next Material.Pawn s b q d f h = absurd s
+fewer-next (Material.One kind) s b q d e h = absurd (none-in (ap (map (played b)) (bare-over b (d .legality) e)) h)
+fewer-next (Material.Two j k r) s b q d (inl e) h =
     absurd (none-in (ap (map (played b)) (bare-over b (d .legality) e)) h)
-fewer-next (Material.Two j k r) b q d (inr (inl l)) h =
+fewer-next (Material.Two j k r) s b q d (inr (inl l)) h =
     ⊎-elim (λ e. inl e) (λ x. inr (inl x))
     (ending-closed j b q (record { legality = d .legality; men = inr l }) h .men)
-fewer-next (Material.Two j k r) b q d (inr (inr l)) h =
+fewer-next (Material.Two j k r) s b q d (inr (inr l)) h =
     ⊎-elim (λ e. inl e) (λ x. inr (inr x))
     (ending-closed k b q (record { legality = d .legality; men = inr l }) h .men)
 
-pub within-closed : (m : Material) → Closed chess (Within m)
-within-closed m b q d h = record { legality = next-legal b q (d .legality) h; men = go (d .men) }
+pub within-closed : (m : Material) → T (known m) → Closed chess (Within m)
+within-closed m s b q d h =
+    record { legality = of-legal m s q (next-legal b q (legal-of m s b (d .legality)) h); men = go (d .men) }
   where
     go : OfMaterial m b ⊎ Fewer m b → OfMaterial m q ⊎ Fewer m q
-    go (inl e) = own-next m b q (d .legality) e h
-    go (inr f) = inr (fewer-next m b q d f h)
+    go (inl e) = own-next m s b q (legal-of m s b (d .legality)) e h
+    go (inr f) = inr (fewer-next m s b q d f h)
 
 -- ---- two men at most; with a man taken the board is not full
 
-pub within-few : (m : Material) (b : Board) → Within m b → LegalFew b
-within-few m b d = record { legality = d .legality; few = go m (d .men) }
+pub within-few : (m : Material) → T (known m) → (b : Board) → Within m b → LegalFew b
+within-few m s b d = record { legality = legal-of m s b (d .legality); few = go m (d .men) }
   where
     go : (m : Material) → OfMaterial m b ⊎ Fewer m b → Few (b .men)
     go m (inl e) = few-of m (b .men) e
     go (Material.One kind) (inr e) = subst⁻¹ Few e tt
+    go Material.Pawn (inr (inl e)) = subst⁻¹ Few e tt
+    go Material.Pawn (inr (inr x)) = subst⁻¹ Few (x .2 .1 .1) tt
     go (Material.Two j k r) (inr (inl e)) = subst⁻¹ Few e tt
     go (Material.Two j k r) (inr (inr (inl w))) = subst⁻¹ Few (w .1 .1) tt
     go (Material.Two j k r) (inr (inr (inr w))) = subst⁻¹ Few (w .1 .1) tt
 
 pub fewer-not-full : (m : Material) (b : Board) → Fewer m b → full m (b .men) ≡ false
 fewer-not-full (Material.One kind) b e = ap (full (Material.One kind)) e
+fewer-not-full Material.Pawn b (inl e) = ap (full Material.Pawn) e
+fewer-not-full Material.Pawn b (inr (kind, h, w)) =
+    ap (full Material.Pawn) (w .1 .1) ∙ ne-eqb kind 4 (λ z. absurd (omega (arith, z, h)))
 fewer-not-full (Material.Two j k r) b (inl e) = ap (full (Material.Two j k r)) e
 fewer-not-full (Material.Two j k r) b (inr (inl w)) = ap (full (Material.Two j k r)) (w .1 .1)
 fewer-not-full (Material.Two j k r) b (inr (inr w)) = ap (full (Material.Two j k r)) (w .1 .1)

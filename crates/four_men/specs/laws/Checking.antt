@@ -15,11 +15,12 @@ use Rattle.theory.specs.Value.{TrueByte}
 use Rattle.table_theory.specs.Tables.{wrongAt, Accepted, True}
 use Rattle.table_theory.specs.laws.Acceptance.{accepted-true, true-accepted, true-reads, reads-inside, one-true-table}
 use Rattle.rules.specs.Chess.{chess}
-use Rattle.numbering.specs.Keys.{boardAt}
 use Rattle.answers.specs.declared.Checked.{Checked}
 use Rattle.endings.specs.Ending.{tableSize}
 use Rattle.numbering.specs.declared.Material.{Material}
-use Rattle.numbering.specs.Material.{known, menOf, largeSize, sizeOf}
+use Rattle.numbering.specs.Material.{given, largeSize, sizeOf}
+use Rattle.pawn_numbers.specs.PawnNumber.{pawnSize}
+use Rattle.index.specs.Endings.{boardFor}
 use Rattle.four_men.specs.Lending.{Lent}
 use Rattle.four_men.specs.Reading.{numbered}
 use Rattle.four_men.specs.Answers.{lengthsFit, lentAccepted, checkWith}
@@ -27,34 +28,34 @@ use Rattle.four_men.specs.Truth.{TrueTableOf}
 use Rattle.four_men.specs.CheckedTrue.{CheckPromiseWith}
 use Rattle.four_men.specs.laws.Materials.{full-of}
 use Rattle.four_men.specs.laws.Captures.{own-of}
-use Rattle.four_men.specs.laws.Numbered.{live-at, lawfulWith}
-use Rattle.four_men.specs.laws.Lent.{outer-true-with}
+use Rattle.four_men.specs.laws.Given.{live-at-for, lawfulFor, outer-true-for}
 
 -- the lengths that fit
 pub long-of : (m : Material) (l : Lent) (t : List ℕ) → T (lengthsFit m l t) → length t ≡ sizeOf m
 long-of (Material.One kind) l t h = eqb→eq (length t) tableSize h
+long-of Material.Pawn l t h = eqb→eq (length t) pawnSize (and-left (eqb (length t) pawnSize) _ h)
 long-of (Material.Two j k r) l t h = eqb→eq (length t) largeSize (and-left (eqb (length t) largeSize) _ h)
 
-module _ (m : Material) (w : T (known m)) (l : Lent) (t : List ℕ) (ok : T (lentAccepted m l)) where
+module _ (m : Material) (w : T (given m)) (l : Lent) (t : List ℕ) (ok : T (lentAccepted m l)) where
   -- the true table in the words of chess and of `table_theory`
   pub true-chess-with : True chess (numbered m l) t ↔ TrueTableOf m t
-  unfolding numbered lawfulWith
+  unfolding numbered lawfulFor
   true-chess-with = (forth, back)
     where
       forth : True chess (numbered m l) t → TrueTableOf m t
       forth v = record {
         legal-true =
             λ b g e. subst (TrueByte chess b) (reads-inside chess (numbered m l) t b (full-of m (b .men) e))
-            (true-reads chess (numbered m l) (lawfulWith m w l) t (outer-true-with m w l ok) v b
+            (true-reads chess (numbered m l) (lawfulFor m w l) t (outer-true-for m w l ok) v b
             (record { legality = g; men = inl e }));
         others-zero = v .others-zero;
       }
 
       back : TrueTableOf m t → True chess (numbered m l) t
       back v = record {
-        legal-true = λ n h g. let a = live-at m w n h g in
-            subst (λ (k : ℕ). TrueByte chess (boardAt (menOf m) n) (getD t k 0)) (a .2)
-            (v .legal-true (boardAt (menOf m) n) (a .0 .legality) (own-of m (boardAt (menOf m) n) (a .0) (a .1)));
+        legal-true = λ n h g. let a = live-at-for m w n h g in
+            subst (λ (k : ℕ). TrueByte chess (boardFor m n) (getD t k 0)) (a .2)
+            (v .legal-true (boardFor m n) (a .0 .legality) (own-of m (boardFor m n) (a .0) (a .1)));
         others-zero = v .others-zero;
       }
 
@@ -95,51 +96,51 @@ module _ (m : Material) (l : Lent) (t : List ℕ) where
   )
 
   pub accepted-with : checkWith m l t ≡ Checked.Accepted
-      → T (known m) × T (lengthsFit m l t) × T (lentAccepted m l) × Accepted chess (numbered m l) t
+      → T (given m) × T (lengthsFit m l t) × T (lentAccepted m l) × Accepted chess (numbered m l) t
   unfolding checkWith
   accepted-with e =
-      let r = accepted-by (known m) (lengthsFit m l t) (lentAccepted m l) (ltb low (sizeOf m)) low e in
+      let r = accepted-by (given m) (lengthsFit m l t) (lentAccepted m l) (ltb low (sizeOf m)) low e in
       (of-true (r .0), of-true (r .1), of-true (r .2), none-wrong .0 (ltb-false low (sizeOf m) (r .3)))
 
   -- CHECKING ACCEPTS A TABLE IF AND ONLY IF IT IS THE TRUE ONE, the lent tables being accepted.
   pub accepts-true-with : (checkWith m l t ≡ Checked.Accepted)
-      ↔ (T (known m) × T (lengthsFit m l t) × T (lentAccepted m l) × TrueTableOf m t)
+      ↔ (T (given m) × T (lengthsFit m l t) × T (lentAccepted m l) × TrueTableOf m t)
   unfolding checkWith
   accepts-true-with = (forth, back)
     where
       forth : checkWith m l t ≡ Checked.Accepted
-          → T (known m) × T (lengthsFit m l t) × T (lentAccepted m l) × TrueTableOf m t
+          → T (given m) × T (lengthsFit m l t) × T (lentAccepted m l) × TrueTableOf m t
       forth e =
           let r = accepted-with e in (
             r .0,
             r .1,
             r .2,
             true-chess-with m (r .0) l t (r .2) .0
-                (accepted-true chess (numbered m l) (lawfulWith m (r .0) l) t (outer-true-with m (r .0) l (r .2))
+                (accepted-true chess (numbered m l) (lawfulFor m (r .0) l) t (outer-true-for m (r .0) l (r .2))
                 (r .3)),
           )
 
-      back : T (known m) × T (lengthsFit m l t) × T (lentAccepted m l) × TrueTableOf m t
+      back : T (given m) × T (lengthsFit m l t) × T (lentAccepted m l) × TrueTableOf m t
           → checkWith m l t ≡ Checked.Accepted
       back x =
           rw (
-            true-of {b = known m} (x .0),
+            true-of {b = given m} (x .0),
             true-of {b = lengthsFit m l t} (x .1),
             true-of {b = lentAccepted m l} (x .2),
             le-ltb low (sizeOf m)
                 (none-wrong .1
-                (true-accepted chess (numbered m l) (lawfulWith m (x .0) l) t (outer-true-with m (x .0) l (x .2))
+                (true-accepted chess (numbered m l) (lawfulFor m (x .0) l) t (outer-true-for m (x .0) l (x .2))
                 (true-chess-with m (x .0) l t (x .2) .1 (x .3)))),
           )
 
   -- 17 IS GIVEN EXACTLY WHERE A LENT TABLE IS NOT ACCEPTED, 1 and 7 not refusing.
   pub checked-17 : (checkWith m l t ≡ Checked.Refused 17)
-      ↔ (T (known m) × T (lengthsFit m l t) × (lentAccepted m l ≡ false))
+      ↔ (T (given m) × T (lengthsFit m l t) × (lentAccepted m l ≡ false))
   unfolding checkWith
   checked-17 = (
-    λ e. let r = seventeen-by (known m) (lengthsFit m l t) (lentAccepted m l) (ltb low (sizeOf m)) low e in
+    λ e. let r = seventeen-by (given m) (lengthsFit m l t) (lentAccepted m l) (ltb low (sizeOf m)) low e in
         (of-true (r .0), of-true (r .1), r .2),
-    λ x. rw (true-of {b = known m} (x .0), true-of {b = lengthsFit m l t} (x .1), x .2),
+    λ x. rw (true-of {b = given m} (x .0), true-of {b = lengthsFit m l t} (x .1), x .2),
   )
 
   -- the definition's answer keeps the promise

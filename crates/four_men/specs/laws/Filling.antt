@@ -18,15 +18,15 @@ use Rattle.answers.specs.declared.Filled.{Filled}
 use Rattle.answers.specs.declared.Checked.{Checked}
 use Rattle.endings.specs.Answers.{resultOf, Fill}
 use Rattle.numbering.specs.declared.Material.{Material}
-use Rattle.numbering.specs.Material.{known}
+use Rattle.numbering.specs.Material.{given}
 use Rattle.four_men.specs.Lending.{Lent, borrowed}
 use Rattle.four_men.specs.Reading.{numbered, holdsDepth}
 use Rattle.four_men.specs.Answers.{lengthsFit, lentAccepted, checkWith, fillWith}
 use Rattle.four_men.specs.Truth.{TrueTableOf, DecidedOf, FillTrueOf, LentBytes}
 use Rattle.four_men.specs.laws.Materials.{full-of}
 use Rattle.four_men.specs.laws.Captures.{own-of}
-use Rattle.four_men.specs.laws.Numbered.{lawfulWith}
-use Rattle.four_men.specs.laws.Lent.{outer-true-with, lent-held, bytes-end}
+use Rattle.four_men.specs.laws.Given.{lawfulFor, outer-true-for, lent-held-for}
+use Rattle.four_men.specs.laws.Lent.{bytes-end}
 use Rattle.four_men.specs.laws.Checking.{long-of, true-chess-with, accepts-true-with}
 
 -- filling itself gives no 17
@@ -49,38 +49,38 @@ seventeen-by true true true t o e = absurd (never-17 (o .result) e)
 module _ (m : Material) (l : Lent) (t : List ℕ) where
   -- ---- what is refused leaves the table as it was
 
-  pub filled-1 : known m ≡ false → fillWith m l t ≡ record { answer = Filled.Refused 1; bytes = t }
+  pub filled-1 : given m ≡ false → fillWith m l t ≡ record { answer = Filled.Refused 1; bytes = t }
   unfolding fillWith
   filled-1 e = rw e
 
-  pub filled-7 : T (known m) → lengthsFit m l t ≡ false
+  pub filled-7 : T (given m) → lengthsFit m l t ≡ false
       → fillWith m l t ≡ record { answer = Filled.Refused 7; bytes = t }
   unfolding fillWith
-  filled-7 w e = rw (true-of {b = known m} w, e)
+  filled-7 w e = rw (true-of {b = given m} w, e)
 
-  pub filled-17 : T (known m) → T (lengthsFit m l t) → lentAccepted m l ≡ false
+  pub filled-17 : T (given m) → T (lengthsFit m l t) → lentAccepted m l ≡ false
       → fillWith m l t ≡ record { answer = Filled.Refused 17; bytes = t }
   unfolding fillWith
-  filled-17 w h e = rw (true-of {b = known m} w, true-of {b = lengthsFit m l t} h, e)
+  filled-17 w h e = rw (true-of {b = given m} w, true-of {b = lengthsFit m l t} h, e)
 
   -- 17 IS GIVEN EXACTLY WHERE A LENT TABLE IS NOT ACCEPTED, 1 and 7 not refusing.
   pub filled-17-exactly : (fillWith m l t .answer ≡ Filled.Refused 17)
-      ↔ (T (known m) × T (lengthsFit m l t) × (lentAccepted m l ≡ false))
+      ↔ (T (given m) × T (lengthsFit m l t) × (lentAccepted m l ≡ false))
   unfolding fillWith
   filled-17-exactly = (
     λ e. let o = filledUntil chess (numbered m l) (holdsDepth (borrowed m l)) t in
-        let x = seventeen-by (known m) (lengthsFit m l t) (lentAccepted m l) t o e in
+        let x = seventeen-by (given m) (lengthsFit m l t) (lentAccepted m l) t o e in
         (of-true (x .0), of-true (x .1), x .2),
     λ x. ap (λ (f : Fill). f .answer) (filled-17 (x .0) (x .1) (x .2)),
   )
 
-  module _ (w : T (known m)) (long : T (lengthsFit m l t)) (ok : T (lentAccepted m l)) where
+  module _ (w : T (given m)) (long : T (lengthsFit m l t)) (ok : T (lentAccepted m l)) where
     abbrev outcome : Outcome
     outcome = filledUntil chess (numbered m l) (holdsDepth (borrowed m l)) t
 
     pub fill-with-is : fillWith m l t ≡ record { answer = resultOf (outcome .result); bytes = outcome .bytes }
     unfolding fillWith
-    fill-with-is = rw (true-of {b = known m} w, true-of {b = lengthsFit m l t} long, true-of {b = lentAccepted m l} ok)
+    fill-with-is = rw (true-of {b = given m} w, true-of {b = lengthsFit m l t} long, true-of {b = lentAccepted m l} ok)
 
     pub sized : length t ≡ numbered m l .size
     unfolding numbered
@@ -89,17 +89,17 @@ module _ (m : Material) (l : Lent) (t : List ℕ) where
     -- FILLING LEAVES THE TRUE TABLE and gives the greatest depth settled, or says that none is decided, or gives 10 and
     -- clears it.
     pub filled-true-with : LentBytes m l → FillTrueOf m (fillWith m l t)
-    unfolding numbered lawfulWith FillRight
+    unfolding numbered lawfulFor FillRight
     filled-true-with small =
         rw fill-with-is
         (go (outcome .result) (outcome .bytes)
-        (lent-fill-right chess (numbered m l) (lawfulWith m w l) (outer-true-with m w l ok) (holdsDepth (borrowed m l))
-        (lent-held m l ok) (bytes-end m l small) t sized))
+        (lent-fill-right chess (numbered m l) (lawfulFor m w l) (outer-true-for m w l ok) (holdsDepth (borrowed m l))
+        (lent-held-for m w l ok) (bytes-end m l small) t sized))
       where
-        there : (n : ℕ) → SomeDepth chess (numbered m l) (lawfulWith m w l) n → DecidedOf m n
+        there : (n : ℕ) → SomeDepth chess (numbered m l) (lawfulFor m w l) n → DecidedOf m n
         there n x = (x .0, x .1 .legality, own-of m (x .0) (x .1) (x .2), x .3)
 
-        back : (n : ℕ) → DecidedOf m n → SomeDepth chess (numbered m l) (lawfulWith m w l) n
+        back : (n : ℕ) → DecidedOf m n → SomeDepth chess (numbered m l) (lawfulFor m w l) n
         back n d = (
           d .0,
           record { legality = d .1; men = inl (d .2) },
@@ -107,7 +107,7 @@ module _ (m : Material) (l : Lent) (t : List ℕ) where
           d .3,
         )
 
-        go : (r : Result) (u : List ℕ) → FillRight chess (numbered m l) (lawfulWith m w l) r u
+        go : (r : Result) (u : List ℕ) → FillRight chess (numbered m l) (lawfulFor m w l) r u
             → FillTrueOf m (record { answer = resultOf r; bytes = u })
         go undecided u v =
             FillTrueOf.none-decided refl (true-chess-with m w l u ok .0 (v .0)) (λ n d. v .1 n (back n d))
@@ -127,6 +127,7 @@ module _ (m : Material) (l : Lent) (t : List ℕ) where
         fits : (m : Material) (u : List ℕ) → length u ≡ length t → T (lengthsFit m l t) → T (lengthsFit m l u)
         fits (Material.One kind) u e h = rw e h
         fits (Material.Two j k r) u e h = rw e h
+        fits Material.Pawn u e h = rw e h
 
         accept : TrueTableOf m (fillWith m l t .bytes) → checkWith m l (fillWith m l t .bytes) ≡ Checked.Accepted
         accept v = accepts-true-with m l (fillWith m l t .bytes) .1

@@ -36,7 +36,7 @@ use Rattle.four_men.specs.laws.Numbered.{lawfulWith}
 
 -- ---- the lent table of a kind
 
-accepted-is : (c : Checked) → T (accepts c) → c ≡ Checked.Accepted
+pub accepted-is : (c : Checked) → T (accepts c) → c ≡ Checked.Accepted
 accepted-is Accepted t = refl
 accepted-is (Wrong n) t = absurd t
 accepted-is (Refused n) t = absurd t
@@ -94,11 +94,12 @@ module _ (j k : ℕ) (r : Bool) (l : Lent) where
 pub outer-true-with : (m : Material) (w : T (known m)) (l : Lent) → T (lentAccepted m l)
     → OuterTrue chess (numbered m l) (lawfulWith m w l)
 unfolding numbered lawfulWith
-outer-true-with m w l ok b d e = go m ok d (fewer-of m b d e)
+outer-true-with m w l ok b d e = go m w ok d (fewer-of m b d e)
   where
-    go : (m : Material) → T (lentAccepted m l) → Within m b → Fewer m b → TrueByte chess b (lentByte m l b)
-    go (Material.One kind) ok d f = TrueByte.draw (bare-drawn b (d .legality) f) refl
-    go (Material.Two j k r) ok d f = let x = lower-of j k r l b d f in lower-true j k r l ok b (x .0) (x .1)
+    go : (m : Material) → T (known m) → T (lentAccepted m l) → Within m b → Fewer m b → TrueByte chess b (lentByte m l b)
+    go Material.Pawn w ok d f = absurd w
+    go (Material.One kind) w ok d f = TrueByte.draw (bare-drawn b (d .legality) f) refl
+    go (Material.Two j k r) w ok d f = let x = lower-of j k r l b d f in lower-true j k r l ok b (x .0) (x .1)
 
 -- ---- the depths that lent tables hold
 
@@ -109,7 +110,7 @@ held f z [] i h = absurd (refuted z h)
 held f z (b ∷ t) zero h = or-left (f b) (any f t) h
 held f z (b ∷ t) (suc i) h = or-right (f b) (any f t) (held f z t i h)
 
-lent-depth : (tables : List (List ℕ)) (t : List ℕ) (i k : ℕ) → t ∈ tables → getD t i 0 ≡ 2 + k → T (holdsDepth tables k)
+pub lent-depth : (tables : List (List ℕ)) (t : List ℕ) (i k : ℕ) → t ∈ tables → getD t i 0 ≡ 2 + k → T (holdsDepth tables k)
 unfolding holdsDepth
 lent-depth tables t i k m e =
     any-in (λ u. any (λ b. leb (2 + k) b) u) m
@@ -123,9 +124,9 @@ lent-one j l kind = go (eqb kind j)
     go false = List·Memᴰ·tail (List·Memᴰ·head refl)
 
 -- a position that is read elsewhere has a depth that a lent table holds
-pub lent-held : (m : Material) (l : Lent) → T (lentAccepted m l) → (b : Board) → Within m b → full m (b .men) ≡ false
+pub lent-held : (m : Material) → T (known m) → (l : Lent) → T (lentAccepted m l) → (b : Board) → Within m b → full m (b .men) ≡ false
     → (k : ℕ) → DepthIs chess k b → T (holdsDepth (borrowed m l) k)
-lent-held m l ok b d e n h = go m ok d (fewer-of m b d e)
+lent-held m w l ok b d e n h = go m w ok d (fewer-of m b d e)
   where
     read : (t : List ℕ) → byteOf t b ≡ 2 + n → (i : ℕ) × (getD t i 0 ≡ 2 + n)
     read t f = unfold byteOf in by (empty (b .men)) f
@@ -134,9 +135,10 @@ lent-held m l ok b d e n h = go m ok d (fewer-of m b d e)
         by true f = absurd (omega arith)
         by false f = (numberOf b, f)
 
-    go : (m : Material) → T (lentAccepted m l) → Within m b → Fewer m b → T (holdsDepth (borrowed m l) n)
-    go (Material.One kind) ok d f = absurd (draw-is chess b .0 (bare-drawn b (d .legality) f) n h)
-    go (Material.Two j k r) ok d f =
+    go : (m : Material) → T (known m) → T (lentAccepted m l) → Within m b → Fewer m b → T (holdsDepth (borrowed m l) n)
+    go Material.Pawn w ok d f = absurd w
+    go (Material.One kind) w ok d f = absurd (draw-is chess b .0 (bare-drawn b (d .legality) f) n h)
+    go (Material.Two j k r) w ok d f =
         let x = lower-of j k r l b d f in
         let t = lentFor j l (x .0) in
         let v = read t (sym (lower-byte j k r l (x .0) b (x .1 .below))

@@ -5,18 +5,22 @@ use mathlib.Core.Logic.{_⊎_, inl, inr}
 use mathlib.Core.List.{List, [], _∷_, flatMap}
 use Prim.Native.Nat.{ℕ, _*_, _≤_, _<_, min, max}
 use native.Mathlib.Omega.{arith}
-use lib.Dec.{T, eqb, leb, ltb, leb→le}
+use lib.Dec.{T, eqb, leb, ltb, leb→le, ltb→lt}
 use lib.ListN.{length}
+use borrow.Author.Tests.{eq-eqb}
 use Rattle.finite.specs.Truth.{and-left, le-or-lt}
 use Rattle.finite.specs.Filter.{filter}
 use Rattle.rules.specs.declared.Piece.{Piece}
-use Rattle.rules.specs.Rules.{pieceOf}
+use Rattle.rules.specs.Rules.{Board, pieceOf}
 use Rattle.rules.specs.Reordered.{Few}
 use Rattle.numbering.specs.Keys.{spread}
 use Rattle.numbering.specs.Men.{materialOf}
 use Rattle.numbering.specs.declared.Material.{Material}
-use Rattle.numbering.specs.Material.{known, menOf, materialIn, sizeOf}
+use Rattle.numbering.specs.Material.{known, given, oneOf, menOf, OfMaterial, materialIn, sizeOf}
+use Rattle.numbering.specs.laws.MaterialLaws.{one-piece}
+use Rattle.endings.specs.Ending.{Lone}
 use Rattle.four_men.specs.Reading.{full}
+use Rattle.four_men.specs.Same.{Manned}
 
 -- ---- twenty of two men
 
@@ -32,10 +36,11 @@ twenty = refl
 
 -- ---- numbers: (2 sides x 462 pairs) x 64 for each man
 
-pub size-is : (m : Material) → 924 * spread (menOf m) ≡ sizeOf m
+pub size-is : (m : Material) → T (known m) → 924 * spread (menOf m) ≡ sizeOf m
 unfolding spread
-size-is (Material.One kind) = refl
-size-is (Material.Two first second rivals) = refl
+size-is (Material.One kind) t = refl
+size-is (Material.Two first second rivals) t = refl
+size-is Material.Pawn t = absurd t
 
 -- ---- the men of a board of the material
 
@@ -60,6 +65,10 @@ one-of kind (a ∷ []) e =
     let u : pieceOf (a .kind) 0 0 ≡ pieceOf kind 0 0 = cc in (a, refl, ap (λ (m : Piece). m .kind) u)
 one-of kind (a ∷ c ∷ []) e = let z : _≡_ {A = ℕ} 0 1 = cc in absurd (omega arith)
 one-of kind (a ∷ c ∷ d ∷ l) e = let z : _≡_ {A = ℕ} 0 1 = cc in absurd (omega arith)
+
+pub lone-material : (kind : ℕ) (b : Board) → Lone kind b → OfMaterial (Material.One kind) b
+unfolding materialOf
+lone-material kind b w = ap materialOf (w .1 .1)
 
 -- Two men are of a material exactly where their kinds are its kinds, in either order, and they are of one side or of
 -- two as it says, whichever side: "P9's exchange serves the rest, two black men too".
@@ -116,11 +125,13 @@ own-material (Material.Two j k r) t =
     side : (r : Bool) → not (eqb 0 (cond r 1 0)) ≡ r
     side true = refl
     side false = refl
+own-material Material.Pawn t = refl
 
-pub material-in : (m : Material) (l : List Piece) → materialOf l ≡ menOf m → materialIn l ≡ m
-material-in (Material.One kind) l e =
-    let w = one-of kind l e in ap materialIn (w .1) ∙ ap Material.One (w .2)
-material-in (Material.Two j k r) l e =
+pub material-in : (m : Material) → T (given m) → (l : List Piece) → materialOf l ≡ menOf m → materialIn l ≡ m
+material-in (Material.One kind) t l e =
+    let w = one-of kind l e in ap materialIn (w .1) ∙ ap oneOf (w .2) ∙ one-piece kind (ltb→lt kind 4 t)
+material-in Material.Pawn t l e = let w = one-of 4 l e in ap materialIn (w .1) ∙ ap oneOf (w .2)
+material-in (Material.Two j k r) t l e =
     let w = two-of j k r l e in
     ap materialIn (w .2)
     ∙ ap₂ (λ (x y : ℕ). Material.Two x y (not (eqb (w .0 .colour) (w .1 .colour)))) (w .3 .least) (w .3 .greatest)
@@ -128,11 +139,21 @@ material-in (Material.Two j k r) l e =
 
 pub few-of : (m : Material) (l : List Piece) → materialOf l ≡ menOf m → Few l
 few-of (Material.One kind) l e = let w = one-of kind l e in subst⁻¹ Few (w .1) tt
+few-of Material.Pawn l e = let w = one-of 4 l e in subst⁻¹ Few (w .1) tt
 few-of (Material.Two j k r) l e = let w = two-of j k r l e in subst⁻¹ Few (w .2) tt
+
+-- there is one
+pub manned-of : (m : Material) (l : List Piece) → materialOf l ≡ menOf m → Manned l
+manned-of (Material.One kind) l e = let w = one-of kind l e in subst⁻¹ Manned (w .1) tt
+manned-of (Material.Two j k r) l e = let w = two-of j k r l e in subst⁻¹ Manned (w .2) tt
+manned-of Material.Pawn l e = let w = one-of 4 l e in subst⁻¹ Manned (w .1) tt
 
 -- none of them has been taken
 pub full-of : (m : Material) (l : List Piece) → materialOf l ≡ menOf m → T (full m l)
 full-of (Material.One kind) l e =
     let w = one-of kind l e in subst⁻¹ (λ (k : List Piece). T (full (Material.One kind) k)) (w .1) tt
+full-of Material.Pawn l e =
+    let w = one-of 4 l e in
+    subst⁻¹ (λ (k : List Piece). T (full Material.Pawn k)) (w .1) (subst⁻¹ T (eq-eqb (w .0 .kind) 4 (w .2)) tt)
 full-of (Material.Two j k r) l e =
     let w = two-of j k r l e in subst⁻¹ (λ (k′ : List Piece). T (full (Material.Two j k r) k′)) (w .2) tt

@@ -21,6 +21,8 @@ use Rattle.numbering.specs.Number.{normalBy, normalised}
 use Rattle.numbering.specs.Fits.{twoFit, mirror}
 use Rattle.numbering.specs.declared.Material.{Material}
 use Rattle.numbering.specs.Material.{known, menOf, OfMaterial, materialIn}
+use Rattle.numbering.specs.laws.MaterialLaws.{known-given}
+use Rattle.index.specs.Endings.{normalIn, mapIn}
 use Rattle.numbering.specs.laws.ChangeLaws.{HasNumber, has-changed}
 use Rattle.numbering.specs.laws.FitLaws.{same-normal, turn-plain, turn-mirrored}
 use Rattle.position.specs.declared.Position.{Position}
@@ -28,7 +30,7 @@ use Rattle.position.specs.Keyed.{boardOf}
 use Rattle.position.specs.Refusals.{standingWith}
 use Rattle.answers.specs.declared.BestMove.{BestMove}
 use Rattle.answers.specs.declared.Answer.{Answer}
-use Rattle.endings.specs.Answers.{adviceOf, answerOf, mappedAdvice, mappedAnswer, chosen}
+use Rattle.endings.specs.Answers.{adviceOf, answerOf, mappedAdvice, mappedAnswer, chosenBy, chosen}
 use Rattle.endings.specs.laws.MoveTurned.{advice-by, advice-by-three, MovesOnly, mapped-only, twice-only}
 use Rattle.four_men.specs.Lending.{Lent}
 use Rattle.four_men.specs.Reading.{numbered}
@@ -39,7 +41,8 @@ use Rattle.four_men.specs.laws.Materials.{material-in, few-of}
 use Rattle.four_men.specs.laws.Same.{changed-same}
 use Rattle.four_men.specs.laws.Numbered.{legal-number}
 use Rattle.four_men.specs.laws.Turned.{known-of, reads-turned, required-turned-with}
-use Rattle.four_men.specs.laws.Standing.{standing-with-facts}
+use Rattle.four_men.specs.laws.Pieces.{chosen-is}
+use Rattle.four_men.specs.laws.Standing.{standing-pieces}
 use Rattle.four_men.specs.laws.TurnedStanding.{turned-board, standing-turned}
 
 -- ---- the chosen move
@@ -50,14 +53,14 @@ module _ (bytes : Board → ℕ) (s : Change) {material : List Piece} (b : Board
 
   -- both boards have one normal board, and so one move there
   there : chosen bytes c ≡ mappedAdvice (inverse (normalBy c)) (adviceOf (firstSuited chess bytes (normalised b)))
-  unfolding chosen
+  unfolding chosenBy
   there =
       ap (λ (n : Board). mappedAdvice (inverse (normalBy c)) (adviceOf (firstSuited chess bytes n)))
       (same-normal b has s)
 
   chosen-plain : (T (twoFit b) → s .symmetry .swap ≡ false)
       → chosen bytes c ≡ mappedAdvice (s .symmetry) (chosen bytes b)
-  unfolding chosen
+  unfolding chosenBy
   chosen-plain h =
       there
       ∙ advice-by (inverse (normalBy c)) (s .symmetry) (inverse (normalBy b))
@@ -66,7 +69,7 @@ module _ (bytes : Board → ℕ) (s : Change) {material : List Piece} (b : Board
 
   chosen-mirrored : T (twoFit b) → s .symmetry .swap ≡ true
       → chosen bytes c ≡ mappedAdvice (s .symmetry) (mappedAdvice (mirror b) (chosen bytes b))
-  unfolding chosen mirror
+  unfolding chosenBy mirror
   chosen-mirrored w h =
       there
       ∙ advice-by-three (inverse (normalBy c)) (s .symmetry) (mirror b) (inverse (normalBy b))
@@ -85,7 +88,7 @@ module _ (l : Lent) (t : List ℕ) where
   answered m b =
       cond (not (lengthsFit m l t)) (Answer.Refused 7)
       (cond (not (eqb (bytesFor m b) (requiredAt chess (bytesFor m) b))) (Answer.Refused 11)
-      (answerOf (bytesFor m b) (chosen (bytesFor m) b)))
+      (answerOf (bytesFor m b) (chosenBy (mapIn m) (normalIn m) (bytesFor m) b)))
 
   looked : (p : Position) → lookUpWith l t p
       ≡ cond (not (eqb (standingWith p) 0)) (Answer.Refused (standingWith p))
@@ -93,7 +96,8 @@ module _ (l : Lent) (t : List ℕ) where
   unfolding lookUpWith
   looked p = refl
 
-  module _ (f : Answer → Answer) (g : BestMove → BestMove) (only : MovesOnly f g) (s : Change) (p : Position) where
+  module _ (f : Answer → Answer) (g : BestMove → BestMove) (only : MovesOnly f g) (s : Change) (p : Position)
+      (pieces : materialIn (boardOf p .men) ≡ Material.Pawn → ⊥) where
     abbrev b : Board
     b = boardOf p
 
@@ -104,22 +108,24 @@ module _ (l : Lent) (t : List ℕ) where
     module _ (z : standingWith p ≡ 0)
         (h : chosen (bytesFor m) (changedBy s b) ≡ g (chosen (bytesFor m) b)) where
       few : LegalFew b
-      few = let w = standing-with-facts p z in record { legality = w .0; few = few-of m (b .men) (w .1) }
+      few = let w = standing-pieces p z pieces in record { legality = w .0; few = few-of m (b .men) (w .1) }
 
       is-known : T (known m)
-      is-known = let w = standing-with-facts p z in known-of m b (w .0) (w .1)
+      is-known = let w = standing-pieces p z pieces in known-of m b (w .0) (w .1)
 
       same : Same b (changedBy s b)
       same = changed-same s b few
 
       of-turned : OfMaterial m (changedBy s b)
-      of-turned = let w = standing-with-facts p z in has-changed s b (legal-number b (w .0) (w .1)) .men
+      of-turned = let w = standing-pieces p z pieces in has-changed s b (legal-number b (w .0) (w .1)) .men
 
       answered-turned : answered m (changedBy s b) ≡ f (answered m b)
       answered-turned =
           rw (
             sym (reads-turned m is-known l t b (changedBy s b) same),
             sym (required-turned-with m is-known l t b (changedBy s b) same),
+            chosen-is m is-known (bytesFor m) (changedBy s b),
+            chosen-is m is-known (bytesFor m) b,
             h,
           )
           (go (lengthsFit m l t) (eqb (bytesFor m b) (requiredAt chess (bytesFor m) b)))
@@ -136,7 +142,7 @@ module _ (l : Lent) (t : List ℕ) where
         → lookUpWith l t (turnedPosition s p) ≡ f (lookUpWith l t p)
     answer-turned h =
         looked (turnedPosition s p)
-        ∙ rw (standing-turned s p, turned-board s p) (go (eqb (standingWith p) 0) refl)
+        ∙ rw (standing-turned s p pieces, turned-board s p) (go (eqb (standingWith p) 0) refl)
         ∙ ap f (sym (looked p))
       where
         go : (x : Bool) → eqb (standingWith p) 0 ≡ x
@@ -147,18 +153,20 @@ module _ (l : Lent) (t : List ℕ) where
         go true e =
             let z = eqb-true (standingWith p) 0 e in
             ap (λ (k : Material). answered k (changedBy s b))
-            (material-in m (changedBy s b .men) (of-turned z (h z)))
+            (material-in m (known-given m (is-known z (h z))) (changedBy s b .men) (of-turned z (h z)))
             ∙ answered-turned z (h z)
 
-  pub move-turned-with : (s : Change) (p : Position) → MoveTurnedWith l t s p
-  move-turned-with s p = record {
-    plain = λ h. answer-turned (mappedAnswer (s .symmetry)) (mappedAdvice (s .symmetry)) (mapped-only (s .symmetry)) s p
+  -- of endings of pieces; a pawn's position is turned by its own changes
+  pub move-turned-with : (s : Change) (p : Position) → (materialIn (boardOf p .men) ≡ Material.Pawn → ⊥)
+      → MoveTurnedWith l t s p
+  move-turned-with s p pieces = record {
+    plain = λ h. answer-turned (mappedAnswer (s .symmetry)) (mappedAdvice (s .symmetry)) (mapped-only (s .symmetry)) s p pieces
         (λ z. chosen-plain (bytesFor (materialIn (boardOf p .men))) s (boardOf p) (has z) h);
     mirrored = λ w h. answer-turned (λ a. mappedAnswer (s .symmetry) (mappedAnswer (mirror (boardOf p)) a))
         (λ a. mappedAdvice (s .symmetry) (mappedAdvice (mirror (boardOf p)) a))
-        (twice-only (s .symmetry) (mirror (boardOf p))) s p
+        (twice-only (s .symmetry) (mirror (boardOf p))) s p pieces
         (λ z. chosen-mirrored (bytesFor (materialIn (boardOf p .men))) s (boardOf p) (has z) w h);
   }
     where
       has : standingWith p ≡ 0 → HasNumber (menOf (materialIn (boardOf p .men))) (boardOf p)
-      has z = let w = standing-with-facts p z in legal-number (boardOf p) (w .0) (w .1)
+      has z = let w = standing-pieces p z pieces in legal-number (boardOf p) (w .0) (w .1)

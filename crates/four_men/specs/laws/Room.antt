@@ -17,6 +17,9 @@ pub moves-room : (m : Material) (b : Board) → OfMaterial m b → length (allMo
 moves-room (Material.One kind) b e =
     let w = one-of kind (b .men) e in
     let h = moves-most b in let n : length (b .men) ≡ 1 = ap (λ (l : List Piece). length l) (w .1) in omega arith
+moves-room Material.Pawn b e =
+    let w = one-of 4 (b .men) e in
+    let h = moves-most b in let n : length (b .men) ≡ 1 = ap (λ (l : List Piece). length l) (w .1) in omega arith
 moves-room (Material.Two j k r) b e =
     let w = two-of j k r (b .men) e in
     let h = moves-most b in let n : length (b .men) ≡ 2 = ap (λ (l : List Piece). length l) (w .2) in omega arith

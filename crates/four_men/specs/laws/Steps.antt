@@ -17,25 +17,25 @@ use Rattle.table_theory.specs.Steps.{Said, settled, ends, Stepped, started, las
 use Rattle.table_theory.specs.laws.StepLaws.{step-done, step-more, step-skip, step-deep, from-going, from-length}
 use Rattle.table_theory.specs.laws.StepsTrue as runs
 use Rattle.rules.specs.Chess.{chess}
-use Rattle.numbering.specs.Keys.{boardAt}
 use Rattle.answers.specs.declared.Filled.{Filled}
 use Rattle.endings.specs.Answers.{resultOf, Fill}
 use Rattle.numbering.specs.declared.Material.{Material}
-use Rattle.numbering.specs.Material.{known, menOf, sizeOf}
+use Rattle.numbering.specs.Material.{given, sizeOf}
+use Rattle.index.specs.Endings.{boardFor}
 use Rattle.four_men.specs.Lending.{Lent, borrowed}
 use Rattle.four_men.specs.Reading.{legalNumberOf, numbered, holdsDepth}
 use Rattle.four_men.specs.Answers.{lengthsFit, lentAccepted, fillWith}
 use Rattle.four_men.specs.Steps.{Call, startWith, stepWith, stepsWith}
 use Rattle.four_men.specs.Truth.{LentBytes}
-use Rattle.four_men.specs.laws.Numbered.{lawfulWith}
-use Rattle.four_men.specs.laws.Lent.{outer-true-with, lent-held, bytes-end}
+use Rattle.four_men.specs.laws.Given.{lawfulFor, outer-true-for, lent-held-for}
+use Rattle.four_men.specs.laws.Lent.{bytes-end}
 use Rattle.four_men.specs.laws.Checking.{long-of}
 use Rattle.four_men.specs.laws.Filling.{fill-with-is, sized}
 
-module _ (m : Material) (l : Lent) (t : List ℕ) (p : Progress) (w : T (known m)) (long : T (lengthsFit m l t)) where
+module _ (m : Material) (l : Lent) (t : List ℕ) (p : Progress) (w : T (given m)) (long : T (lengthsFit m l t)) where
   pub step-with-is : stepWith m l t p ≡ Call.made (stepFrom chess (numbered m l) (holdsDepth (borrowed m l)) p t)
   unfolding stepWith
-  step-with-is = rw (true-of {b = known m} w, true-of {b = lengthsFit m l t} long)
+  step-with-is = rw (true-of {b = given m} w, true-of {b = lengthsFit m l t} long)
 
 -- ---- on any bytes
 
@@ -89,13 +89,14 @@ module _ (m : Material) (l : Lent) (t : List ℕ) (p : Progress) (on : p .stage 
 
 -- ---- from a start
 
-module _ (m : Material) (l : Lent) (t : List ℕ) (w : T (known m)) (long : T (lengthsFit m l t)) where
+module _ (m : Material) (l : Lent) (t : List ℕ) (w : T (given m)) (long : T (lengthsFit m l t)) where
   abbrev pub ran : ℕ → Stepped
   ran n = steps chess (numbered m l) (holdsDepth (borrowed m l)) n (started chess (numbered m l) t)
 
   fits : (m : Material) (u : List ℕ) → length u ≡ length t → T (lengthsFit m l t) → T (lengthsFit m l u)
   fits (Material.One kind) u e h = rw e h
   fits (Material.Two first second rivals) u e h = rw e h
+  fits Material.Pawn u e h = rw e h
 
   steps-with-is : (n : ℕ) (s : Stepped) → length (s .bytes) ≡ length t
       → stepsWith m l n (Call.made s) ≡ Call.made (steps chess (numbered m l) (holdsDepth (borrowed m l)) n s)
@@ -108,7 +109,7 @@ module _ (m : Material) (l : Lent) (t : List ℕ) (w : T (known m)) (long : T (l
 
   start-with-is : startWith m t ≡ Call.made (started chess (numbered m l) t)
   unfolding startWith started numbered
-  start-with-is = rw (true-of {b = known m} w, eq-eqb (length t) (sizeOf m) (long-of m l t long))
+  start-with-is = rw (true-of {b = given m} w, eq-eqb (length t) (sizeOf m) (long-of m l t long))
 
   start-long : length (started chess (numbered m l) t .bytes) ≡ length t
   unfolding started
@@ -122,19 +123,19 @@ module _ (m : Material) (l : Lent) (t : List ℕ) (w : T (known m)) (long : T (l
     -- A RUN THAT SAYS DONE LEAVES WHAT THE SINGLE FILL LEAVES, answer and every byte; so does one that gives 10.
     pub steps-fill-with : (n : ℕ) (r : Result) → ran n .said ≡ ends r
         → (resultOf r ≡ fillWith m l t .answer) × (ran n .bytes ≡ fillWith m l t .bytes)
-    unfolding numbered lawfulWith
+    unfolding numbered lawfulFor
     steps-fill-with n r e =
         let f = fill-with-is m l t w long ok in
-        let v = runs.steps-fill chess (numbered m l) (lawfulWith m w l) (holdsDepth (borrowed m l))
-        (outer-true-with m w l ok) (lent-held m l ok) (bytes-end m l small) t (sized m l t w long ok) n r e in
+        let v = runs.steps-fill chess (numbered m l) (lawfulFor m w l) (holdsDepth (borrowed m l))
+        (outer-true-for m w l ok) (lent-held-for m w l ok) (bytes-end m l small) t (sized m l t w long ok) n r e in
         (ap resultOf (v .0) ∙ sym (ap (λ (o : Fill). o .answer) f), v .1 ∙ sym (ap (λ (o : Fill). o .bytes) f))
 
     -- 255 steps have ended.
     pub steps-end-with : (n k : ℕ) → 254 < n → ran n .said ≡ settled k → ⊥
-    unfolding numbered lawfulWith
+    unfolding numbered lawfulFor
     steps-end-with n k h e =
-        runs.steps-end chess (numbered m l) (lawfulWith m w l) (holdsDepth (borrowed m l)) (outer-true-with m w l ok)
-        (lent-held m l ok) (bytes-end m l small) t (sized m l t w long ok) n k h e
+        runs.steps-end chess (numbered m l) (lawfulFor m w l) (holdsDepth (borrowed m l)) (outer-true-for m w l ok)
+        (lent-held-for m w l ok) (bytes-end m l small) t (sized m l t w long ok) n k h e
 
     -- THE SINGLE FILL GIVES 10 EXACTLY WHERE A RUN DOES.
     pub steps-ten-with : (fillWith m l t .answer ≡ Filled.Refused 10) ↔ ((n : ℕ) × (ran n .said ≡ ends tooDeep))
@@ -156,22 +157,22 @@ module _ (m : Material) (l : Lent) (t : List ℕ) (w : T (known m)) (long : T (l
     -- STEPS PAST THE END CHANGE NOTHING.
     pub steps-past-with : (n : ℕ) (r : Result) → ran n .said ≡ ends r → (k : ℕ)
         → steps chess (numbered m l) (holdsDepth (borrowed m l)) k (ran n) ≡ ran n
-    unfolding numbered lawfulWith
+    unfolding numbered lawfulFor
     steps-past-with n r e k =
-        runs.steps-past chess (numbered m l) (lawfulWith m w l) (holdsDepth (borrowed m l)) (outer-true-with m w l ok)
-        (lent-held m l ok) (bytes-end m l small) t (sized m l t w long ok) n r e k
+        runs.steps-past chess (numbered m l) (lawfulFor m w l) (holdsDepth (borrowed m l)) (outer-true-for m w l ok)
+        (lent-held-for m w l ok) (bytes-end m l small) t (sized m l t w long ok) n r e k
 
     module _ (n : ℕ) (no-ten : ran n .said ≡ ends tooDeep → ⊥) (i : ℕ) (h : i < sizeOf m) where
       -- AFTER n STEPS A LEGAL NUMBER HOLDS ITS TRUE BYTE WHERE THE DEPTH IS LESS THAN n, and 1 elsewhere.
-      pub steps-true-with : T (legalNumberOf m i) → Settled chess n (boardAt (menOf m) i) (getD (ran n .bytes) i 0)
-      unfolding numbered lawfulWith
+      pub steps-true-with : T (legalNumberOf m i) → Settled chess n (boardFor m i) (getD (ran n .bytes) i 0)
+      unfolding numbered lawfulFor
       steps-true-with v =
-          runs.steps-true chess (numbered m l) (lawfulWith m w l) (holdsDepth (borrowed m l))
-          (outer-true-with m w l ok) (lent-held m l ok) (bytes-end m l small) t (sized m l t w long ok) n no-ten i h v
+          runs.steps-true chess (numbered m l) (lawfulFor m w l) (holdsDepth (borrowed m l))
+          (outer-true-for m w l ok) (lent-held-for m w l ok) (bytes-end m l small) t (sized m l t w long ok) n no-ten i h v
 
       -- Every other number holds 0.
       pub steps-zero-with : legalNumberOf m i ≡ false → getD (ran n .bytes) i 0 ≡ 0
-      unfolding numbered lawfulWith
+      unfolding numbered lawfulFor
       steps-zero-with v =
-          runs.steps-zero chess (numbered m l) (lawfulWith m w l) (holdsDepth (borrowed m l))
-          (outer-true-with m w l ok) (lent-held m l ok) (bytes-end m l small) t (sized m l t w long ok) n no-ten i h v
+          runs.steps-zero chess (numbered m l) (lawfulFor m w l) (holdsDepth (borrowed m l))
+          (outer-true-for m w l ok) (lent-held-for m w l ok) (bytes-end m l small) t (sized m l t w long ok) n no-ten i h v

@@ -49,6 +49,8 @@ known-of m b g e = go m e
     go (Material.One kind) e =
         let w = one-of kind (b .men) e in
         lt→ltb kind 4 (subst (λ (k : ℕ). k < 4) (w .2) (kind-below (w .0) _ (w .1)))
+    go Material.Pawn e =
+        let w = one-of 4 (b .men) e in absurd (omega (arith, w .2, kind-below (w .0) _ (w .1)))
     go (Material.Two j k r) e =
         let w = two-of j k r (b .men) e in
         both (w .0) (w .1) (w .3) (kind-below (w .0) _ (w .2)) (second-below (w .0) (w .1) _ (w .2))

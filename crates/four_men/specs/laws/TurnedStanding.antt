@@ -1,5 +1,5 @@
--- A position turned, its men in either slot and the colours exchanged or not, stands for the board so changed and meets
--- the same refusal from 1 to 6.
+-- A position turned, its men in either slot and the colours exchanged or not, stands for the board so changed and, but
+-- for a pawn, meets the same refusal.
 use mathlib.Core.Path.{_≡_, refl, sym, ap, ap₂, subst⁻¹, _∙_}
 use mathlib.Core.Bool.{Bool, true, false, cond, not, _&&_, _||_}
 use mathlib.Core.List.{_++_}
@@ -18,19 +18,20 @@ use Rattle.rules.specs.Reordered.{crossed, reordered}
 use Rattle.rules.specs.laws.Changed.{ltb-swapped, across, board-eq}
 use Rattle.rules.specs.laws.ChangedRules.{all-map, all-pieces, apart-changed, touching-changed, check-changed, pawnless-fits}
 use Rattle.rules.specs.laws.ReorderedLaws.{all-crossed, apart-crossed, check-reordered}
+use Rattle.numbering.specs.declared.Material.{Material}
+use Rattle.numbering.specs.Material.{materialIn}
 use Rattle.numbering.specs.Men.{exchangeable}
 use Rattle.numbering.specs.Change.{Change, changedBy}
 use Rattle.position.specs.declared.Slot.{Slot}
 use Rattle.position.specs.declared.Slot.the-variants.{Absent, Present}
 use Rattle.position.specs.declared.Position.{Position}
 use Rattle.position.specs.Keyed.{slotMen, boardOf}
-use Rattle.position.specs.Maps.{mappedSlot, mappedPosition, changedPosition}
-use Rattle.position.specs.Owned.{recolouredSlot, recoloured}
-use Rattle.position.specs.Refusals.{badMenOf, badSide, badSquare, sharedSquare, placingWith, standingWith}
+use Rattle.position.specs.Refusals.{badMenOf, badSide, badSquare, badPawn, sharedSquare, placingWith, standingWith}
 use Rattle.position.specs.laws.SlotLaws.{leb-not}
-use Rattle.position.specs.laws.ChangedRefusals.{change-board}
+use Rattle.position.specs.laws.ChangedRefusals.{change-board, changed-men}
+use Rattle.position.specs.laws.Legality.{pawnless-placed}
 use Rattle.four_men.specs.MoveTurned.{firstSlot, secondSlot, inSlots, turnedPosition}
-use Rattle.four_men.specs.laws.Standing.{men-pawnless}
+use Rattle.four_men.specs.laws.Standing.{men-known}
 
 -- ---- the board
 
@@ -53,23 +54,6 @@ turned-board s p =
     change-board (s .symmetry) x (inSlots (s .order) p) ∙ ap (changed (s .symmetry) x) (slots-board (s .order) p)
 
 -- ---- 1: the men
-
-mapped-men : (m : Symmetry) (f s : Slot) → badMenOf (mappedSlot m f) (mappedSlot m s) ≡ badMenOf f s
-mapped-men m Absent s = refl
-mapped-men m (Present a) Absent = refl
-mapped-men m (Present a) (Present c) = refl
-
-recoloured-men : (f s : Slot) → badMenOf (recolouredSlot f) (recolouredSlot s) ≡ badMenOf f s
-recoloured-men Absent s = refl
-recoloured-men (Present a) Absent = refl
-recoloured-men (Present a) (Present c) = refl
-
-changed-men : (m : Symmetry) (x : Bool) (p : Position)
-    → badMenOf (changedPosition m x p .first) (changedPosition m x p .second) ≡ badMenOf (p .first) (p .second)
-unfolding mappedPosition recoloured
-changed-men m true p =
-    mapped-men m (recolouredSlot (p .first)) (recolouredSlot (p .second)) ∙ recoloured-men (p .first) (p .second)
-changed-men m false p = mapped-men m (p .first) (p .second)
 
 crossed-men : (e : Bool) (p : Position)
     → badMenOf (inSlots e p .first) (inSlots e p .second) ≡ badMenOf (p .first) (p .second)
@@ -115,11 +99,11 @@ chain a b c d e = cond a 1 (cond b 2 (cond c 3 (cond d 4 (cond e 5 0))))
 abbrev orSix : Bool → ℕ → ℕ
 orSix x n = cond (eqb n 0) (cond x 6 0) n
 
-standing-by : (p : Position) → standingWith p
+standing-by : (p : Position) → badPawn p ≡ false → standingWith p
     ≡ orSix (checked (boardOf p)) (chain (badMenOf (p .first) (p .second)) (foreign (boardOf p)) (off (boardOf p))
     (shared (boardOf p)) (touching (boardOf p)))
 unfolding standingWith placingWith badSide badSquare sharedSquare boardOf
-standing-by p = refl
+standing-by p e = rw e
 
 module _ (s : Change) (b : Board) where
   abbrev x : Bool
@@ -153,6 +137,14 @@ module _ (s : Change) (b : Board) where
   unfolding changedBy
   touching-turned = touching-changed (s .symmetry) x r ∙ (unfold touching in refl)
 
+  pawnless-turned : T (all (λ a. not (pawn a)) (b .men)) → T (all (λ a. not (pawn a)) (changedBy s b .men))
+  unfolding changedBy changed
+  pawnless-turned k =
+      subst⁻¹ T
+      (all-map (s .symmetry) x (λ a. not (pawn a)) (λ a. not (pawn a)) (λ a. refl) (r .men)
+      ∙ all-crossed (λ a. not (pawn a)) (s .order) (b .men))
+      k
+
   checked-turned : T (all (λ a. not (pawn a)) (b .men)) → b .side < 2 → checked (changedBy s b) ≡ checked b
   unfolding changedBy changed
   checked-turned k h =
@@ -163,12 +155,7 @@ module _ (s : Change) (b : Board) where
       pawnless : T (all (λ a. not (pawn a)) (r .men))
       pawnless = subst⁻¹ T (all-crossed (λ a. not (pawn a)) (s .order) (b .men)) k
 
--- the men are those that 1 takes, where 1 to 5 do not refuse
-men-of : (a b c d e : Bool) → eqb (chain a b c d e) 0 ≡ true → a ≡ false
-men-of true b c d e q = absurd (refuted (sym q) tt)
-men-of false b c d e q = refl
-
--- and the side is one of the two
+-- the side is one of the two, where 1 to 5 do not refuse
 side-of : (a u c d e : Bool) (n : ℕ) → eqb (chain a (leb 2 n || u) c d e) 0 ≡ true → n < 2
 side-of a u c d e n q = go a (leb 2 n) refl q
   where
@@ -177,28 +164,48 @@ side-of a u c d e n q = go a (leb 2 n) refl q
     go false true h q = absurd (refuted (sym q) tt)
     go false false h q = leb-false 2 n h
 
-pub standing-turned : (s : Change) (p : Position) → standingWith (turnedPosition s p) ≡ standingWith p
-standing-turned s p =
-    standing-by (turnedPosition s p)
-    ∙ ap₂ (λ (z : Bool) (c : Board). orSix (checked c) (chain z (foreign c) (off c) (shared c) (touching c)))
-    (turned-men s p) (turned-board s p)
-    ∙ rw (foreign-turned s b, off-turned s b, shared-turned s b, touching-turned s b) six ∙ sym (standing-by p)
+-- none of them is a pawn
+module _ (s : Change) (p : Position) (k : T (all (λ a. not (pawn a)) (boardOf p .men))) where
+  abbrev b : Board
+  b = boardOf p
+
+  abbrev n : ℕ
+  n = chain (badMenOf (p .first) (p .second)) (foreign b) (off b) (shared b) (touching b)
+
+  six : orSix (checked (changedBy s b)) n ≡ orSix (checked b) n
+  six = go (eqb n 0) refl
+    where
+      go : (z : Bool) → eqb n 0 ≡ z
+          → cond z (cond (checked (changedBy s b)) 6 0) n ≡ cond z (cond (checked b) 6 0) n
+      go true q =
+          ap (λ (u : Bool). cond u 6 0)
+          (checked-turned s b k
+          (side-of (badMenOf (p .first) (p .second)) (not (all (λ m. ltb (m .colour) 2) (b .men))) (off b) (shared b)
+          (touching b) (b .side) q))
+      go false q = refl
+
+  none-astray : badPawn (turnedPosition s p) ≡ false
+  none-astray =
+      pawnless-placed (turnedPosition s p)
+      (subst⁻¹ (λ (c : Board). T (all (λ a. not (pawn a)) (c .men))) (turned-board s p) (pawnless-turned s b k))
+
+  pawnless-standing : standingWith (turnedPosition s p) ≡ standingWith p
+  pawnless-standing =
+      standing-by (turnedPosition s p) none-astray
+      ∙ ap₂ (λ (z : Bool) (c : Board). orSix (checked c) (chain z (foreign c) (off c) (shared c) (touching c)))
+      (turned-men s p) (turned-board s p)
+      ∙ rw (foreign-turned s b, off-turned s b, shared-turned s b, touching-turned s b) six
+      ∙ sym (standing-by p (pawnless-placed p k))
+
+standing-bad : (p : Position) → badMenOf (p .first) (p .second) ≡ true → standingWith p ≡ 1
+unfolding standingWith placingWith
+standing-bad p e = rw e
+
+-- with a pawn only some changes keep the refusals (02, P12)
+pub standing-turned : (s : Change) (p : Position) → (materialIn (boardOf p .men) ≡ Material.Pawn → ⊥)
+    → standingWith (turnedPosition s p) ≡ standingWith p
+standing-turned s p n = go (badMenOf (p .first) (p .second)) refl
   where
-    b : Board
-    b = boardOf p
-
-    n : ℕ
-    n = chain (badMenOf (p .first) (p .second)) (foreign b) (off b) (shared b) (touching b)
-
-    six : orSix (checked (changedBy s b)) n ≡ orSix (checked b) n
-    six = go (eqb n 0) refl
-      where
-        go : (z : Bool) → eqb n 0 ≡ z
-            → cond z (cond (checked (changedBy s b)) 6 0) n ≡ cond z (cond (checked b) 6 0) n
-        go true q =
-            ap (λ (u : Bool). cond u 6 0)
-            (checked-turned s b
-            (men-pawnless p (men-of (badMenOf (p .first) (p .second)) (foreign b) (off b) (shared b) (touching b) q))
-            (side-of (badMenOf (p .first) (p .second)) (not (all (λ m. ltb (m .colour) 2) (b .men))) (off b) (shared b)
-            (touching b) (b .side) q))
-        go false q = refl
+    go : (x : Bool) → badMenOf (p .first) (p .second) ≡ x → standingWith (turnedPosition s p) ≡ standingWith p
+    go true e = standing-bad (turnedPosition s p) (turned-men s p ∙ e) ∙ sym (standing-bad p e)
+    go false e = pawnless-standing s p (men-known p e n .1)

@@ -1,20 +1,26 @@
 -- One man is an instance: what is answered for both sizes is what stands for one man.
-use mathlib.Core.Path.{_≡_, refl}
+use mathlib.Core.Path.{_≡_, refl, ap, _∙_}
 use mathlib.Core.Logic.{_⊎_, inl, inr}
 use mathlib.Core.Bool.{Bool, true, false, cond, not}
 use Prim.Native.Nat.{ℕ, _≤_, _<_}
+use native.Mathlib.Omega.{arith}
 use lib.Dec.{leb, ltb}
-use borrow.Author.Tests.{le-leb, lt-leb, le-ltb, lt-ltb}
+use borrow.Author.Tests.{le-leb, lt-leb, leb-false, le-ltb, lt-ltb}
 use Rattle.finite.specs.Truth.{le-or-lt, refuted}
 use Rattle.numbering.specs.declared.Material.{Material}
+use Rattle.numbering.specs.Material.{materialIn}
+use Rattle.numbering.specs.laws.MaterialLaws.{one-piece}
+use Rattle.numbering.specs.Number.{numberOf}
 use Rattle.position.specs.declared.Slot.{Slot}
 use Rattle.position.specs.declared.Slot.the-variants.{Absent, Present}
 use Rattle.position.specs.declared.Position.{Position}
-use Rattle.position.specs.Keyed.{boardOf, keyed}
+use Rattle.position.specs.Keyed.{boardOf, manKind, keyed}
 use Rattle.position.specs.Refusals.{badMen, badMenOf, placingRefusal, placingWith}
-use Rattle.position.specs.laws.PlacedLaws.{placed-facts}
+use Rattle.position.specs.laws.Legality.{man-pawnless, pawnless-placed, one-men}
+use Rattle.position.specs.laws.PlacedLaws.{placed-facts, placed-kind}
 use Rattle.index.specs.declared.Placed.{Placed}
 use Rattle.index.specs.Answers.{positionAt, unused, placedAt, placedWith}
+use Rattle.index.specs.Endings.{numberIn}
 use Rattle.index.specs.laws.AnswerLaws.{board-at, unused-exactly}
 use Rattle.index.specs.laws.CompleteLaws.{facts-placed-with}
 
@@ -29,14 +35,23 @@ placing-with p z =
       side = w .side;
       colours = w .colours;
       squares = w .squares;
+      pawns = pawnless-placed p (man-pawnless p (w .men));
       distinct = w .distinct;
       kings = w .kings;
     })
   where
     men : (f s : Slot) → badMen f s ≡ false → badMenOf f s ≡ false
     men Absent s e = e
-    men (Present m) Absent e = e
+    men (Present m) Absent e = let h = leb-false 4 (m .kind) e in lt-leb 5 (m .kind) (omega arith)
     men (Present m) (Present n) e = absurd (refuted e tt)
+
+-- the number is one man's
+pub number-alone : (p : Position) → placingRefusal p ≡ 0
+    → numberIn (materialIn (boardOf p .men)) (boardOf p) ≡ numberOf (boardOf p)
+number-alone p z =
+    let w = placed-facts p z in
+    ap (λ (m : Material). numberIn m (boardOf p))
+    (ap materialIn (one-men p (w .men)) ∙ one-piece (manKind p) (placed-kind p (w .men)))
 
 -- ---- numbering back
 

@@ -5,7 +5,7 @@ use mathlib.Core.Bool.{Bool, true, false, cond, not, _&&_, _||_}
 use mathlib.Core.List.{[], _∷_}
 use Prim.Native.Nat.{ℕ, zero, suc, _-_, _<_, _≤_}
 use native.Mathlib.Omega.{arith}
-use lib.Dec.{leb, ltb, eqb, le→leb, lt→ltb, ltb→lt}
+use lib.Dec.{T, leb, ltb, eqb, le→leb, lt→ltb, ltb→lt}
 use borrow.Author.Tests.{le-ltb, lt-leb, leb-false, eq-eqb, ne-eqb, eqb-true, eqb-false, ltb-true, ltb-false}
 use Rattle.finite.specs.Truth.{and-left, and-right, and-both, refuted, eqb-sym}
 use Rattle.finite.specs.Members.{all}
@@ -18,7 +18,8 @@ use Rattle.rules.specs.laws.Changed.{board-eq}
 use Rattle.numbering.specs.declared.Material.{Material}
 use Rattle.numbering.specs.KingMaps.{swapping}
 use Rattle.numbering.specs.Men.{exchangeable, crosses, firstBlack}
-use Rattle.numbering.specs.Material.{materialIn}
+use Rattle.numbering.specs.Material.{known, oneOf, materialIn}
+use Rattle.numbering.specs.laws.MaterialLaws.{one-piece, one-known}
 use Rattle.numbering.specs.Change.{changedBy}
 use Rattle.numbering.specs.Number.{arranged}
 use Rattle.numbering.specs.laws.NormalLaws.{stays-diagonal}
@@ -134,7 +135,7 @@ seat-one : (kind colour side white black square : ℕ) → kind < 4 → colour <
     → Seated (record { first = kind; second = 4; colour = colour })
     (record { side = side; white = white; black = black; first = square; second = 64 })
 seat-one kind colour side white black square hk hc hw hb hx = record {
-  ending = lt→ltb kind 4 hk;
+  ending = subst⁻¹ (λ (x : Material). T (known x)) (one-piece kind hk) (lt→ltb kind 4 hk);
   colour = hc;
   white = hw;
   black = hb;
@@ -146,7 +147,7 @@ owned-one : (kind colour side white black square : ℕ) (first second : Slot) �
     → white < 64 → black < 64 → square < 64
     → Owned (changed (swapping false) (eqb colour 1 && true)
     (record { side = side; white = white; black = black; men = pieceOf kind colour square ∷ [] }))
-    (Material.One kind)
+    (oneOf kind)
     (whiteFirst (pieceOf kind colour square) nobody
     (record { side = side; «white_king» = white; «black_king» = black; first = first; second = second }))
 unfolding whiteFirst changed swapped other
@@ -186,7 +187,7 @@ module _ (side white black : ℕ) (hs : side < 2) (hw : white < 64) (hb : black 
   single : (a : Piece) → a .kind < 4 → a .colour < 2 → a .square < 64 → Goal (Present a) Absent
   unfolding arranged crosses crossed firstBlack changedBy exchangeable boardOf
   single a hk hc hx =
-      subst (Owned (arranged (boardOf (keyedWith (Present a) Absent))) (Material.One (a .kind)))
+      subst (Owned (arranged (boardOf (keyedWith (Present a) Absent))) (oneOf (a .kind)))
       (arranged-before (keyedWith (Present a) Absent) a nobody refl refl
       (unfold goesAfter in
       rw (ne-eqb (a .kind) 4 (λ z. absurd (omega (arith, z))), le-ltb 4 (a .kind) (omega arith))))
@@ -271,15 +272,15 @@ module _ (side white black : ℕ) (hs : side < 2) (hw : white < 64) (hb : black 
         go true t = turned t
         go false t = kept t
 
-  arranges : (f s : Slot) → PlacedOf (keyedWith f s) → Goal f s
+  arranges : (f s : Slot) → PlacedOf (keyedWith f s) → T (known (materialIn (boardOf (keyedWith f s) .men))) → Goal f s
   unfolding boardOf all
-  arranges Absent s w = absurd (refuted (w .men) tt)
-  arranges (Present a) Absent w =
+  arranges Absent s w t = absurd (refuted (w .men) tt)
+  arranges (Present a) Absent w t =
       let on = and-right (ltb black 64) (ltb (a .square) 64 && true)
       (and-right (ltb white 64) (ltb black 64 && (ltb (a .square) 64 && true)) (w .squares)) in
-      single a (leb-false 4 (a .kind) (w .men)) (ltb→lt (a .colour) 2 (and-left (ltb (a .colour) 2) true (w .colours)))
+      single a (one-known (a .kind) t) (ltb→lt (a .colour) 2 (and-left (ltb (a .colour) 2) true (w .colours)))
       (ltb→lt (a .square) 64 (and-left (ltb (a .square) 64) true on))
-  arranges (Present a) (Present c) w =
+  arranges (Present a) (Present c) w t =
       let xc = ltb (c .square) 64 && true in
       let on = and-right (ltb black 64) (ltb (a .square) 64 && xc)
       (and-right (ltb white 64) (ltb black 64 && (ltb (a .square) 64 && xc)) (w .squares)) in
@@ -292,9 +293,11 @@ module _ (side white black : ℕ) (hs : side < 2) (hw : white < 64) (hb : black 
       (ltb→lt (a .square) 64 (and-left (ltb (a .square) 64) xc on))
       (ltb→lt (c .square) 64 (and-left (ltb (c .square) 64) true (and-right (ltb (a .square) 64) xc on)))
 
-pub placed-arranges : (p : Position) → placingWith p ≡ 0 → Arranges p (arrangedAs p)
+-- of an ending of pieces
+pub placed-arranges : (p : Position) → T (known (materialIn (boardOf p .men))) → placingWith p ≡ 0
+    → Arranges p (arrangedAs p)
 unfolding boardOf all
-placed-arranges p z =
+placed-arranges p t z =
     let w = placed-facts-with p z in
     let men = all (λ a. ltb (a .square) 64) (boardOf p .men) in
     let white = ltb→lt (p .«white_king») 64
@@ -302,5 +305,5 @@ placed-arranges p z =
     let black = ltb→lt (p .«black_king») 64
     (and-left (ltb (p .«black_king») 64) men
     (and-right (ltb (p .«white_king») 64) (ltb (p .«black_king») 64 && men) (w .squares))) in
-    let r = arranges (p .side) (p .«white_king») (p .«black_king») (w .side) white black (p .first) (p .second) w in
+    let r = arranges (p .side) (p .«white_king») (p .«black_king») (w .side) white black (p .first) (p .second) w t in
     record { seated = r .seated; side = r .side; board = r .board; material = r .material }

@@ -6,15 +6,17 @@ use mathlib.Core.List.{[], _∷_, _++_}
 use Prim.Native.Nat.{ℕ, zero, suc, _<_, _≤_, min, max}
 use native.Mathlib.Omega.{arith}
 use lib.Dec.{T, leb, ltb, eqb, lt→ltb}
-use borrow.Author.Tests.{lt-leb, leb-false}
+use borrow.Author.Tests.{lt-leb, leb-false, ne-eqb}
 use Rattle.finite.specs.Truth.{and-left, and-right, and-both, refuted, of-true}
 use Rattle.finite.specs.Members.{all}
+use Rattle.rules.specs.Pawn.{pawn}
 use Rattle.rules.specs.Rules.{Board, pieceOf, pieces, apart, touching}
 use Rattle.numbering.specs.declared.Material.{Material}
 use Rattle.numbering.specs.Kings.{separate}
 use Rattle.numbering.specs.Keys.{boardAt}
 use Rattle.numbering.specs.Men.{materialOf}
-use Rattle.numbering.specs.Material.{menOf}
+use Rattle.numbering.specs.Material.{oneOf, menOf}
+use Rattle.numbering.specs.laws.MaterialLaws.{one-men}
 use Rattle.numbering.specs.Number.{used}
 use Rattle.numbering.specs.laws.Numberable.{separate-white, separate-black, separate-touching, ruled-separate}
 use Rattle.numbering.specs.laws.ChangeLaws.{HasNumber, coloured, pieces-eq}
@@ -24,50 +26,56 @@ use Rattle.position.specs.declared.Position.{Position}
 use Rattle.position.specs.declared.Men.{Men}
 use Rattle.position.specs.declared.Place.{Place}
 use Rattle.position.specs.Keyed.{slotMen, boardOf}
-use Rattle.position.specs.Refusals.{badMenOf, badSide, badSquare, sharedSquare, kingsTouch, placingWith}
+use Rattle.position.specs.Refusals.{badMenOf, badSide, badSquare, badPawn, sharedSquare, kingsTouch, placingWith}
 use Rattle.position.specs.Posed.{posed, boardIn, materialFor, Complete}
-use Rattle.position.specs.laws.PlacedLaws.{five, five-back, passes, fulfilled, either, neither, kings-separate}
+use Rattle.position.specs.laws.BothSizes.{six, six-back}
+use Rattle.position.specs.laws.Legality.{pawnless-placed}
+use Rattle.position.specs.laws.PlacedLaws.{passes, fulfilled, either, neither, kings-separate}
 use Rattle.index.specs.Seats.{Seated, StandsAt, alone, shares}
 use Rattle.index.specs.laws.NormalKey.{oneBoard, pairBoard}
 use Rattle.index.specs.laws.SeatLaws.{board-one, board-two, known-one, known-two}
 use Rattle.index.specs.laws.PlaceLaws.{material-by, kings-apart as kings-differ, apart-shares}
 
--- ---- a position that meets none of the refusals 1 to 5, with one man or two
+-- ---- a position that meets none of the refusals 1 to 5 and 18, with one man or two
 
 pub record PlacedOf (p : Position) : Type 0 where
   pub men : badMenOf (p .first) (p .second) ≡ false
   pub side : p .side < 2
   pub colours : T (all coloured (boardOf p .men))
   pub squares : T (all (λ m. ltb (m .square) 64) (pieces (boardOf p)))
+  pub pawns : badPawn p ≡ false
   pub distinct : T (apart (pieces (boardOf p)))
   pub kings : touching (boardOf p) ≡ false
 
 pub placed-facts-with : (p : Position) → placingWith p ≡ 0 → PlacedOf p
 unfolding placingWith badSide badSquare sharedSquare
 placed-facts-with p z =
-    let f = five (badMenOf (p .first) (p .second)) (badSide p) (badSquare p) (sharedSquare p) (kingsTouch p) z in
+    let f = six (badMenOf (p .first) (p .second)) (badSide p) (badSquare p) (badPawn p) (sharedSquare p) (kingsTouch p)
+    z in
     record {
       men = f .0;
       side = leb-false 2 (p .side) (either (leb 2 (p .side)) (all coloured (boardOf p .men)) (f .1) .0);
       colours = either (leb 2 (p .side)) (all coloured (boardOf p .men)) (f .1) .1;
       squares = passes (all (λ m. ltb (m .square) 64) (pieces (boardOf p))) (f .2);
-      distinct = passes (apart (pieces (boardOf p))) (f .3);
-      kings = f .4;
+      pawns = f .3;
+      distinct = passes (apart (pieces (boardOf p))) (f .4);
+      kings = f .5;
     }
 
 pub facts-placed-with : (p : Position) → PlacedOf p → placingWith p ≡ 0
 unfolding placingWith badSide badSquare sharedSquare
 facts-placed-with p w =
-    five-back (badMenOf (p .first) (p .second)) (badSide p) (badSquare p) (sharedSquare p) (kingsTouch p) (w .men)
+    six-back (badMenOf (p .first) (p .second)) (badSide p) (badSquare p) (badPawn p) (sharedSquare p) (kingsTouch p)
+    (w .men)
     (neither (leb 2 (p .side)) (all coloured (boardOf p .men)) (lt-leb 2 (p .side) (w .side)) (w .colours))
-    (fulfilled (all (λ m. ltb (m .square) 64) (pieces (boardOf p))) (w .squares))
+    (fulfilled (all (λ m. ltb (m .square) 64) (pieces (boardOf p))) (w .squares)) (w .pawns)
     (fulfilled (apart (pieces (boardOf p))) (w .distinct)) (w .kings)
 
 -- ---- the men of a seated place
 
-one-material : (kind x : ℕ) → materialOf (pieceOf kind 0 x ∷ []) ≡ menOf (Material.One kind)
+one-material : (kind x : ℕ) → materialOf (pieceOf kind 0 x ∷ []) ≡ menOf (oneOf kind)
 unfolding materialOf
-one-material kind x = refl
+one-material kind x = sym (one-men kind)
 
 rival : (d : ℕ) → d < 2 → _≡_ {A = ℕ} (cond (eqb 0 d) 0 1) (cond (eqb d 1) 1 0)
 rival zero h = refl
@@ -143,11 +151,28 @@ module _ (m : Men) (q : Place) (s : Seated m q) where
       go : (e : Bool) → alone q ≡ e
           → badMenOf (Present (pieceOf (m .first) 0 (q .first)))
           (cond e Absent (Present (pieceOf (m .second) (m .colour) (q .second)))) ≡ false
-      go true e = lt-leb 4 (m .first) (known-one m (s .ending) (sym (s .second) ∙ e) .0)
+      go true e =
+          let h = known-one m (s .ending) (sym (s .second) ∙ e) .0 in
+          lt-leb 5 (m .first) (omega (arith, h))
       go false e =
           let k = known-two m (s .ending) (sym (s .second) ∙ e) in
           let h : m .first < 4 = omega (arith, k .0, k .1) in
           rw (lt-leb 4 (m .first) h, lt-leb 4 (m .second) (k .1))
+
+  -- none is a pawn
+  no-pawns : T (all (λ a. not (pawn a)) (boardIn m q .men))
+  unfolding all
+  no-pawns =
+      by-size (λ (b : Board). T (all (λ a. not (pawn a)) (b .men)))
+      (λ e. let h = known-one m (s .ending) e .0 in rw (ne-eqb (m .first) 4 (λ z. absurd (omega (arith, z)))) tt)
+      (λ e.
+      let k = known-two m (s .ending) e in
+      let i : m .first < 4 = omega (arith, k .0, k .1) in
+      let j = k .1 in
+      rw (
+        ne-eqb (m .first) 4 (λ z. absurd (omega (arith, z))),
+        ne-eqb (m .second) 4 (λ z. absurd (omega (arith, z))),
+      ) tt)
 
   -- ---- it is complete where the kings are apart and no two share a square
 
@@ -162,6 +187,7 @@ module _ (m : Men) (q : Place) (s : Seated m q) where
       side = unfold posed in h;
       colours = men-coloured;
       squares = on-board;
+      pawns = pawnless-placed (posed m q) no-pawns;
       distinct = a;
       kings = unfold touching boardOf posed in separate-touching (q .white) (q .black) k;
     });
@@ -228,7 +254,7 @@ module _ (m : Men) (q : Place) (w : Complete m q) where
           (cond e Absent (Present (pieceOf (m .second) (m .colour) (q .second)))) ≡ false
           → materialOf (pieceOf (m .first) 0 (q .first)
           ∷ slotMen (cond e Absent (Present (pieceOf (m .second) (m .colour) (q .second)))))
-          ≡ menOf (cond f (Material.One (m .first)) (Material.Two (m .first) (m .second) (eqb (m .colour) 1)))
+          ≡ menOf (cond f (oneOf (m .first)) (Material.Two (m .first) (m .second) (eqb (m .colour) 1)))
           → e ≡ f
       go true true g z n = refl
       go false false g z n = refl

@@ -1,6 +1,7 @@
 -- The normal place of a placed position, as code finds it, and the map that leads to it.
 use mathlib.Core.Path.{_≡_, refl, ap, ap₂, subst⁻¹, sym, _∙_}
 use mathlib.Core.Bool.{Bool, true, false, cond, _&&_}
+use mathlib.Core.Logic.{inl}
 use Prim.Native.Nat.{ℕ, _/_, _%_, _<_}
 use native.Mathlib.Omega.{arith}
 use lib.Dec.{T, leb, ltb}
@@ -15,6 +16,7 @@ use Rattle.numbering.specs.Keys.{keyOf}
 use Rattle.numbering.specs.Normal.{turn}
 use Rattle.numbering.specs.KingMaps.{kingMap}
 use Rattle.numbering.specs.Men.{materialOf}
+use Rattle.numbering.specs.Material.{known, materialIn}
 use Rattle.numbering.specs.Change.{change, changedBy}
 use Rattle.numbering.specs.Number.{arranged, rulingMap, rulingOrder, normalised, numberOf}
 use Rattle.numbering.specs.laws.ChangeLaws.{HasNumber}
@@ -37,6 +39,7 @@ use Rattle.index.specs.laws.NormalKey.{pair-arranged, pair-swap, one-swa
 use Rattle.index.specs.laws.SeatLaws.{board-one, board-two, known-one, known-two, turned-one, turned-two, normal-place}
 use Rattle.index.specs.laws.CompleteLaws.{PlacedOf, placed-facts-with, seated-complete}
 use Rattle.index.specs.laws.ArrangingLaws.{placed-arranges}
+use Rattle.index.specs.laws.EndingsLaws.{pieces-normal, pieces-map}
 
 -- ---- men in standard order stay as they are
 
@@ -169,15 +172,19 @@ module _ (p : Position) (r : Arranged) (a : Arranges p r) where
     unfolding placeFrom
     side-found = a .side
 
-    normalises : Normalises p (normalAs r)
+    normalises : T (known (materialIn (boardOf p .men))) → Normalises p (normalAs r)
     unfolding normalAs
-    normalises = record {
-      board = board-found;
-      map = map-found m q (a .seated) ∙ ap rulingMap (a .board);
-      complete =
-          seated-complete m normal (seated-from m q (a .seated) (leastAt m q)) side-found kings-found apart-found;
+    normalises t = record {
+      board = board-found
+          ∙ ap (λ (f : Board → Board). f (boardOf p)) (sym (pieces-normal (materialIn (boardOf p .men)) t));
+      map = map-found m q (a .seated) ∙ ap rulingMap (a .board)
+          ∙ ap (λ (f : Board → Symmetry). f (boardOf p)) (sym (pieces-map (materialIn (boardOf p .men)) t));
+      whole = inl
+          (seated-complete m normal (seated-from m q (a .seated) (leastAt m q)) side-found kings-found apart-found);
       material = a .material;
     }
 
-pub normal-found : (p : Position) → placingWith p ≡ 0 → Normalises p (normalAs (arrangedAs p))
-normal-found p z = normalises p (arrangedAs p) (placed-arranges p z) (placed-facts-with p z)
+-- of an ending of pieces
+pub normal-found : (p : Position) → T (known (materialIn (boardOf p .men))) → placingWith p ≡ 0
+    → Normalises p (normalAs (arrangedAs p))
+normal-found p t z = normalises p (arrangedAs p) (placed-arranges p t z) (placed-facts-with p z) t

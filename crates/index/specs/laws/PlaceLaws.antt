@@ -13,7 +13,8 @@ use Rattle.rules.specs.laws.Changed.{board-eq}
 use Rattle.numbering.specs.declared.Material.{Material}
 use Rattle.numbering.specs.Kings.{kingsOf}
 use Rattle.numbering.specs.Keys.{leading, menAt, boardAt}
-use Rattle.numbering.specs.Material.{known, menOf, sizeOf}
+use Rattle.numbering.specs.Material.{known, oneOf, menOf, sizeOf}
+use Rattle.numbering.specs.laws.MaterialLaws.{one-piece, one-known}
 use Rattle.numbering.specs.Number.{numberOf, used}
 use Rattle.numbering.specs.laws.PairLaws.{kings-of}
 use Rattle.numbering.specs.laws.Numberable.{separate-apart, ruled-separate}
@@ -29,7 +30,7 @@ use Rattle.index.specs.laws.SeatLaws.{board-one, board-two}
 -- ---- the place of a number
 
 abbrev materialBy : Bool → Men → Material
-materialBy e m = cond e (Material.One (m .first)) (Material.Two (m .first) (m .second) (eqb (m .colour) 1))
+materialBy e m = cond e (oneOf (m .first)) (Material.Two (m .first) (m .second) (eqb (m .colour) 1))
 
 pub material-by : (m : Men) (e : Bool) → leb 4 (m .second) ≡ e → materialFor m ≡ materialBy e m
 material-by m e h = ap (λ (x : Bool). materialBy x m) h
@@ -41,6 +42,12 @@ colour-is : (c : ℕ) → c < 2 → c ≡ cond (eqb c 1) 1 0
 colour-is zero h = refl
 colour-is (suc zero) h = refl
 colour-is (suc (suc n)) h = absurd (omega arith)
+
+-- one man of a known ending is a piece
+pub piece-by : (m : Men) → T (known (materialFor m)) → leb 4 (m .second) ≡ true → materialFor m ≡ Material.One (m .first)
+piece-by m w e =
+    let t = subst (λ (x : Material). T (known x)) (material-by m true e) w in
+    material-by m true e ∙ one-piece (m .first) (one-known (m .first) t)
 
 module _ (m : Men) (c : m .colour < 2) (n : ℕ) where
   one-board : n < 59136
@@ -69,7 +76,7 @@ module _ (m : Men) (w : T (known (materialFor m))) (c : m .colour < 2) (n : ℕ)
       let e = le-leb 4 (m .second) k in
       let f : n % 64 < 64 = omega arith in
       let kings = kings-of (n / 64 % 462) (omega arith) in
-      let l : n < 59136 = subst (λ (x : Material). n < sizeOf x) (material-by m true e) h in
+      let l : n < 59136 = subst (λ (x : Material). n < sizeOf x) (piece-by m w e) h in
       record {
         seated = record {
           ending = w;
@@ -81,7 +88,7 @@ module _ (m : Men) (w : T (known (materialFor m))) (c : m .colour < 2) (n : ℕ)
         };
         side = omega arith;
         board = board-one m (seatOf (n / 64) (n % 64) 64) f refl ∙ one-board m c n l
-            ∙ ap (λ (x : Material). boardAt (menOf x) n) (sym (material-by m true e));
+            ∙ ap (λ (x : Material). boardAt (menOf x) n) (sym (piece-by m w e));
       }
 
   pub stands-two : m .second < 4 → StandsAt m n (seatOf (n / 64 / 64) (n / 64 % 64) (n % 64))

@@ -18,7 +18,8 @@ use Rattle.numbering.specs.Kings.{pairOf}
 use Rattle.numbering.specs.Normal.{turn}
 use Rattle.numbering.specs.Keys.{keyFrom, keyOf}
 use Rattle.numbering.specs.KingMaps.{swapping}
-use Rattle.numbering.specs.Material.{known}
+use Rattle.numbering.specs.Material.{known, oneOf}
+use Rattle.numbering.specs.laws.MaterialLaws.{one-known}
 use Rattle.numbering.specs.Men.{crosses, firstBlack, exchangeable}
 use Rattle.numbering.specs.Change.{change, changedBy}
 use Rattle.numbering.specs.Number.{arranged, rulingMap, rulingOrder, normalised, numberOf}
@@ -89,15 +90,15 @@ module _ (m : Men) (side n : ℕ) where
 module _ (m : Men) (w : T (known (materialFor m))) where
   pub known-one : leb 4 (m .second) ≡ true → (m .first < 4) × (alike m ≡ false)
   known-one e =
-      let t : T (ltb (m .first) 4) = subst (λ (x : Bool). T (known (cond x (Material.One (m .first))
+      let t : T (known (oneOf (m .first))) = subst (λ (x : Bool). T (known (cond x (oneOf (m .first))
       (Material.Two (m .first) (m .second) (eqb (m .colour) 1))))) e w in
-      let h = ltb→lt (m .first) 4 t in
+      let h = one-known (m .first) t in
       let k = leb-true 4 (m .second) e in
       (h, ap (λ (x : Bool). x && eqb 0 (m .colour)) (ne-eqb (m .first) (m .second) (λ z. absurd (omega (arith, z)))))
 
   pub known-two : leb 4 (m .second) ≡ false → (m .first ≤ m .second) × (m .second < 4)
   known-two e =
-      let t : T (leb (m .first) (m .second) && ltb (m .second) 4) = subst (λ (x : Bool). T (known (cond x (Material.One
+      let t : T (leb (m .first) (m .second) && ltb (m .second) 4) = subst (λ (x : Bool). T (known (cond x (oneOf
       (m .first)) (Material.Two (m .first) (m .second) (eqb (m .colour) 1))))) e w in (
         leb→le (m .first) (m .second) (and-left (leb (m .first) (m .second)) (ltb (m .second) 4) t),
         leb-false 4 (m .second) e,

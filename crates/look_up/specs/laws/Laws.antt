@@ -12,11 +12,9 @@ use Rattle.symmetry.specs.Symmetry.{Symmetry, mapped, inverse}
 use Rattle.rules.specs.declared.Piece.{Piece}
 use Rattle.rules.specs.declared.Move.{Move}
 use Rattle.rules.specs.Rules.{Board, promotionOf}
-use Rattle.rules.specs.laws.ReorderedLaws.{LegalFew}
 use Rattle.rules.specs.Chess.{chess}
-use Rattle.numbering.specs.Number.{normalBy, normalised}
 use Rattle.numbering.specs.declared.Material.{Material}
-use Rattle.numbering.specs.Material.{known, materialIn}
+use Rattle.numbering.specs.Material.{given, legalIn, OfMaterial, materialIn}
 use Rattle.answers.specs.declared.BestMove.{BestMove}
 use Rattle.answers.specs.declared.Answer.{Answer}
 use Rattle.position.specs.declared.Slot.{Slot}
@@ -24,25 +22,26 @@ use Rattle.position.specs.declared.Slot.the-variants.{Absent, Present}
 use Rattle.position.specs.declared.Position.{Position}
 use Rattle.position.specs.declared.Map.{Map}
 use Rattle.position.specs.declared.Men.{Men}
-use Rattle.position.specs.Keyed.{boardOf}
+use Rattle.position.specs.Keyed.{boardOf, manIn, manKind}
 use Rattle.position.specs.Refusals.{badMen, placingRefusal, standingRefusal, placingWith, standingWith}
 use Rattle.position.specs.Maps.{symmetryOf}
-use Rattle.position.specs.Posed.{boardIn, materialFor, Complete}
+use Rattle.position.specs.Posed.{boardIn, materialFor}
 use Rattle.position.specs.laws.BothSizes.{standing-placed-with}
 use Rattle.index.specs.declared.NormalPlace.{NormalPlace}
 use Rattle.index.specs.Arranging.{Normalises}
-use Rattle.endings.specs.Answers.{adviceOf, mappedAdvice, answerOf, chosen, lookUpOf}
+use Rattle.endings.specs.Answers.{adviceOf, mappedAdvice, answerOf, chosenBy, lookUpOf}
 use Rattle.four_men.specs.Lending.{Lent}
 use Rattle.four_men.specs.Reading.{numbered}
-use Rattle.four_men.specs.Same.{Same}
 use Rattle.four_men.specs.Answers.{lengthsFit, lookUpWith}
-use Rattle.four_men.specs.laws.Alone.{look-up-alone}
-use Rattle.four_men.specs.laws.Materials.{few-of}
-use Rattle.four_men.specs.laws.Turned.{known-of, normal-same, reads-turned, required-turned-with}
+use Rattle.four_men.specs.laws.Alone.{pawn-refused, look-up-alone}
+use Rattle.index.specs.Endings.{normalIn, mapIn}
+use Rattle.four_men.specs.laws.Given.{SameFor}
 use Rattle.four_men.specs.laws.Standing.{standing-with-facts}
 use Rattle.successors.specs.declared.Verdict.{Verdict}
 use Rattle.successors.specs.Successors.{suitedFrom, verdictOf}
 use Rattle.successors.specs.laws.VerdictLaws.{told-wrong, told-right}
+use Rattle.deciding.specs.Deciding.{Seated}
+use Rattle.look_up.specs.laws.Normal.{given-of, normal-for, reads-for, required-for, seated-of}
 
 -- a move, its two squares carried back
 pub back-on-the-board : (via : Map) (advice : BestMove) (m v : Move) (from to : ℕ) → advice ≡ BestMove.Play m
@@ -65,11 +64,11 @@ module _ (l : Lent) (t : List ℕ) (p : Position) where
     abbrev b : Board
     b = boardOf p
 
-    abbrev c : Board
-    c = normalised b
-
     abbrev m : Material
     m = materialIn (b .men)
+
+    abbrev c : Board
+    c = normalIn m b
 
     abbrev bytes : Board → ℕ
     bytes = reads chess (numbered m l) t
@@ -80,17 +79,20 @@ module _ (l : Lent) (t : List ℕ) (p : Position) where
     there : Normalises p r
     there = f (standing-placed-with p stands)
 
-    few : LegalFew b
-    few = let w = standing-with-facts p stands in record { legality = w .0; few = few-of m (b .men) (w .1) }
+    facts : T (legalIn m b) × OfMaterial m b
+    facts = standing-with-facts p stands
 
-    is-known : T (known m)
-    is-known = let w = standing-with-facts p stands in known-of m b (w .0) (w .1)
+    is-given : T (given m)
+    is-given = given-of m b (facts .0) (facts .1)
 
-    same : Same b c
-    same = normal-same b few
+    same : SameFor m b c
+    same = normal-for m b (facts .0) (facts .1)
 
     own : bytes b ≡ bytes c
-    own = reads-turned m is-known l t b c same
+    own = reads-for m is-given l t b c same
+
+    seated : Seated (r .men) (r .place)
+    seated = seated-of (r .men) (r .place) (there .whole)
 
     module _ (fit : Bool) (o : fit ≡ lengthsFit (materialFor (r .men)) l t) where
       fits : fit ≡ lengthsFit m l t
@@ -101,12 +103,12 @@ module _ (l : Lent) (t : List ℕ) (p : Position) where
       refused-length h = sym (rw (← e, eq-eqb n 0 z, sym fits ∙ h))
 
       module _ (long : fit ≡ true) (byte : ℕ) (v : Verdict)
-          (g : Complete (r .men) (r .place)
+          (g : Seated (r .men) (r .place)
           → byte ≡ reads chess (numbered (materialFor (r .men)) l) t (boardIn (r .men) (r .place)))
-          (h : Complete (r .men) (r .place)
+          (h : Seated (r .men) (r .place)
           → v ≡ verdictOf (reads chess (numbered (materialFor (r .men)) l) t) byte (boardIn (r .men) (r .place))) where
         at-normal : byte ≡ bytes c
-        at-normal = g (there .complete)
+        at-normal = g seated
             ∙ ap (λ (x : Material). reads chess (numbered x l) t (boardIn (r .men) (r .place))) (there .material)
             ∙ ap bytes (there .board)
 
@@ -114,13 +116,13 @@ module _ (l : Lent) (t : List ℕ) (p : Position) where
         at-number = at-normal ∙ sym own
 
         told : v ≡ verdictOf bytes byte c
-        told = h (there .complete)
+        told = h seated
             ∙ ap (λ (x : Material). verdictOf (reads chess (numbered x l) t) byte (boardIn (r .men) (r .place)))
             (there .material)
             ∙ ap (verdictOf bytes byte) (there .board)
 
         required : requiredAt chess bytes c ≡ requiredAt chess bytes b
-        required = sym (required-turned-with m is-known l t b c same)
+        required = sym (required-for m is-given l t b c same)
 
         pub refused-byte : v ≡ Verdict.Wrong → Answer.Refused 11 ≡ lookUpWith l t p
         unfolding lookUpWith
@@ -137,13 +139,13 @@ module _ (l : Lent) (t : List ℕ) (p : Position) where
         -- the advice carried back by the map
         pub answered : (a d : BestMove) → v ≡ Verdict.Right a → d ≡ mappedAdvice (inverse (symmetryOf (r .via))) a
             → answerOf byte d ≡ lookUpWith l t p
-        unfolding lookUpWith chosen suitedFrom firstSuited
+        unfolding lookUpWith chosenBy suitedFrom firstSuited
         answered a d w u =
             let j = told-right bytes c byte v a told w in
-            let x : d ≡ chosen bytes b =
+            let x : d ≡ chosenBy (mapIn m) (normalIn m) bytes b =
             u ∙ ap (λ (k : Symmetry). mappedAdvice (inverse k) a) (there .map)
-            ∙ ap (mappedAdvice (inverse (normalBy b))) (j .1)
-            ∙ ap (λ (i : ℕ). mappedAdvice (inverse (normalBy b)) (adviceOf (suitedFrom bytes i c))) at-normal in
+            ∙ ap (mappedAdvice (inverse (mapIn m b))) (j .1)
+            ∙ ap (λ (i : ℕ). mappedAdvice (inverse (mapIn m b)) (adviceOf (suitedFrom bytes i c))) at-normal in
             sym (rw (← e, eq-eqb n 0 z, sym fits ∙ long, ← at-number, ← required, j .0, ← x))
 
 -- ---- the parts that keep to three men
@@ -160,6 +162,12 @@ two-refused t p a e = sym (rw (bad (p .first) (p .second) a e))
         go Absent = refl
         go (Present x) = refl
 
-pub one-answered : (l : Lent) (t : List ℕ) (p : Position) (r : Answer) → p .second ≡ Absent → r ≡ lookUpWith l t p
-    → r ≡ lookUpOf t p
-one-answered l t p r e h = h ∙ look-up-alone l t p e
+-- and so is a pawn
+pub pawn-alone-refused : (t : List ℕ) (p : Position) (a : Piece) → a ≡ manIn (p .first) → a .kind ≡ 4
+    → Answer.Refused 1 ≡ lookUpOf t p
+unfolding lookUpOf
+pawn-alone-refused t p a e k = sym (rw (pawn-refused p (ap (λ (x : Piece). x .kind) (sym e) ∙ k)))
+
+pub one-answered : (l : Lent) (t : List ℕ) (p : Position) (a : Piece) (r : Answer) → a ≡ manIn (p .first)
+    → (a .kind ≡ 4 → ⊥) → p .second ≡ Absent → r ≡ lookUpWith l t p → r ≡ lookUpOf t p
+one-answered l t p a r f n e h = h ∙ look-up-alone l t p e (λ k. n (ap (λ (x : Piece). x .kind) f ∙ k))

@@ -22,7 +22,7 @@ use Rattle.answers.specs.declared.Answer.{Answer}
 use Rattle.answers.specs.declared.Checked.{Checked}
 use Rattle.endings.specs.Ending.{tableSize, byteOf}
 use Rattle.endings.specs.laws.IndexLaws.{number-of-ending}
-use Rattle.endings.specs.Truth.{TrueAnswer}
+use Rattle.endings.specs.Truth.{TrueAnswerBy, TrueAnswer}
 use Rattle.endings.specs.Answers.{checkOf, answerOf, chosen, lookUpOf}
 use Rattle.endings.specs.laws.Checking.{keyed-lone, accepts-true-only}
 use Rattle.endings.specs.laws.LookingUp.{look-up-answers, look-up-true}
@@ -97,11 +97,11 @@ module _ (kind : ℕ) (t : List ℕ) (ok : checkOf kind t ≡ Checked.Accepted) 
 -- ---- the true value
 
 value-true : (b : Board) (a : Answer) → TrueAnswer b a → TrueValue b (toldIn a)
-value-true b a (TrueAnswer.won n m w f e) = TrueValue.won n w (ap toldIn e)
-value-true b a (TrueAnswer.lost n m w f e) = TrueValue.lost n w (ap toldIn e)
-value-true b a (TrueAnswer.mate w o e) = TrueValue.lost 0 w (ap toldIn e)
-value-true b a (TrueAnswer.drawn m w f e) = TrueValue.drawn w (ap toldIn e)
-value-true b a (TrueAnswer.stalemate w o e) = TrueValue.drawn w (ap toldIn e)
+value-true b a (TrueAnswerBy.won n m w f e) = TrueValue.won n w (ap toldIn e)
+value-true b a (TrueAnswerBy.lost n m w f e) = TrueValue.lost n w (ap toldIn e)
+value-true b a (TrueAnswerBy.mate w o e) = TrueValue.lost 0 w (ap toldIn e)
+value-true b a (TrueAnswerBy.drawn m w f e) = TrueValue.drawn w (ap toldIn e)
+value-true b a (TrueAnswerBy.stalemate w o e) = TrueValue.drawn w (ap toldIn e)
 
 -- On the packing of an accepted table no legal position of the ending is refused, and the answer is its true value.
 pub pocket-true : (kind : ℕ) (t : List ℕ) → checkOf kind t ≡ Checked.Accepted → (pocket : List ℕ)

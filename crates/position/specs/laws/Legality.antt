@@ -1,14 +1,15 @@
 -- A position as keyed is legal, with men that have a table, exactly where no refusal from 1 to 6 applies.
 use mathlib.Core.Path.{_≡_, refl, sym, ap, _∙_}
 use mathlib.Core.Bool.{Bool, true, false, cond, not, _&&_, _||_}
-use mathlib.Core.List.{[], _∷_, _++_}
+use mathlib.Core.List.{List, [], _∷_, _++_}
 use Prim.Native.Nat.{ℕ, _-_}
 use native.Mathlib.Omega.{arith}
 use lib.Dec.{T, leb, ltb, eqb}
 use borrow.Author.Tests.{lt-ltb, leb-false, eq-eqb, ne-eqb}
-use Rattle.finite.specs.Truth.{and-left, and-right, and-both, true-of, of-true, false-of, refuted}
+use Rattle.finite.specs.Truth.{and-left, and-right, and-both, true-of, of-true, false-of, refuted, implies}
 use Rattle.finite.specs.Members.{all}
-use Rattle.rules.specs.Pawn.{pawn}
+use Rattle.rules.specs.declared.Piece.{Piece}
+use Rattle.rules.specs.Pawn.{pawn, inner}
 use Rattle.rules.specs.Rules.{pieceOf, pieces, known, touching, inCheck, apart, legalOf, legal}
 use Rattle.rules.specs.laws.Legal.{legal-facts}
 use Rattle.position.specs.declared.Slot.{Slot}
@@ -16,7 +17,7 @@ use Rattle.position.specs.declared.Slot.the-variants.{Absent, Present}
 use Rattle.position.specs.declared.Position.{Position}
 use Rattle.position.specs.Keyed.{slotMen, boardOf, oneMan, manIn, manKind, colourOf, manSquare}
 use Rattle.position.specs.laws.SlotLaws.{leb-not}
-use Rattle.position.specs.Refusals.{badMen, badMan, badSide, badSquare, sharedSquare, placingRefusal, standingRefusal}
+use Rattle.position.specs.Refusals.{ranked, badMen, badMan, badSide, badSquare, badPawn, sharedSquare, kingsTouch, laterRefusal, placingRefusal, standingRefusal, orInCheck}
 
 -- ---- men that have a table: one, of either side
 
@@ -54,6 +55,36 @@ pub man-pawnless : (p : Position) → badMan p ≡ false → T (all (λ a. not (
 unfolding boardOf
 man-pawnless p e = slots-pawnless (p .first) (p .second) e
 
+-- so that none stands on rank 1 or 8
+pub pawnless-ranked : (ms : List Piece) → T (all (λ a. not (pawn a)) ms) → T (all ranked ms)
+unfolding all
+pawnless-ranked [] t = tt
+pawnless-ranked (a ∷ ms) t =
+    and-both (ranked a) (all ranked ms)
+    (go (pawn a) (and-left (not (pawn a)) (all (λ c. not (pawn c)) ms) t))
+    (pawnless-ranked ms (and-right (not (pawn a)) (all (λ c. not (pawn c)) ms) t))
+  where
+    go : (x : Bool) → T (not x) → T (implies x (inner (a .square)))
+    go true t = absurd t
+    go false t = tt
+
+pub pawnless-placed : (p : Position) → T (all (λ a. not (pawn a)) (boardOf p .men)) → badPawn p ≡ false
+unfolding badPawn
+pawnless-placed p t = ap not (true-of {b = all ranked (boardOf p .men)} (pawnless-ranked (boardOf p .men) t))
+
+-- 18 is for others
+pub placing-pieces : (p : Position) → placingRefusal p
+    ≡ cond (badMan p) 1
+    (cond (badSide p) 2 (cond (badSquare p) 3 (cond (sharedSquare p) 4 (cond (kingsTouch p) 5 0))))
+unfolding placingRefusal
+placing-pieces p = go (badMan p) refl
+  where
+    go : (x : Bool) → badMan p ≡ x → cond x 1 (laterRefusal p)
+        ≡ cond x 1
+        (cond (badSide p) 2 (cond (badSquare p) 3 (cond (sharedSquare p) 4 (cond (kingsTouch p) 5 0))))
+    go true e = refl
+    go false e = rw (pawnless-placed p (man-pawnless p e))
+
 -- ---- the chain, over the tests: men, side, colours, squares on the board, apart, touching kings, check
 
 unfoldable pub chain : Bool → Bool → Bool → Bool → Bool → Bool → ℕ
@@ -78,9 +109,9 @@ agree false s k h q a t c e = rw (e refl) (rest s h q a t c)
     rest true true true true false false = refl
 
 pub legal-standing : (p : Position) → (not (badMan p) && legal (boardOf p)) ≡ eqb (standingRefusal p) 0
-unfolding legalOf standingRefusal placingRefusal badSide badSquare sharedSquare boardOf chain
+unfolding legalOf standingRefusal badSide badSquare sharedSquare boardOf chain
 legal-standing p =
-    rw (leb-not 2 (p .side))
+    rw (placing-pieces p, leb-not 2 (p .side))
     (agree (badMan p) (ltb (p .side) 2) (all known (boardOf p .men)) (all (λ m. ltb (m .colour) 2) (boardOf p .men))
     (all (λ m. ltb (m .square) 64) (pieces (boardOf p))) (apart (pieces (boardOf p))) (touching (boardOf p))
     (inCheck (boardOf p) (1 - p .side))

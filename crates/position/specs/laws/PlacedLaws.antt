@@ -1,5 +1,5 @@
 -- A position that meets none of the refusals 1 to 5, fact by fact; it stands for a board that has a number.
-use mathlib.Core.Path.{_≡_, refl, ap, subst}
+use mathlib.Core.Path.{_≡_, refl, sym, ap, subst, subst⁻¹, _∙_}
 use mathlib.Core.Bool.{Bool, true, false, cond, not, _&&_, _||_}
 use mathlib.Core.List.{List, [], _∷_}
 use Prim.Native.Nat.{ℕ, _<_, _≤_}
@@ -19,7 +19,7 @@ use Rattle.position.specs.declared.Slot.{Slot}
 use Rattle.position.specs.declared.Slot.the-variants.{Absent, Present}
 use Rattle.position.specs.Keyed.{boardOf, manIn, manKind, colourOf}
 use Rattle.position.specs.Refusals.{badMen, badMan, badSide, badSquare, sharedSquare, kingsTouch, otherInCheck, placingRefusal, standingRefusal}
-use Rattle.position.specs.laws.Legality.{one-alone, one-men}
+use Rattle.position.specs.laws.Legality.{one-alone, one-men, placing-pieces}
 
 pub record WellPlaced (p : Position) : Type 0 where
   pub men : badMan p ≡ false
@@ -62,9 +62,9 @@ pub neither : (a b : Bool) → a ≡ false → T b → (a || not b) ≡ false
 neither a b e t = rw (e, true-of {b = b} t)
 
 pub placed-facts : (p : Position) → placingRefusal p ≡ 0 → WellPlaced p
-unfolding placingRefusal badSide badSquare sharedSquare
+unfolding badSide badSquare sharedSquare
 placed-facts p z =
-    let f = five (badMan p) (badSide p) (badSquare p) (sharedSquare p) (kingsTouch p) z in
+    let f = five (badMan p) (badSide p) (badSquare p) (sharedSquare p) (kingsTouch p) (sym (placing-pieces p) ∙ z) in
     record {
       men = f .0;
       side = leb-false 2 (p .side) (either (leb 2 (p .side)) (all coloured (boardOf p .men)) (f .1) .0);
@@ -75,9 +75,10 @@ placed-facts p z =
     }
 
 pub facts-placed : (p : Position) → WellPlaced p → placingRefusal p ≡ 0
-unfolding placingRefusal badSide badSquare sharedSquare
+unfolding badSide badSquare sharedSquare
 facts-placed p w =
-    five-back (badMan p) (badSide p) (badSquare p) (sharedSquare p) (kingsTouch p) (w .men)
+    placing-pieces p
+    ∙ five-back (badMan p) (badSide p) (badSquare p) (sharedSquare p) (kingsTouch p) (w .men)
     (neither (leb 2 (p .side)) (all coloured (boardOf p .men)) (lt-leb 2 (p .side) (w .side)) (w .colours))
     (fulfilled (all (λ m. ltb (m .square) 64) (pieces (boardOf p))) (w .squares))
     (fulfilled (apart (pieces (boardOf p))) (w .distinct)) (w .kings)
@@ -162,8 +163,9 @@ five-most false false false false true = omega arith
 five-most false false false false false = omega arith
 
 pub placing-most : (p : Position) → placingRefusal p ≤ 5
-unfolding placingRefusal
-placing-most p = five-most (badMan p) (badSide p) (badSquare p) (sharedSquare p) (kingsTouch p)
+placing-most p =
+    subst⁻¹ (λ (n : ℕ). n ≤ 5) (placing-pieces p)
+    (five-most (badMan p) (badSide p) (badSquare p) (sharedSquare p) (kingsTouch p))
 
 pub standing-most : (p : Position) → standingRefusal p ≤ 6
 unfolding standingRefusal

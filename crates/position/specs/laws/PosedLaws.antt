@@ -1,25 +1,32 @@
 -- An ending's men on a place that 1 to 5 do not refuse, byte by byte.
 use mathlib.Core.Path.{_≡_, refl, _∙_}
-use mathlib.Core.Bool.{Bool, true, false, cond, _||_}
+use mathlib.Core.Bool.{Bool, true, false, cond, not, _&&_, _||_}
+use mathlib.Core.List.{_++_}
 use mathlib.Core.Logic.{⊎-elim}
 use Prim.Native.Nat.{ℕ, _≤_, _<_}
 use native.Mathlib.Omega.{arith}
-use lib.Dec.{leb, eqb}
-use borrow.Author.Tests.{leb-true, leb-false, eqb-false}
-use Rattle.finite.specs.Truth.{refuted, le-or-lt}
+use lib.Dec.{T, leb, ltb, eqb, leb→le, ltb→lt}
+use borrow.Author.Tests.{leb-true, leb-false, lt-leb, eqb-false, ne-eqb}
+use Rattle.finite.specs.Truth.{and-left, and-right, and-both, of-true, refuted, le-or-lt}
 use Rattle.finite.specs.Members.{all}
+use Rattle.rules.specs.declared.Piece.{Piece}
+use Rattle.rules.specs.Pawn.{pawn}
 use Rattle.rules.specs.Rules.{pieceOf}
+use Rattle.numbering.specs.declared.Material.{Material}
+use Rattle.numbering.specs.Material.{known, oneOf}
+use Rattle.numbering.specs.laws.MaterialLaws.{one-known}
 use Rattle.numbering.specs.laws.ChangeLaws.{coloured}
 use Rattle.position.specs.declared.Slot.{Slot}
 use Rattle.position.specs.declared.Slot.the-variants.{Absent, Present}
 use Rattle.position.specs.declared.Men.{Men}
 use Rattle.position.specs.declared.Place.{Place}
-use Rattle.position.specs.Keyed.{boardOf}
-use Rattle.position.specs.Refusals.{badMenOf, badSide, badSquare, sharedSquare, kingsTouch, placingWith, slotOff, slotOn, slotsShare}
+use Rattle.position.specs.Keyed.{slotMen, boardOf}
+use Rattle.position.specs.Refusals.{badMenOf, badSide, badSquare, badPawn, sharedSquare, kingsTouch, placingWith, slotOff, slotOn, slotsShare}
 use Rattle.position.specs.Spread.{Spread}
-use Rattle.position.specs.Posed.{slotAt, posed, Complete}
+use Rattle.position.specs.Posed.{slotAt, posed, boardIn, materialFor, Complete}
 use Rattle.position.specs.laws.SlotLaws.{off-by-slots, shared-by-slots}
-use Rattle.position.specs.laws.PlacedLaws.{five, either}
+use Rattle.position.specs.laws.PlacedLaws.{either}
+use Rattle.position.specs.laws.BothSizes.{six}
 
 neither : (a b : Bool) → (a || b) ≡ false → (a ≡ false) × (b ≡ false)
 neither true b e = absurd (refuted e tt)
@@ -39,14 +46,17 @@ no-pawn : (kind square : ℕ) → (square < 64 → leb 4 kind ≡ false) → kin
 no-pawn kind square h e =
     ⊎-elim (λ l. l) (λ l. absurd (omega (arith, leb-false 4 kind (h l)))) (le-or-lt 64 square)
 
-first-kind : (kind colour square : ℕ) (s : Slot) → badMenOf (slotAt kind colour square) s ≡ false → leb 4 kind ≡ false
-first-kind kind colour square s e = go (leb 64 square) s e
+first-kind : (m : Men) → T (known (materialFor m)) → leb 4 (m .first) ≡ false
+first-kind m t = lt-leb 4 (m .first) (go (leb 4 (m .second)) t)
   where
-    go : (x : Bool) (s : Slot) → badMenOf (cond x Absent (Present (pieceOf kind colour square))) s ≡ false
-        → leb 4 kind ≡ false
-    go true s e = absurd (refuted e tt)
-    go false Absent e = e
-    go false (Present n) e = neither (leb 4 kind) (leb 4 (n .kind)) e .0
+    go : (x : Bool)
+        → T (known (cond x (oneOf (m .first)) (Material.Two (m .first) (m .second) (eqb (m .colour) 1))))
+        → m .first < 4
+    go true t = one-known (m .first) t
+    go false t =
+        let j = leb→le (m .first) (m .second) (and-left (leb (m .first) (m .second)) (ltb (m .second) 4) t) in
+        let k = ltb→lt (m .second) 4 (and-right (leb (m .first) (m .second)) (ltb (m .second) 4) t) in
+        omega arith
 
 second-kind : (f : Slot) (kind colour square : ℕ) → badMenOf f (slotAt kind colour square) ≡ false → square < 64
     → leb 4 kind ≡ false
@@ -76,13 +86,13 @@ unshared k c s l h e = go (leb 64 s) refl e
     go true i e = absurd (omega (arith, leb-true 64 s i))
     go false i e = e
 
-pub placed-spread : (m : Men) (q : Place) → placingWith (posed m q) ≡ 0 → Spread m q
+pub placed-spread : (m : Men) (q : Place) → T (known (materialFor m)) → placingWith (posed m q) ≡ 0 → Spread m q
 unfolding placingWith badSide posed boardOf
-placed-spread m q z =
+placed-spread m q known z =
     let p = posed m q in
     let f = slotAt (m .first) 0 (q .first) in
     let s = slotAt (m .second) (m .colour) (q .second) in
-    let t = five (badMenOf f s) (badSide p) (badSquare p) (sharedSquare p) (kingsTouch p) z in
+    let t = six (badMenOf f s) (badSide p) (badSquare p) (badPawn p) (sharedSquare p) (kingsTouch p) z in
     let off = off-by-slots p ∙ t .2 in
     let o = neither (leb 64 (q .white)) (leb 64 (q .black) || (slotOff f || slotOff s)) off in
     let wl = leb-false 64 (q .white) (o .0) in
@@ -92,7 +102,7 @@ placed-spread m q z =
     let ws = slotOn (q .white) s in
     let bf = slotOn (q .black) f in
     let bs = slotOn (q .black) s in
-    let shared = shared-by-slots p ∙ t .3 in
+    let shared = shared-by-slots p ∙ t .4 in
     let x = neither (eqb (q .white) (q .black)) ((wf || ws) || ((bf || bs) || slotsShare f s)) shared in
     let y = neither (wf || ws) ((bf || bs) || slotsShare f s) (x .1) in
     let v = neither wf ws (y .0) in
@@ -110,12 +120,42 @@ placed-spread m q z =
       black-second = elsewhere (q .black) (m .second) (m .colour) (q .second) bl (u .1);
       first-second = elsewhere (q .first) (m .second) (m .colour) (q .second) fl
           (unshared (m .first) 0 (q .first) s fl (n .1));
-      kings = t .4;
+      kings = t .5;
       pawnless = record {
-        first = no-pawn (m .first) (q .first) (λ l. first-kind (m .first) 0 (q .first) s (t .0));
+        first = no-pawn (m .first) (q .first) (λ l. first-kind m known);
         second = no-pawn (m .second) (q .second) (second-kind f (m .second) (m .colour) (q .second) (t .0));
       };
     }
 
 pub complete-spread : {m : Men} {q : Place} → Complete m q → Spread m q
-complete-spread {m} {q} c = placed-spread m q (c .placed)
+complete-spread {m} {q} c = placed-spread m q (c .ending) (c .placed)
+
+-- none of an ending's men is a pawn
+slot-plain : (kind colour square : ℕ) → (kind ≡ 4 → 64 ≤ square)
+    → all (λ a. not (pawn a)) (slotMen (slotAt kind colour square)) ≡ true
+slot-plain kind colour square h = go (leb 64 square) refl
+  where
+    go : (x : Bool) → leb 64 square ≡ x
+        → all (λ a. not (pawn a)) (slotMen (cond x Absent (Present (pieceOf kind colour square)))) ≡ true
+    go true e = unfold all in refl
+    go false e =
+        let l = leb-false 64 square e in
+        unfold all in rw (ne-eqb kind 4 (λ z. let g = h z in absurd (omega (arith, g, l))))
+
+pub complete-pawnless : {m : Men} {q : Place} → Complete m q → T (all (λ a. not (pawn a)) (boardIn m q .men))
+unfolding boardOf posed
+complete-pawnless {m} {q} c =
+    let s = complete-spread c .pawnless in
+    both (slotAt (m .first) 0 (q .first)) (slotAt (m .second) (m .colour) (q .second))
+    (slot-plain (m .first) 0 (q .first) (s .first)) (slot-plain (m .second) (m .colour) (q .second) (s .second))
+  where
+    plain : Piece → Bool
+    plain a = not (pawn a)
+
+    both : (f k : Slot) → all plain (slotMen f) ≡ true → all plain (slotMen k) ≡ true
+        → T (all plain (slotMen f ++ slotMen k))
+    both Absent k e g = of-true g
+    both (Present a) Absent e g = of-true e
+    both (Present a) (Present d) e g =
+        unfold all in and-both (plain a) (plain d && true) (and-left (plain a) true (of-true (unfold all in e)))
+        (of-true (unfold all in g))

@@ -1,19 +1,21 @@
--- Refusals 2 to 4 slot by slot, as code asks them.
-use mathlib.Core.Path.{_≡_, refl}
+-- Refusals 2 to 4 and 18 slot by slot, as code asks them.
+use mathlib.Core.Path.{_≡_, refl, sym, ap, ap₂, _∙_}
 use mathlib.Core.Logic.{⊎-elim}
 use mathlib.Core.Bool.{Bool, true, false, not, _&&_, _||_}
 use mathlib.Core.List.{_∷_, _++_}
 use Prim.Native.Nat.{ℕ}
 use lib.Dec.{leb, ltb, eqb}
 use borrow.Author.Tests.{lt-ltb, le-ltb, le-leb, lt-leb}
-use Rattle.finite.specs.Truth.{le-or-lt}
+use Rattle.finite.specs.Truth.{le-or-lt, implies}
 use Rattle.finite.specs.Members.{any, all}
+use Rattle.rules.specs.declared.Piece.{Piece}
+use Rattle.rules.specs.Pawn.{pawn, inner, outer}
 use Rattle.rules.specs.Rules.{pieceOf, apart}
 use Rattle.position.specs.declared.Slot.{Slot}
 use Rattle.position.specs.declared.Slot.the-variants.{Absent, Present}
 use Rattle.position.specs.declared.Position.{Position}
 use Rattle.position.specs.Keyed.{slotMen, boardOf}
-use Rattle.position.specs.Refusals.{badSide, badSquare, sharedSquare, slotForeign, slotOff, slotOn, slotsShare}
+use Rattle.position.specs.Refusals.{ranked, badSide, badSquare, badPawn, sharedSquare, slotForeign, slotOff, slotAstray, slotOn, slotsShare}
 
 pub leb-not : (m n : ℕ) → leb m n ≡ not (ltb n m)
 leb-not m n = ⊎-elim (λ h. rw (le-leb m n h, le-ltb n m h)) (λ h. rw (lt-leb m n h, lt-ltb n m h)) (le-or-lt m n)
@@ -47,7 +49,40 @@ foreign-three false false b = refl
 foreign-three false true false = refl
 foreign-three false true true = refl
 
+-- two men
+astray-two : (a b : Bool) → (not a || not b) ≡ not (a && (b && true))
+astray-two false b = refl
+astray-two true false = refl
+astray-two true true = refl
+
+-- ---- a pawn on rank 1 or 8
+
+outer-not : (s : ℕ) → outer s ≡ not (inner s)
+outer-not s = rw (leb-not 56 s) (go (leb-not 8 s))
+  where
+    swap : (a b : Bool) → (a || not b) ≡ not (not a && b)
+    swap true b = refl
+    swap false true = refl
+    swap false false = refl
+
+    go : leb 8 s ≡ not (ltb s 8) → (ltb s 8 || not (ltb s 56)) ≡ not (ltb 7 s && ltb s 56)
+    go e = swap (ltb s 8) (ltb s 56) ∙ ap (λ (x : Bool). not (x && ltb s 56)) (sym e)
+
+pub astray-not : (m : Piece) → (pawn m && outer (m .square)) ≡ not (ranked m)
+astray-not m = go (pawn m)
+  where
+    go : (x : Bool) → (x && outer (m .square)) ≡ not (implies x (inner (m .square)))
+    go true = outer-not (m .square)
+    go false = refl
+
 -- ---- the men in two slots
+
+astray-slots : (f k : Slot) → (slotAstray f || slotAstray k) ≡ not (all ranked (slotMen f ++ slotMen k))
+unfolding all
+astray-slots Absent Absent = astray-two true true
+astray-slots Absent (Present n) = ap (λ (x : Bool). false || x) (astray-not n) ∙ astray-two true (ranked n)
+astray-slots (Present m) Absent = ap (λ (x : Bool). x || false) (astray-not m) ∙ astray-two (ranked m) true
+astray-slots (Present m) (Present n) = ap₂ _||_ (astray-not m) (astray-not n) ∙ astray-two (ranked m) (ranked n)
 
 foreign-slots : (s : Bool) (f k : Slot)
     → (s || (slotForeign f || slotForeign k)) ≡ (s || not (all (λ m. ltb (m .colour) 2) (slotMen f ++ slotMen k)))
@@ -97,6 +132,10 @@ module _ (p : Position) where
       (p .«white_king») || (leb 64 (p .«black_king») || (slotOff (p .first) || slotOff (p .second)))) ≡ badSquare p
   unfolding badSquare boardOf
   off-by-slots = off-slots (p .«white_king») (p .«black_king») (p .first) (p .second)
+
+  pub astray-by-slots : (slotAstray (p .first) || slotAstray (p .second)) ≡ badPawn p
+  unfolding badPawn boardOf
+  astray-by-slots = astray-slots (p .first) (p .second)
 
   pub shared-by-slots : (eqb (p .«white_king»)
       (p .«black_king»)

@@ -39,13 +39,14 @@ use Rattle.index.specs.Seats.{Seated, StandsAt, seatOf, alone}
 use Rattle.index.specs.laws.NormalKey.{oneBoard}
 use Rattle.index.specs.laws.SeatLaws.{board-one, known-two}
 use Rattle.index.specs.laws.PlaceLaws.{stands-two, material-by}
+use Rattle.index.specs.laws.EndingsLaws.{legal-of}
 use Rattle.index.specs.laws.CompleteLaws.{complete-seated, seated-complete}
 use Rattle.movegen.specs.Places.{squareAfter, placeAfter}
 use Rattle.movegen.specs.laws.Places.{place-moved}
 use Rattle.four_men.specs.Same.{Same, changedAs}
-use Rattle.four_men.specs.Reading.{Within, full, legalNumberOf, numbered}
+use Rattle.four_men.specs.Reading.{Within, full, legalNumberOf}
 use Rattle.four_men.specs.laws.Captures.{within-few, within-closed}
-use Rattle.four_men.specs.laws.Numbered.{live-at, lawfulWith}
+use Rattle.four_men.specs.laws.Numbered.{live-at, same-number, same-at}
 use Rattle.retracting.specs.Retracting.{Leads, loneOf, leftPlace}
 use Rattle.retracting.specs.laws.Causes.{place-eq}
 
@@ -184,6 +185,9 @@ module _ (m : Men) (w : T (known (materialFor m))) (cl : m .colour < 2) (two : m
   there : Within M b × T (full M (b .men)) × (numberOf b ≡ n)
   there = live-at M w n h live
 
+  legal-b : T (legal b)
+  legal-b = legal-of M w b (there .0 .legality)
+
   p0 : Place
   p0 = seatOf (n / 64 / 64) (n / 64 % 64) (n % 64)
 
@@ -213,14 +217,14 @@ module _ (m : Men) (w : T (known (materialFor m))) (cl : m .colour < 2) (two : m
   unfolding f0 t0 q0
   after0 =
       let v = map-out (played b) c (moves b) i in
-      v .2 ∙ plain-played b (v .0) (there .0 .legality) (v .1) ∙ ap (λ (x : Board). moved x f0 t0) (sym (st .board))
+      v .2 ∙ plain-played b (v .0) legal-b (v .1) ∙ ap (λ (x : Board). moved x f0 t0) (sym (st .board))
       ∙ sym (place-moved f0 t0 (on .0) (on .1) m p0)
 
   legal0 : T (legal (boardIn m p0))
-  legal0 = subst⁻¹ (λ (x : Board). T (legal x)) (st .board) (there .0 .legality)
+  legal0 = subst⁻¹ (λ (x : Board). T (legal x)) (st .board) legal-b
 
   legal-c : T (legal c)
-  legal-c = within-closed M b c (there .0) i .legality
+  legal-c = legal-of M w c (within-closed M w b c (there .0) i .legality)
 
   -- under any map the move leads from a place of this number
   module _ (s : Symmetry) where
@@ -261,11 +265,11 @@ module _ (m : Men) (w : T (known (materialFor m))) (cl : m .colour < 2) (two : m
     }
 
     number-p : numberOf (boardIn m p) ≡ n
-    unfolding lawfulWith numbered crossed
+    unfolding crossed
     number-p =
         ap numberOf (board-p ∙ ap (changed s false) (st .board))
-        ∙ sym (lawfulWith M w (record { first = []; second = [] }) .same-number b (changed s false b)
-        (record { symmetry = s; order = false; colours = false }, within-few M b (there .0), (λ g. absurd g), refl) (there .1))
+        ∙ sym (same-number M w b (changed s false b)
+        (record { symmetry = s; order = false; colours = false }, within-few M w b (there .0), (λ g. absurd g), refl) (there .1))
         ∙ there .2
 
     reached : (q : Place) → mappedPlace s q0 ≡ q
@@ -280,9 +284,9 @@ module _ (m : Men) (w : T (known (materialFor m))) (cl : m .colour < 2) (two : m
 
   -- the man left alone goes like the one at his number
   same-lone : (kind col x : ℕ) → kind < 4 → c .men ≡ pieceOf kind col x ∷ [] → Same c (boardAt (menOf (Material.One kind)) (numberOf c))
-  unfolding lawfulWith numbered materialOf
+  unfolding materialOf
   same-lone kind col x l e =
-      lawfulWith (Material.One kind) (subst⁻¹ T (lt-ltb kind 4 l) tt) (record { first = []; second = [] }) .same-at c
+      same-at (Material.One kind) (subst⁻¹ T (lt-ltb kind 4 l) tt) c
       (record { legality = legal-c; men = inl (ap materialOf e) }) (subst⁻¹ (λ (y : List Piece). T (not (empty y))) e tt)
 
   kinds : (m .first < 4) × (m .second < 4)

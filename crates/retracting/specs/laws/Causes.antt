@@ -33,7 +33,7 @@ use Rattle.position.specs.Keyed.{boardOf}
 use Rattle.position.specs.Posed.{posed, boardIn, materialFor, Complete}
 use Rattle.index.specs.Seats.{Seated, alone}
 use Rattle.index.specs.laws.SeatLaws.{board-one, board-two}
-use Rattle.index.specs.laws.PlaceLaws.{material-by}
+use Rattle.index.specs.laws.PlaceLaws.{material-by, piece-by}
 use Rattle.index.specs.laws.CompleteLaws.{complete-seated, seated-complete}
 use Rattle.position.specs.laws.PlacedLaws.{kings-separate}
 use Rattle.movegen.specs.Places.{squareAfter, placeAfter}
@@ -41,7 +41,7 @@ use Rattle.four_men.specs.Same.{free, changedAs, Same}
 use Rattle.four_men.specs.Reading.{Within, full, legalNumberOf, numbered}
 use Rattle.four_men.specs.laws.Materials.{one-of, two-of}
 use Rattle.four_men.specs.laws.Captures.{within-few, within-closed, own-of}
-use Rattle.four_men.specs.laws.Numbered.{live-at, lawfulWith}
+use Rattle.four_men.specs.laws.Numbered.{live-at, same-number, same-at}
 use Rattle.numbering.specs.Change.{Change}
 use Rattle.retracting.specs.Retracting.{Leads}
 
@@ -205,6 +205,9 @@ module _ (b c : Board) (f t : ℕ) (e : c ≡ moved b f t) where
   free-back (Material.One kind) o u v =
       let w = one-of kind (b .men) o in
       subst⁻¹ (λ (l : List Piece). T (free l)) (w .1) (unfold free exchangeable in tt)
+  free-back Material.Pawn o u v =
+      let w = one-of 4 (b .men) o in
+      subst⁻¹ (λ (l : List Piece). T (free l)) (w .1) (unfold free exchangeable in tt)
   free-back (Material.Two j k r) o u v =
       let w = two-of j k r (b .men) o in
       let z = after-men ∙ ap (λ (l : List Piece). map (carriedPiece f t) (left t l)) (w .2) in
@@ -287,14 +290,13 @@ module _ (m : Men) (w : T (known (materialFor m))) (n : ℕ) (h : n < sizeOf (ma
   own = own-of M b (there .0) (there .1)
 
   few : LegalFew b
-  few = within-few M b (there .0)
+  few = within-few M w b (there .0)
 
   after : Within M c
-  after = within-closed M b c (there .0) i
+  after = within-closed M w b c (there .0) i
 
   same : Same c (boardAt (menOf M) (numberOf c))
-  unfolding lawfulWith numbered
-  same = lawfulWith M w (record { first = []; second = [] }) .same-at c after u
+  same = same-at M w c after u
 
   s : Change
   s = same .0
@@ -325,9 +327,7 @@ module _ (m : Men) (w : T (known (materialFor m))) (n : ℕ) (h : n < sizeOf (ma
       )
 
   number-o : numberOf o ≡ n
-  unfolding lawfulWith numbered
-  number-o =
-      sym (lawfulWith M w (record { first = []; second = [] }) .same-number b o alike (there .1)) ∙ there .2
+  number-o = sym (same-number M w b o alike (there .1)) ∙ there .2
 
   lw : o .white < 64
   unfolding all
@@ -350,7 +350,7 @@ module _ (m : Men) (w : T (known (materialFor m))) (n : ℕ) (h : n < sizeOf (ma
     where
       go : (x : Bool) → leb 4 (m .second) ≡ x → Before m q o f t
       go true k =
-          let v = one-of (m .first) (b .men) (subst (λ (z : Material). OfMaterial z b) (material-by m true k) own) in
+          let v = one-of (m .first) (b .men) (subst (λ (z : Material). OfMaterial z b) (piece-by m w k) own) in
           let r = one-changed s b (v .0) (v .1) in
           before-one m q d o lw lb f t hf ht e k (r .0) (r .1)
           (first-on (r .0) [] (subst (λ (l : List Piece). T (all (λ a. ltb (a .square) 64) l)) (r .1) (all-men o legal-o)))

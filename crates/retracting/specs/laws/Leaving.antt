@@ -16,7 +16,7 @@ use Rattle.rules.specs.laws.ChangedRules.{legal-changed}
 use Rattle.numbering.specs.declared.Material.{Material}
 use Rattle.numbering.specs.Men.{exchangeable, materialOf}
 use Rattle.numbering.specs.Number.{numberOf}
-use Rattle.numbering.specs.Material.{known}
+use Rattle.numbering.specs.Material.{known, OfMaterial}
 use Rattle.position.specs.declared.Men.{Men}
 use Rattle.position.specs.declared.Place.{Place}
 use Rattle.position.specs.Keyed.{boardOf}
@@ -26,10 +26,11 @@ use Rattle.position.specs.laws.PosedLaws.{complete-spread}
 use Rattle.index.specs.laws.NormalKey.{oneBoard}
 use Rattle.index.specs.laws.SeatLaws.{board-one}
 use Rattle.index.specs.laws.CompleteLaws.{complete-seated}
+use Rattle.index.specs.laws.PlaceLaws.{piece-by}
 use Rattle.four_men.specs.Same.{Same, free}
-use Rattle.four_men.specs.Reading.{Within, full, numbered}
+use Rattle.four_men.specs.Reading.{Within, full}
 use Rattle.four_men.specs.laws.Captures.{within-few}
-use Rattle.four_men.specs.laws.Numbered.{lawfulWith}
+use Rattle.four_men.specs.laws.Numbered.{same-number}
 use Rattle.retracting.specs.Retracting.{Missing, LegalLeft, loneOf, leftPlace}
 
 -- ---- the colours exchanged, and no map
@@ -138,16 +139,22 @@ module _ (m : Men) (w : T (known (materialFor m))) (cl : m .colour < 2) (two : m
   left-lone =
       (swapped x 0, t .first, ap (λ (b : Board). b .men) (left-board m cl t (sp .first) (sp .side) taken which .1))
 
+  lone-is : materialFor (loneOf m taken) ≡ Material.One kind
+  lone-is = piece-by (loneOf m taken) (d .ending) refl
+
+  lone-known : T (known (Material.One kind))
+  lone-known = subst (λ (y : Material). T (known y)) lone-is (d .ending)
+
   within : Within (Material.One kind) small
-  within = record { legality = l; men = inl (d .men) }
+  within = record { legality = l; men = inl (subst (λ (y : Material). OfMaterial y small) lone-is (d .men)) }
 
   pub left-number : numberOf (boardIn m (leftPlace m taken t)) ≡ numberOf small
-  unfolding lawfulWith numbered crossed free exchangeable
+  unfolding crossed free exchangeable
   left-number =
-      sym (lawfulWith (Material.One kind) (d .ending) (record { first = []; second = [] }) .same-number small
+      sym (same-number (Material.One kind) lone-known small
       (boardIn m (leftPlace m taken t)) (
         record { symmetry = still; order = false; colours = x },
-        within-few (Material.One kind) small within,
+        within-few (Material.One kind) lone-known small within,
         (λ g. subst⁻¹ (λ (b : Board). T (free (b .men))) small-is tt),
         left-is,
       )

@@ -18,7 +18,7 @@ use Rattle.position.specs.declared.Position.{Position}
 use Rattle.position.specs.Keyed.{boardOf, manKind}
 use Rattle.position.specs.Refusals.{standingRefusal}
 use Rattle.endings.specs.Answers.{checkOf, lookUpOf}
-use Rattle.endings.specs.Truth.{TrueAnswer}
+use Rattle.endings.specs.Truth.{TrueAnswerBy, TrueAnswer}
 use Rattle.endings.specs.laws.LookingUp.{look-up-true}
 use Rattle.search.specs.declared.Opinion.{Opinion}
 use Rattle.search.specs.Opinions.{most, opinionOf}
@@ -45,11 +45,11 @@ module _ (b : Board) (k : ℕ) (o : Opinion) (true? : TrueOpinion b k o) where
       go (inr h) = deep n (DepthIs.loss w) h ∙ sym (rw (lt-leb n k h))
 
   short : (a : Answer) → TrueAnswer b a → o ≡ shortOf k a
-  short a (TrueAnswer.won n m w f e) = short-win n w ∙ sym (ap (shortOf k) e)
-  short a (TrueAnswer.lost n m w f e) = short-loss n w ∙ sym (ap (shortOf k) e)
-  short a (TrueAnswer.mate w f e) = short-loss 0 w ∙ sym (ap (shortOf k) e)
-  short a (TrueAnswer.drawn m w f e) = not-of-draw b k o true? w ∙ sym (ap (shortOf k) e)
-  short a (TrueAnswer.stalemate w f e) = not-of-draw b k o true? w ∙ sym (ap (shortOf k) e)
+  short a (TrueAnswerBy.won n m w f e) = short-win n w ∙ sym (ap (shortOf k) e)
+  short a (TrueAnswerBy.lost n m w f e) = short-loss n w ∙ sym (ap (shortOf k) e)
+  short a (TrueAnswerBy.mate w f e) = short-loss 0 w ∙ sym (ap (shortOf k) e)
+  short a (TrueAnswerBy.drawn m w f e) = not-of-draw b k o true? w ∙ sym (ap (shortOf k) e)
+  short a (TrueAnswerBy.stalemate w f e) = not-of-draw b k o true? w ∙ sym (ap (shortOf k) e)
 
 -- THE THEOREM: for any table that the checker accepts, on any position of its ending, legal or refused, the second opinion is what look-up says
 -- of depths up to k.

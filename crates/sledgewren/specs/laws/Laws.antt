@@ -55,7 +55,7 @@ pub move-turn : (ms : List Move) (n : ℕ) (l : List ℕ) (i x : ℕ) → i < n 
     → x ≡ flagOf (getD ms i zeroMove .takes)
     → sets l (4 * i) (flatMap moveBytes (drop i (take n ms)))
     ≡ sets (set (set (set (set l (4 * i) (getD ms i zeroMove .from)) (4 * i + 1) (getD ms i zeroMove .to)) (4 * i + 2)
-    x) (4 * i + 3) 0) (4 * (i + 1)) (flatMap moveBytes (drop (i + 1) (take n ms)))
+    x) (4 * i + 3) (getD ms i zeroMove .becomes)) (4 * (i + 1)) (flatMap moveBytes (drop (i + 1) (take n ms)))
 unfolding flatMap
 move-turn ms n l i x h k r q =
     let e : 4 * (i + 1) ≡ suc (suc (suc (suc (4 * i)))) = omega arith in

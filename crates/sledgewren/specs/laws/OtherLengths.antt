@@ -21,7 +21,7 @@ not-255 : (p : Position) → countWord (countAnswer p) ≡ 255 → ⊥
 unfolding countAnswer
 not-255 p = go (eqb (standingWith p) 0) (standing-with-most p)
   where
-    go : (b : Bool) → standingWith p ≤ 6
+    go : (b : Bool) → standingWith p ≤ 18
         → countWord (cond b (Counted.Count (length (moves (boardOf p)))) (Counted.Refused (standingWith p))) ≡ 255
         → ⊥
     go true h e = omega arith

@@ -16,7 +16,7 @@ use Rattle.table_theory.specs.Steps.{goingOn, saidDone, gaveTen, settled, ends,
 use Rattle.table_theory.specs.laws.StepLaws.{settled-most}
 use Rattle.rules.specs.Chess.{chess}
 use Rattle.numbering.specs.declared.Material.{Material}
-use Rattle.numbering.specs.Material.{known, sizeOf}
+use Rattle.numbering.specs.Material.{given, sizeOf}
 use Rattle.four_men.specs.Lending.{Lent, borrowed}
 use Rattle.four_men.specs.Reading.{numbered, holdsDepth}
 use Rattle.four_men.specs.Answers.{lengthsFit}
@@ -74,6 +74,7 @@ size-most : (m : Material) (l : Lent) → numbered m l .size ≤ 3784704
 unfolding numbered
 size-most (Material.One kind) l = omega arith
 size-most (Material.Two j k r) l = omega arith
+size-most Material.Pawn l = omega arith
 
 -- refusals settle none
 refused-most : (a b : Bool) (t : List ℕ) (p : Progress) (s : over.Stepped) → settledOf (saidOf (s .said)) ≤ 3784704
@@ -86,13 +87,13 @@ refused-most true true t p s h = h
 start-most : (m : Material) (t : List ℕ) → settledOf (startFor m t .step .said) ≤ 3784704
 unfolding startWith started
 start-most m t =
-    refused-most (known m) (eqb (length t) (sizeOf m)) t (goingOn 0 0) (started chess (numbered m nothing) t)
+    refused-most (given m) (eqb (length t) (sizeOf m)) t (goingOn 0 0) (started chess (numbered m nothing) t)
     (omega arith)
 
 step-most : (m : Material) (p : Progress) (l : Lent) (t : List ℕ) → settledOf (stepFor m p l t .step .said) ≤ 3784704
 unfolding stepWith
 step-most m p l t =
-    refused-most (known m) (lengthsFit m l t) t p (stepFrom chess (numbered m l) (holdsDepth (borrowed m l)) p t)
+    refused-most (given m) (lengthsFit m l t) t p (stepFrom chess (numbered m l) (holdsDepth (borrowed m l)) p t)
     (from-most (numbered m l) (holdsDepth (borrowed m l)) (size-most m l) t p)
 
 -- ---- as the code has it

@@ -16,7 +16,10 @@ use Rattle.rules.specs.laws.CanMove.{can-on}
 use Rattle.rules.specs.Chess.{chess}
 use Rattle.numbering.specs.Number.{numberOf}
 use Rattle.numbering.specs.declared.Material.{Material}
-use Rattle.numbering.specs.Material.{menOf}
+use Rattle.numbering.specs.Material.{known, menOf}
+use Rattle.index.specs.Endings.{numberIn}
+use Rattle.index.specs.laws.EndingsLaws.{pieces-number}
+use Rattle.index.specs.laws.PlaceLaws.{piece-by}
 use Rattle.position.specs.declared.Men.{Men}
 use Rattle.position.specs.declared.Place.{Place}
 use Rattle.position.specs.Keyed.{boardOf, oneMan}
@@ -45,7 +48,7 @@ module _ (m : Men) (q : Place) (w : Remains m q) where
   one-men h k = ap (λ (b : Board). b .men) (first-there m q h (w .alone k)) ∙ (unfold boardOf in refl)
 
   is-one : 4 ≤ m .second → materialFor m ≡ Material.One (m .first)
-  is-one k = rw (le-leb 4 (m .second) k)
+  is-one k = piece-by m (w .ending) (le-leb 4 (m .second) k)
 
   is-two : m .second < 4 → materialFor m ≡ Material.Two (m .first) (m .second) (eqb (m .colour) 1)
   is-two k = rw (lt-leb 4 (m .second) k)
@@ -77,13 +80,15 @@ module _ (m : Men) (q : Place) (w : Remains m q) where
 -- ---- bytes
 
 module _ (mat : Material) (l : Lent) (t : List ℕ) (b : Board) where
-  bytes-own : T (full mat (b .men)) → reads chess (numbered mat l) t b ≡ getD t (numberOf b) 0
+  bytes-own : T (known mat) → T (full mat (b .men)) → reads chess (numbered mat l) t b ≡ getD t (numberOf b) 0
   unfolding reads numbered
-  bytes-own h = cond-true (full mat (b .men)) (getD t (numberOf b) 0) (lentByte mat l b) h
+  bytes-own k h =
+      cond-true (full mat (b .men)) (getD t (numberIn mat b) 0) (lentByte mat l b) h
+      ∙ ap (λ (f : Board → ℕ). getD t (f b) 0) (pieces-number mat k)
 
   bytes-lent : full mat (b .men) ≡ false → reads chess (numbered mat l) t b ≡ lentByte mat l b
   unfolding reads numbered
-  bytes-lent e = cond-false (full mat (b .men)) (getD t (numberOf b) 0) (lentByte mat l b) (refuted e)
+  bytes-lent e = cond-false (full mat (b .men)) (getD t (numberIn mat b) 0) (lentByte mat l b) (refuted e)
 
 module _ (j k : ℕ) (r : Bool) (l : Lent) (b : Board) where
   lone-byte : (a : Piece) → b .men ≡ a ∷ []
@@ -100,7 +105,7 @@ module _ (m : Men) (q : Place) (w : Remains m q) (first second table : List ℕ)
       → c ≡ bytesIn m first second table (boardIn m q)
   byte-own a n c e h =
       h ∙ ap (λ (k : ℕ). getD table k 0) e
-      ∙ sym (bytes-own (materialFor m) (record { first = first; second = second }) table (boardIn m q)
+      ∙ sym (bytes-own (materialFor m) (record { first = first; second = second }) table (boardIn m q) (w .ending)
       (there (le-or-lt 4 (m .second)) (a .1)))
     where
       there : (4 ≤ m .second) ⊎ (m .second < 4) → (4 ≤ m .second) ⊎ (q .second < 64)

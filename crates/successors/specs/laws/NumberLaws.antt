@@ -2,20 +2,22 @@
 use mathlib.Core.Path.{_≡_, refl, sym, ap, subst, _∙_}
 use mathlib.Core.Bool.{Bool, true, false, cond, not, _&&_}
 use Prim.Native.Nat.{ℕ, _-_}
-use lib.Dec.{eqb}
+use lib.Dec.{T, eqb}
 use borrow.Author.Tests.{eq-eqb}
-use Rattle.rules.specs.Rules.{Board, touching, inCheck, legal}
+use Rattle.rules.specs.Rules.{Board, touching, inCheck, legal, legalWithPawn}
 use Rattle.numbering.specs.Keys.{boardAt}
 use Rattle.numbering.specs.Number.{used}
-use Rattle.numbering.specs.Material.{menOf}
+use Rattle.numbering.specs.Material.{known, menOf}
 use Rattle.position.specs.declared.Men.{Men}
 use Rattle.position.specs.declared.Place.{Place}
 use Rattle.position.specs.Keyed.{boardOf}
-use Rattle.position.specs.Refusals.{badSide, badSquare, sharedSquare, badMenOf, placingWith, standingWith}
+use Rattle.position.specs.Refusals.{badMenOf, placingWith, standingWith}
 use Rattle.position.specs.Posed.{posed, boardIn, materialFor, Complete}
-use Rattle.position.specs.laws.PlacedLaws.{five}
+use Rattle.position.specs.laws.BothSizes.{placed-men-with}
+use Rattle.position.specs.laws.PosedLaws.{complete-pawnless}
+use Rattle.position.specs.laws.StandingWith.{legal-standing-with, pawnless-same}
 use Rattle.four_men.specs.Reading.{legalNumberOf}
-use Rattle.four_men.specs.laws.Standing.{legal-standing-with}
+use Rattle.four_men.specs.laws.Numbered.{live-is}
 use Rattle.successors.specs.declared.Standing.{Standing}
 use Rattle.successors.specs.Successors.{StandingAt}
 
@@ -23,13 +25,12 @@ use Rattle.successors.specs.Successors.{StandingAt}
 pub complete-legal : (m : Men) (q : Place) → Complete m q
     → legal (boardIn m q) ≡ not (inCheck (boardIn m q) (1 - q .side))
 complete-legal m q c =
-    ap (λ (x : Bool). not x && legal (boardOf (posed m q))) (sym bad) ∙ legal-standing-with (posed m q) ∙ stands
+    sym (pawnless-same (boardIn m q) (complete-pawnless c))
+    ∙ ap (λ (x : Bool). not x && legalWithPawn (boardOf (posed m q))) (sym bad) ∙ legal-standing-with (posed m q)
+    ∙ stands
   where
     bad : badMenOf (posed m q .first) (posed m q .second) ≡ false
-    bad = unfold placingWith in
-        five (badMenOf (posed m q .first) (posed m q .second)) (badSide (posed m q))
-        (badSquare (posed m q)) (sharedSquare (posed m q)) (touching (boardOf (posed m q)))
-        (c .placed) .0
+    bad = placed-men-with (posed m q) (c .placed)
 
     go : (x : Bool) → eqb (cond x 6 0) 0 ≡ not x
     go true = refl
@@ -39,15 +40,17 @@ complete-legal m q c =
     stands = unfold standingWith posed in
         rw (eq-eqb (placingWith (posed m q)) 0 (c .placed)) (go (inCheck (boardIn m q) (1 - q .side)))
 
-module _ (m : Men) (n : ℕ) (q : Place) (at : boardIn m q ≡ boardAt (menOf (materialFor m)) n) where
+module _ (m : Men) (n : ℕ) (q : Place) (k : T (known (materialFor m)))
+    (at : boardIn m q ≡ boardAt (menOf (materialFor m)) n) where
   pub found-unused : used (boardAt (menOf (materialFor m)) n) ≡ false → StandingAt m n Standing.Nothing
-  unfolding legalNumberOf
-  found-unused e = rw e
+  found-unused e =
+      live-is (materialFor m) k n ∙ ap (λ (x : Bool). x && legal (boardAt (menOf (materialFor m)) n)) e
 
   module _ (u : used (boardAt (menOf (materialFor m)) n) ≡ true) (c : Complete m q) where
     number-legal : legalNumberOf (materialFor m) n ≡ not (inCheck (boardIn m q) (1 - q .side))
-    unfolding legalNumberOf
-    number-legal = rw u (ap legal (sym at) ∙ complete-legal m q c)
+    number-legal =
+        live-is (materialFor m) k n ∙ ap (λ (x : Bool). x && legal (boardAt (menOf (materialFor m)) n)) u
+        ∙ ap legal (sym at) ∙ complete-legal m q c
 
     pub found-illegal : inCheck (boardIn m q) (1 - q .side) ≡ true → StandingAt m n Standing.Nothing
     found-illegal e = number-legal ∙ ap not e

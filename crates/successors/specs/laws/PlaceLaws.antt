@@ -18,9 +18,10 @@ use Rattle.position.specs.declared.Slot.the-variants.{Absent, Present}
 use Rattle.position.specs.declared.Men.{Men}
 use Rattle.position.specs.declared.Place.{Place}
 use Rattle.position.specs.Keyed.{slotMen, boardOf, oneMan}
-use Rattle.position.specs.Refusals.{badSide, badSquare, sharedSquare, badMenOf, placingWith}
+use Rattle.position.specs.Refusals.{badSide, badSquare, badPawn, sharedSquare, badMenOf, placingWith}
 use Rattle.position.specs.Posed.{slotAt, posed, boardIn, Complete}
-use Rattle.position.specs.laws.PlacedLaws.{five, either, passes}
+use Rattle.position.specs.laws.PlacedLaws.{either, passes}
+use Rattle.position.specs.laws.BothSizes.{six}
 use Rattle.movegen.specs.Places.{squareAfter, placeAfter}
 use Rattle.successors.specs.Successors.{kingAt, Remains}
 
@@ -81,14 +82,15 @@ pub whole : (m : Men) (q : Place) → Complete m q → Whole m q
 unfolding placingWith badSide badSquare sharedSquare
 whole m q w =
     let p = posed m q in
-    let f = five (badMenOf (p .first) (p .second)) (badSide p) (badSquare p) (sharedSquare p) (touching (boardOf p))
+    let f = six (badMenOf (p .first) (p .second)) (badSide p) (badSquare p) (badPawn p) (sharedSquare p)
+    (touching (boardOf p))
     (w .placed) in
     record {
       side = unfold posed in
           leb-false 2 (q .side) (either (leb 2 (p .side)) (all coloured (boardOf p .men)) (f .1) .0);
       squares = passes (all (λ a. ltb (a .square) 64) (pieces (boardOf p))) (f .2);
-      distinct = passes (apart (pieces (boardOf p))) (f .3);
-      kings = f .4;
+      distinct = passes (apart (pieces (boardOf p))) (f .4);
+      kings = f .5;
       first = unfold posed in there m q (le-or-lt 64 (q .first)) (f .0);
       alone = λ h. unfold posed in gone m q h (le-or-lt 64 (q .first)) (le-or-lt 64 (q .second)) (f .0);
     }

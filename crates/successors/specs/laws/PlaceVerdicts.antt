@@ -16,8 +16,7 @@ use Rattle.position.specs.declared.Men.{Men}
 use Rattle.position.specs.declared.Place.{Place}
 use Rattle.position.specs.Keyed.{boardOf}
 use Rattle.position.specs.Posed.{posed, boardIn, Complete}
-use Rattle.position.specs.laws.BothSizes.{placed-men-with}
-use Rattle.four_men.specs.laws.Standing.{men-pawnless}
+use Rattle.position.specs.laws.PosedLaws.{complete-pawnless}
 use Rattle.answers.specs.declared.BestMove.{BestMove}
 use Rattle.movegen.specs.declared.Reach.{Reach}
 use Rattle.successors.specs.declared.Judged.{Judged}
@@ -78,7 +77,7 @@ module _ (m : Men) (q : Place) where
     pub plain : Plain (boardIn m q)
     plain = record {
       manned = manned m q (whole m q w .first);
-      pawnless = men-pawnless (posed m q) (placed-men-with (posed m q) (w .placed));
+      pawnless = complete-pawnless w;
     }
 
     pub place-stuck : (r : Reach) → Reaches m q r → noTargets r ≡ empty (moves (boardIn m q))

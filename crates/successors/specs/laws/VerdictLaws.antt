@@ -74,7 +74,7 @@ module _ (byte : Board → ℕ) (b : Board) where
   after m = byte (played b m)
 
   -- with no move: 2 in check, else 1
-  required-over : moves b ≡ [] → requiredAt chess byte b ≡ cond (inCheck b (b .side)) 2 1
+  pub required-over : moves b ≡ [] → requiredAt chess byte b ≡ cond (inCheck b (b .side)) 2 1
   unfolding mated
   required-over e = required-moves chess byte b ∙ rw e (go (inCheck b (b .side)))
     where
@@ -83,7 +83,7 @@ module _ (byte : Board → ℕ) (b : Board) where
       go false = unfold required best in refl
 
   -- with a move there is no mate
-  required-more : (m : Move) → m ∈ moves b → requiredAt chess byte b ≡ required false (map after (moves b))
+  pub required-more : (m : Move) → m ∈ moves b → requiredAt chess byte b ≡ required false (map after (moves b))
   required-more m i = required-moves chess byte b
       ∙ ap (λ (x : Bool). required x (map after (moves b))) (fails (mated b) (λ t. none-in (chess .mate-ends b t) i))
 
@@ -149,11 +149,11 @@ module _ (byte : Board → ℕ) (b : Board) where
   -- ---- the verdict
 
   module _ (c : ℕ) where
-    wrong : (requiredAt chess byte b ≡ c → ⊥) → Verdict.Wrong ≡ verdictOf byte c b
+    pub wrong : (requiredAt chess byte b ≡ c → ⊥) → Verdict.Wrong ≡ verdictOf byte c b
     unfolding verdictOf
     wrong n = sym (rw (ne-eqb c (requiredAt chess byte b) (λ e. n (sym e))))
 
-    right : requiredAt chess byte b ≡ c → (a : BestMove) → a ≡ adviceOf (suitedFrom byte c b)
+    pub right : requiredAt chess byte b ≡ c → (a : BestMove) → a ≡ adviceOf (suitedFrom byte c b)
         → Verdict.Right a ≡ verdictOf byte c b
     unfolding verdictOf
     right e a q = sym (rw (eq-eqb c (requiredAt chess byte b) (sym e), ← q))

@@ -9,7 +9,8 @@ use borrow.Author.Tests.{ne-eqb, eqb-true, eqb-false, leb-false}
 use Rattle.finite.specs.Truth.{and-left, and-right, and-both, true-of, refuted}
 use Rattle.rules.specs.declared.Piece.{Piece}
 use Rattle.numbering.specs.declared.Material.{Material}
-use Rattle.numbering.specs.Material.{known, materialIn, sizeOf}
+use Rattle.numbering.specs.Material.{given, oneOf, materialIn, sizeOf}
+use Rattle.numbering.specs.laws.MaterialLaws.{one-piece}
 use Rattle.position.specs.declared.Slot.{Slot}
 use Rattle.position.specs.declared.Slot.the-variants.{Absent, Present}
 use Rattle.position.specs.Keyed.{slotMen, boardOf}
@@ -27,7 +28,7 @@ one-back : (kind : ℕ) → kind < 4 → materialRead kind ≡ Material.One kind
 one-back kind h =
     let high : bits 8 24 kind ≡ 0 = field 8 24 kind 0 0 kind (omega arith) (omega arith) (omega arith) in
     let low : bits 0 8 kind ≡ kind = field 0 8 0 kind 0 kind (omega arith) (omega arith) (omega arith) in
-    rw (high, low)
+    rw (high, low) (one-piece kind h)
 
 two-back : (j k x : ℕ) → j < 4 → k < 4 → x < 2
     → materialRead (j + (k + 1) * 2 ^ 8 + x * 2 ^ 16) ≡ Material.Two j k (eqb x 1)
@@ -46,7 +47,7 @@ two-back j k x hj hk hx =
     rw (above, ne-eqb (k + 1 + x * 2 ^ 8) 0 (λ e. omega arith), second, ne-eqb (k + 1) 0 (λ e. omega arith), none, first, each, less)
 
 -- READING AN ENDING'S WORD GIVES THE ENDING.
-pub material-back : (m : Material) → T (known m) → materialRead (materialWord m) ≡ m
+pub material-back : (m : Material) → T (given m) → materialRead (materialWord m) ≡ m
 material-back (Material.One kind) h = one-back kind (ltb→lt kind 4 h)
 material-back (Material.Two j k r) h = go r
   where
@@ -57,6 +58,7 @@ material-back (Material.Two j k r) h = go r
     go : (r : Bool) → materialRead (materialWord (Material.Two j k r)) ≡ Material.Two j k r
     go true = two-back j k 1 a (ltb→lt k 4 (and-right (leb j k) (ltb k 4) h)) (omega arith)
     go false = two-back j k 0 a (ltb→lt k 4 (and-right (leb j k) (ltb k 4) h)) (omega arith)
+material-back Material.Pawn h = refl
 
 -- ---- from a word to its ending and back
 
@@ -107,15 +109,23 @@ two-word : (w : ℕ) → w < 2 ^ 32 → (bits 8 8 w ≡ 0 → ⊥) → bits 17 1
 two-word w h n e =
     rw (flag-is (bits 16 1 w) (omega arith)) (parts w (w / 256) (w / 65536) refl refl (short w h e) n)
 
+-- one man's word is his kind
+kind-word : (kind : ℕ) → materialWord (oneOf kind) ≡ kind
+kind-word kind = go (eqb kind 4) refl
+  where
+    go : (b : Bool) → eqb kind 4 ≡ b → materialWord (cond b Material.Pawn (Material.One kind)) ≡ kind
+    go true e = sym (eqb-true kind 4 e)
+    go false e = refl
+
 -- A WORD THAT IS AN ENDING'S IS THE WORD OF THAT ENDING: no two words are one ending's.
-pub word-back : (w : ℕ) → w < 2 ^ 32 → T (known (materialRead w)) → materialWord (materialRead w) ≡ w
+pub word-back : (w : ℕ) → w < 2 ^ 32 → T (given (materialRead w)) → materialWord (materialRead w) ≡ w
 word-back w h = go (eqb (bits 8 24 w) 0) refl (eqb (bits 8 8 w) 0) refl (eqb (bits 17 15 w) 0) refl
   where
     go : (a : Bool) → eqb (bits 8 24 w) 0 ≡ a → (b : Bool) → eqb (bits 8 8 w) 0 ≡ b → (c : Bool) → eqb (bits 17 15 w) 0 ≡ c
-        → (let m = cond a (Material.One (bits 0 8 w))
+        → (let m = cond a (oneOf (bits 0 8 w))
         (cond b noMaterial (cond c (Material.Two (bits 0 8 w) (bits 8 8 w - 1) (eqb (bits 16 1 w) 1)) noMaterial)) in
-        T (known m) → materialWord m ≡ w)
-    go true e b f c g t = one-word w h (eqb-true (bits 8 24 w) 0 e)
+        T (given m) → materialWord m ≡ w)
+    go true e b f c g t = kind-word (bits 0 8 w) ∙ one-word w h (eqb-true (bits 8 24 w) 0 e)
     go false e true f c g t = absurd t
     go false e false f true g t = two-word w h (eqb-false (bits 8 8 w) 0 f) (eqb-true (bits 17 15 w) 0 g)
     go false e false f false g t = absurd t
@@ -127,10 +137,21 @@ kinds-known a c h k =
     and-both (leb (min a c) (max a c)) (ltb (max a c) 4) (le→leb (min a c) (max a c) (omega arith))
     (lt→ltb (max a c) 4 (omega arith))
 
-men-known : (f s : Slot) → badMenOf f s ≡ false → T (known (materialIn (slotMen f ++ slotMen s)))
-men-known Absent s e = absurd (refuted e tt)
-men-known (Present a) Absent e = lt→ltb (a .kind) 4 (leb-false 4 (a .kind) e)
-men-known (Present a) (Present c) e = go (leb 4 (a .kind)) refl (leb 4 (c .kind)) refl e
+-- a piece, or a pawn
+kind-given : (kind : ℕ) → kind < 5 → T (given (oneOf kind))
+kind-given kind h = go (eqb kind 4) refl
+  where
+    go : (b : Bool) → eqb kind 4 ≡ b → T (given (cond b Material.Pawn (Material.One kind)))
+    go true e = tt
+    go false e = lt→ltb kind 4 (under kind h (eqb-false kind 4 e))
+      where
+        under : (k : ℕ) → k < 5 → (k ≡ 4 → ⊥) → k < 4
+        under k h n = omega (arith, n)
+
+men-given : (f s : Slot) → badMenOf f s ≡ false → T (given (materialIn (slotMen f ++ slotMen s)))
+men-given Absent s e = absurd (refuted e tt)
+men-given (Present a) Absent e = kind-given (a .kind) (leb-false 5 (a .kind) e)
+men-given (Present a) (Present c) e = go (leb 4 (a .kind)) refl (leb 4 (c .kind)) refl e
   where
     go : (x : Bool) → leb 4 (a .kind) ≡ x → (y : Bool) → leb 4 (c .kind) ≡ y → (x || y) ≡ false
         → T (leb (min (a .kind) (c .kind)) (max (a .kind) (c .kind)) && ltb (max (a .kind) (c .kind)) 4)
@@ -138,23 +159,29 @@ men-known (Present a) (Present c) e = go (leb 4 (a .kind)) refl (leb 4 (c .kind)
     go false p true q z = absurd (refuted z tt)
     go false p false q z = kinds-known (a .kind) (c .kind) (leb-false 4 (a .kind) p) (leb-false 4 (c .kind) q)
 
--- THE WORD OF A POSITION'S MEN IS READ AS ITS ENDING, where 1 to 5 do not refuse it.
+-- THE WORD OF A POSITION'S MEN IS READ AS ITS ENDING, where 1 to 5 and 18 do not refuse it.
 pub ending-told : (side white black first second : ℕ) → placingWith (positionRead side white black first second) ≡ 0
     → materialRead (endingOf first second) ≡ materialIn (boardOf (positionRead side white black first second) .men)
 unfolding boardOf
 ending-told side white black first second z =
     let m = materialIn (slotMen (manRead first) ++ slotMen (manRead second)) in
-    let k : T (known m) = men-known (manRead first) (manRead second) (placed-men-with (positionRead side white black first second) z) in
-    ap (λ (x : Bool). materialRead (cond x (materialWord m) 4294967295)) (true-of {b = known m} k) ∙ material-back m k
+    let k : T (given m) = men-given (manRead first) (manRead second) (placed-men-with (positionRead side white black first second) z) in
+    ap (λ (x : Bool). materialRead (cond x (materialWord m) 4294967295)) (true-of {b = given m} k) ∙ material-back m k
 
 -- ---- as the code reads it
+
+pub one-is : (kind : ℕ) → kind ≡ 4 → Material.Pawn ≡ oneOf kind
+one-is kind e = sym (rw e)
+
+pub one-other : (kind : ℕ) → (kind ≡ 4 → ⊥) → Material.One kind ≡ oneOf kind
+one-other kind n = sym (rw (ne-eqb kind 4 n))
 
 module _ (word : ℕ) where
   whole-word : word / 1 ≡ word
   whole-word = omega arith
 
-  pub read-one : word / 256 % 16777216 ≡ 0 → Material.One (word % 256) ≡ materialRead word
-  read-one e = sym (rw (e, whole-word))
+  pub read-one : (m : Material) → m ≡ oneOf (word % 256) → word / 256 % 16777216 ≡ 0 → m ≡ materialRead word
+  read-one m f e = f ∙ sym (rw (e, whole-word))
 
   pub read-none : (word / 256 % 16777216 ≡ 0 → ⊥) → word / 256 % 256 ≡ 0 → Material.One 255 ≡ materialRead word
   read-none n e = sym (rw (ne-eqb (word / 256 % 16777216) 0 n, e))
@@ -168,15 +195,15 @@ module _ (word : ℕ) where
   read-two n s e = sym (rw (ne-eqb (word / 256 % 16777216) 0 n, ne-eqb (word / 256 % 256) 0 s, e, whole-word))
 
 module _ (a : Piece) where
-  pub joined-none : (s : Slot) → s ≡ Absent → Material.One (a .kind) ≡ materialIn (a ∷ slotMen s)
-  joined-none s e = sym (rw e)
+  pub joined-none : (s : Slot) (r : Material) → s ≡ Absent → r ≡ oneOf (a .kind) → r ≡ materialIn (a ∷ slotMen s)
+  joined-none s r e f = f ∙ sym (rw e)
 
   pub joined-some : (s : Slot) (c : Piece) (r : Material) → s ≡ Present c → r ≡ materialIn (a ∷ c ∷ [])
       → r ≡ materialIn (a ∷ slotMen s)
   joined-some s c r e f = f ∙ sym (rw e)
 
-  pub alone-some : (s : Slot) → s ≡ Present a → Material.One (a .kind) ≡ materialIn (slotMen s)
-  alone-some s e = sym (rw e)
+  pub alone-some : (s : Slot) (r : Material) → s ≡ Present a → r ≡ oneOf (a .kind) → r ≡ materialIn (slotMen s)
+  alone-some s r e f = f ∙ sym (rw e)
 
   pub in-some : (f s : Slot) (r : Material) → f ≡ Present a → r ≡ materialIn (a ∷ slotMen s)
       → r ≡ materialIn (slotMen f ++ slotMen s)
@@ -202,7 +229,7 @@ module _ (a : Piece) where
     pair-falling h = falling (a .kind) (c .kind) (not (eqb (a .colour) (c .colour))) h
 
 -- how long a table is, by the test
-module _ (m : Material) (b : Bool) (e : b ≡ known m) where
+module _ (m : Material) (b : Bool) (e : b ≡ given m) where
   pub bytes-none : b ≡ false → 0 ≡ tableBytes m
   bytes-none f = sym (rw (sym e ∙ f))
 
@@ -219,10 +246,10 @@ module _ (first second : ℕ) (f s : Slot) (m : Material) (e : f ≡ manRead fir
   word-is : endingWord m ≡ endingOf first second
   word-is = rw (h, e, g)
 
-  pub ending-none : (b : Bool) → b ≡ known m → b ≡ false → 4294967295 ≡ endingOf first second
+  pub ending-none : (b : Bool) → b ≡ given m → b ≡ false → 4294967295 ≡ endingOf first second
   ending-none b k z =
       sym (ap (λ (x : Bool). cond x (materialWord m) 4294967295) (sym k ∙ z)) ∙ word-is
 
-  pub ending-some : (b : Bool) → b ≡ known m → (r : ℕ) → b ≡ true → r ≡ materialWord m → r ≡ endingOf first second
+  pub ending-some : (b : Bool) → b ≡ given m → (r : ℕ) → b ≡ true → r ≡ materialWord m → r ≡ endingOf first second
   ending-some b k r z w =
       w ∙ sym (ap (λ (x : Bool). cond x (materialWord m) 4294967295) (sym k ∙ z)) ∙ word-is

@@ -1,6 +1,6 @@
--- The theorem about games at the C boundary, for one man and for two: `sledgewren_check` answered 0 for these bytes,
--- and a side plays the moves that it reads from the answers of `sledgewren_look_up` for them, at any counts from 0 to
--- 99, through captures until bare kings.
+-- The theorem about games at the C boundary, for every ending: `sledgewren_check` answered 0 for these bytes, and a
+-- side plays the moves that it reads from the answers of `sledgewren_look_up` for them, at any counts from 0 to 99,
+-- through captures and promotions until bare kings.
 use mathlib.Core.Path.{_≡_, sym, ap, fun-ext, subst, _∙_}
 use mathlib.Core.Bool.{Bool, true, false, cond}
 use mathlib.Core.Logic.{_↔_}
@@ -12,18 +12,20 @@ use Rattle.theory.specs.Play.{LegalGame, atPly, Promised}
 use Rattle.table_theory.specs.Tables.{reads}
 use Rattle.rules.specs.declared.Piece.{Piece}
 use Rattle.rules.specs.declared.Move.{Move}
-use Rattle.rules.specs.Rules.{Board, empty, legal}
+use Rattle.rules.specs.Pawn.{pawn}
+use Rattle.rules.specs.Rules.{Board, empty}
 use Rattle.rules.specs.Chess.{chess}
 use Rattle.numbering.specs.declared.Material.{Material}
-use Rattle.numbering.specs.Material.{OfMaterial}
+use Rattle.numbering.specs.Material.{OfMaterial, legalIn}
 use Rattle.position.specs.Keyed.{keyed}
 use Rattle.answers.specs.declared.Answer.{Answer}
 use Rattle.answers.specs.declared.Checked.{Checked}
-use Rattle.endings.specs.Truth.{TrueAnswer}
-use Rattle.four_men.specs.Lending.{Lent}
+use Rattle.four_men.specs.Lending.{Lent, partOf}
 use Rattle.four_men.specs.Reading.{numbered}
 use Rattle.four_men.specs.Answers.{checkWith}
+use Rattle.four_men.specs.Truth.{TrueAnswerIn}
 use Rattle.four_men.specs.GamePromise.{tableThen, deskMoveWith}
+use Rattle.four_men.specs.laws.Parts.{part-byte}
 use Rattle.fifty.specs.declared.Marked.{Marked}
 use Rattle.fifty.specs.FiftyPromise.{answerAtWith, countedMoveWith, PlaysCountedWith, ClearBy, Within}
 use Rattle.fifty.specs.laws.FiftyGames.{counted-desk-with, fifty-games-with}
@@ -52,6 +54,12 @@ module _ (m : Material) (l : Lent) (t : List ℕ) (small : SmallBytes l) (bytes 
       go (Material.Two j k r) [] = bytes
       go (Material.Two j k r) (a ∷ []) = by (eqb (a .kind) j)
       go (Material.Two j k r) (a ∷ c ∷ men) = bytes
+      go Material.Pawn [] = bytes
+      go Material.Pawn (a ∷ men) = own (pawn a)
+        where
+          own : (x : Bool) → TableBytes (cond x t (partOf (a .kind) (l .first)))
+          own true = bytes
+          own false = part-byte (a .kind) (l .first) (small .0)
 
   -- the answer, the mark and the move read are those of the answer
   answer-told : (b : Board) (c : ℕ) → answerRead (lookUpWord m l t b c) ≡ answerAtWith m l t b c .answer
@@ -88,7 +96,7 @@ module _ (m : Material) (l : Lent) (t : List ℕ) (small : SmallBytes l) (bytes 
 -- is a game from b; the side plays in it the moves that it reads from the answers of `sledgewren_look_up`, at any
 -- counts.
 pub host-games : (m : Material) (l : Lent) (t : List ℕ) → SmallBytes l → TableBytes t → checkedWord (checkWith m l t) ≡ 0
-    → (b : Board) → T (legal b) → OfMaterial m b → (side : Bool) (ms : List Move) → LegalGame chess b ms
+    → (b : Board) → T (legalIn m b) → OfMaterial m b → (side : Bool) (ms : List Move) → LegalGame chess b ms
     → PlaysRead m l t side b ms → HostPromise m l t side b ms
 host-games m l t small bytes e b g o side ms game plays =
     let f = fifty-games-with m l t (zero-accepted m l t e) b g o side ms game
@@ -97,8 +105,8 @@ host-games m l t small bytes e b g o side ms game plays =
     let counts = f .counts in
     record {
       game = f;
-      called = λ c k. subst (TrueAnswer b) (sym (told b c)) (counts .called c k);
-      answers = λ i h n c k. let q = atPly chess b ms i in subst (TrueAnswer q) (sym (told q c)) (counts .answers i h n c k);
+      called = λ c k. subst (TrueAnswerIn b) (sym (told b c)) (counts .called c k);
+      answers = λ i h n c k. let q = atPly chess b ms i in subst (TrueAnswerIn q) (sym (told q c)) (counts .answers i h n c k);
       marked = λ i h n c k. let q = atPly chess b ms i in
           subst (λ (x : Bool). T x ↔ Within q c) (sym (mark-told m l t small bytes q c)) (counts .marked i h n c k);
       clear = λ c k x. subst (λ (a : Answer). ClearBy a side b ms c) (sym (told b c))

@@ -1,17 +1,20 @@
 -- The word of a move played is read back, and what play answers fits it.
 use mathlib.Core.Path.{_≡_, refl, sym, subst}
-use mathlib.Core.Bool.{Bool, true, _&&_}
+use mathlib.Core.Bool.{Bool, true, false, _&&_, _||_}
 use mathlib.Core.List.{_++_}
 use Prim.Native.Nat.{ℕ, _+_, _*_, _^_, _<_}
 use native.Mathlib.Nat.{mod-eq-of-lt}
 use native.Mathlib.Omega.{arith}
-use lib.Dec.{T, ltb, ltb→lt}
+use lib.Dec.{T, ltb, ltb→lt, eqb→eq}
 use borrow.Author.Tests.{ne-eqb}
-use Rattle.finite.specs.Truth.{and-left, and-right}
+use Rattle.finite.specs.Truth.{and-left, and-right, of-true}
 use Rattle.finite.specs.Members.{all}
 use Rattle.rules.specs.declared.Piece.{Piece}
-use Rattle.rules.specs.Rules.{pieceOf, known, legal}
-use Rattle.rules.specs.laws.Legal.{legal-facts}
+use Rattle.rules.specs.Pawn.{pawn, inner}
+use Rattle.rules.specs.Rules.{Board, pieceOf, known, knownOrPawn, legalWithPawn}
+use Rattle.rules.specs.laws.Legal.{legalOf-facts, legal-with-pawn}
+use Rattle.numbering.specs.declared.Material.{Material}
+use Rattle.numbering.specs.Material.{materialIn, legalIn}
 use Rattle.position.specs.declared.Slot.{Slot}
 use Rattle.position.specs.declared.Slot.the-variants.{Absent, Present}
 use Rattle.position.specs.declared.Position.{Position}
@@ -111,30 +114,50 @@ plays-apart = one-word PlayedFits playedWord playedRead played-read
 abbrev on : Piece → Bool
 on m = ltb (m .square) 64
 
-man-fits : (m : Piece) → T (known m) → T (on m) → ShortFits (Present m)
-man-fits m k o = (
-  omega (arith, ltb→lt (m .kind) 4 (and-left (ltb (m .kind) 4) (ltb (m .colour) 2) k)),
-  ltb→lt (m .colour) 2 (and-right (ltb (m .kind) 4) (ltb (m .colour) 2) k),
-  omega (arith, ltb→lt (m .square) 64 o),
-)
+-- a piece of either side, or a pawn
+man-kind : (m : Piece) → T (knownOrPawn m) → (m .kind < 5) × (m .colour < 2)
+man-kind m t = go (known m) refl t
+  where
+    go : (x : Bool) → known m ≡ x → T (x || (pawn m && ltb (m .colour) 2 && inner (m .square)))
+        → (m .kind < 5) × (m .colour < 2)
+    go true e t =
+        let k = of-true {b = known m} e in (
+          omega (arith, ltb→lt (m .kind) 4 (and-left (ltb (m .kind) 4) (ltb (m .colour) 2) k)),
+          ltb→lt (m .colour) 2 (and-right (ltb (m .kind) 4) (ltb (m .colour) 2) k),
+        )
+    go false e t =
+        let r = and-left (pawn m && ltb (m .colour) 2) (inner (m .square)) t in (
+          omega (arith, eqb→eq (m .kind) 4 (and-left (pawn m) (ltb (m .colour) 2) r)),
+          ltb→lt (m .colour) 2 (and-right (pawn m) (ltb (m .colour) 2) r),
+        )
 
-men-fit : (f s : Slot) → T (all known (slotMen f ++ slotMen s)) → T (all on (slotMen f ++ slotMen s))
+man-fits : (m : Piece) → T (knownOrPawn m) → T (on m) → ShortFits (Present m)
+man-fits m k o =
+    let r = man-kind m k in (omega (arith, r .0), r .1, omega (arith, ltb→lt (m .square) 64 o))
+
+men-fit : (f s : Slot) → T (all knownOrPawn (slotMen f ++ slotMen s)) → T (all on (slotMen f ++ slotMen s))
     → ShortFits f × ShortFits s
 unfolding all
 men-fit Absent Absent k o = (tt, tt)
-men-fit Absent (Present n) k o = (tt, man-fits n (and-left (known n) true k) (and-left (on n) true o))
-men-fit (Present m) Absent k o = (man-fits m (and-left (known m) true k) (and-left (on m) true o), tt)
+men-fit Absent (Present n) k o = (tt, man-fits n (and-left (knownOrPawn n) true k) (and-left (on n) true o))
+men-fit (Present m) Absent k o = (man-fits m (and-left (knownOrPawn m) true k) (and-left (on m) true o), tt)
 men-fit (Present m) (Present n) k o = (
-  man-fits m (and-left (known m) (known n && true) k) (and-left (on m) (on n && true) o),
-  man-fits n (and-left (known n) true (and-right (known m) (known n && true) k))
+  man-fits m (and-left (knownOrPawn m) (knownOrPawn n && true) k) (and-left (on m) (on n && true) o),
+  man-fits n (and-left (knownOrPawn n) true (and-right (knownOrPawn m) (knownOrPawn n && true) k))
       (and-left (on n) true (and-right (on m) (on n && true) o)),
 )
 
+-- legal by the rules of any ending
+legal-admitted : (m : Material) (b : Board) → T (legalIn m b) → T (legalWithPawn b)
+legal-admitted (Material.One kind) b t = legal-with-pawn b t
+legal-admitted (Material.Two j k r) b t = legal-with-pawn b t
+legal-admitted Material.Pawn b t = t
+
 -- a legal board's position fits, whatever its men
-after-fits : (p : Position) → T (legal (boardOf p)) → AfterFits p
+after-fits : (p : Position) → T (legalWithPawn (boardOf p)) → AfterFits p
 unfolding boardOf all
 after-fits p t =
-    let l = legal-facts (boardOf p) t in
+    let l = legalOf-facts knownOrPawn (boardOf p) t in
     let men = slotMen (p .first) ++ slotMen (p .second) in
     let w = ltb (p .«white_king») 64 in
     let k = ltb (p .«black_king») 64 in
@@ -148,16 +171,19 @@ after-fits p t =
       second = m .1;
     }
 
-pub played-fits : (p : Position) (from to : ℕ) → PlayedFits (playOf p from to)
-played-fits p from to = go (playOf p from to) refl
+pub played-fits : (p : Position) (from to becomes : ℕ) → PlayedFits (playOf p from to becomes)
+played-fits p from to becomes = go (playOf p from to becomes) refl
   where
-    go : (a : Played) → playOf p from to ≡ a → PlayedFits a
-    go (Played.At q) e = after-fits q (played-true p from to q e .legal-after)
+    go : (a : Played) → playOf p from to becomes ≡ a → PlayedFits a
+    go (Played.At q) e =
+        after-fits q
+        (legal-admitted (materialIn (boardOf p .men)) (boardOf q) (played-true p from to becomes q e .legal-after))
     go Played.NotLegal e = tt
     go (Played.Refused k) e =
-        let r = refused-played p from to k e in
-        subst RefusalFits (sym (r .0)) (refusal-fits (standingWith p) 6 (r .1) (standing-with-most p) (omega arith))
+        let r = refused-played p from to becomes k e in
+        subst RefusalFits (sym (r .0)) (refusal-fits (standingWith p) 18 (r .1) (standing-with-most p) (omega arith))
 
 -- so every field read from the word of a move played is the field of its answer
-pub played-told : (p : Position) (from to : ℕ) → playedRead (playedWord (playOf p from to)) ≡ playOf p from to
-played-told p from to = played-read (playOf p from to) (played-fits p from to)
+pub played-told : (p : Position) (from to becomes : ℕ)
+    → playedRead (playedWord (playOf p from to becomes)) ≡ playOf p from to becomes
+played-told p from to becomes = played-read (playOf p from to becomes) (played-fits p from to becomes)

@@ -7,7 +7,6 @@ use native.Mathlib.Omega.{arith}
 use lib.Dec.{eqb}
 use borrow.Author.Tests.{ne-eqb}
 use Rattle.rules.specs.declared.Move.{Move}
-use Rattle.rules.specs.Rules.{promotionOf}
 use Rattle.answers.specs.declared.BestMove.{BestMove}
 use Rattle.answers.specs.declared.Answer.{Answer}
 use Rattle.answers.specs.declared.Checked.{Checked}
@@ -147,12 +146,14 @@ checks-apart = one-word CheckedFits checkedWord checkedRead checked-read
 
 -- ---- look-up
 
--- the word of a value, a depth and a move, given (1) or not (0), that takes (1) or not (0), and a mark (1) or none (0)
-abbrev valueWord : ℕ → ℕ → ℕ → ℕ → ℕ → ℕ → ℕ → ℕ
-valueWord value depth given from to takes mark =
-    value * 2 ^ 8 + depth * 2 ^ 16 + (given * 2 ^ 24 + from * 2 ^ 32 + to * 2 ^ 40 + takes * 2 ^ 48) + mark * 2 ^ 25
+-- the word of a value, a depth and a move, given (1) or not (0), that takes (1) or not (0) and becomes this, and a mark
+-- (1) or none (0)
+abbrev valueWord : ℕ → ℕ → ℕ → ℕ → ℕ → ℕ → ℕ → ℕ → ℕ
+valueWord value depth given from to takes becomes mark =
+    value * 2 ^ 8 + depth * 2 ^ 16 + (given * 2 ^ 24 + from * 2 ^ 32 + to * 2 ^ 40 + takes * 2 ^ 48 + becomes * 2 ^ 56)
+    + mark * 2 ^ 25
 
-record ValueBits (value depth given from to takes mark word : ℕ) : Type 0 where
+record ValueBits (value depth given from to takes becomes mark word : ℕ) : Type 0 where
   none : bits 0 8 word ≡ 0
   value-read : bits 8 8 word ≡ value
   depth-read : bits 16 8 word ≡ depth
@@ -161,27 +162,30 @@ record ValueBits (value depth given from to takes mark word : ℕ) : Type 0 wher
   from-read : bits 32 8 word ≡ from
   to-read : bits 40 8 word ≡ to
   takes-read : bits 48 1 word ≡ takes
+  becomes-read : bits 56 8 word ≡ becomes
 
-value-bits : (v n g f t x k : ℕ) → Byte v → Byte n → g < 2 → Byte f → Byte t → x < 2 → k < 2
-    → ValueBits v n g f t x k (valueWord v n g f t x k)
-value-bits v n g f t x k hv hn hg hf ht hx hk =
-    let word = valueWord v n g f t x k in
+value-bits : (v n g f t x p k : ℕ) → Byte v → Byte n → g < 2 → Byte f → Byte t → x < 2 → Byte p → k < 2
+    → ValueBits v n g f t x p k (valueWord v n g f t x p k)
+value-bits v n g f t x p k hv hn hg hf ht hx hp hk =
+    let word = valueWord v n g f t x p k in
     let low = v * 2 ^ 8 + n * 2 ^ 16 in
     let lower = low + g * 2 ^ 24 + k * 2 ^ 25 in
     record {
-      none = field 0 8 0 0 (v + n * 2 ^ 8 + g * 2 ^ 16 + k * 2 ^ 17 + f * 2 ^ 24 + t * 2 ^ 32 + x * 2 ^ 40) word
-          (omega arith) (omega arith) (omega arith);
-      value-read = field 8 8 0 v (n + g * 2 ^ 8 + k * 2 ^ 9 + f * 2 ^ 16 + t * 2 ^ 24 + x * 2 ^ 32) word (omega arith)
-          (omega arith) hv;
-      depth-read = field 16 8 (v * 2 ^ 8) n (g + k * 2 + f * 2 ^ 8 + t * 2 ^ 16 + x * 2 ^ 24) word (omega arith)
-          (omega arith) hn;
+      none = field 0 8 0 0 (v + n * 2 ^ 8 + g * 2 ^ 16 + k * 2 ^ 17 + f * 2 ^ 24 + t * 2 ^ 32 + x * 2 ^ 40 + p * 2 ^ 48)
+          word (omega arith) (omega arith) (omega arith);
+      value-read = field 8 8 0 v (n + g * 2 ^ 8 + k * 2 ^ 9 + f * 2 ^ 16 + t * 2 ^ 24 + x * 2 ^ 32 + p * 2 ^ 40) word
+          (omega arith) (omega arith) hv;
+      depth-read = field 16 8 (v * 2 ^ 8) n (g + k * 2 + f * 2 ^ 8 + t * 2 ^ 16 + x * 2 ^ 24 + p * 2 ^ 32) word
+          (omega arith) (omega arith) hn;
       given-read =
-          field 24 1 low g (k + f * 2 ^ 7 + t * 2 ^ 15 + x * 2 ^ 23) word (omega arith) (omega arith) hg;
-      mark-read =
-          field 25 1 (low + g * 2 ^ 24) k (f * 2 ^ 6 + t * 2 ^ 14 + x * 2 ^ 22) word (omega arith) (omega arith) hk;
-      from-read = field 32 8 lower f (t + x * 2 ^ 8) word (omega arith) (omega arith) hf;
-      to-read = field 40 8 (lower + f * 2 ^ 32) t x word (omega arith) (omega arith) ht;
-      takes-read = field 48 1 (lower + f * 2 ^ 32 + t * 2 ^ 40) x 0 word (omega arith) (omega arith) hx;
+          field 24 1 low g (k + f * 2 ^ 7 + t * 2 ^ 15 + x * 2 ^ 23 + p * 2 ^ 31) word (omega arith) (omega arith) hg;
+      mark-read = field 25 1 (low + g * 2 ^ 24) k (f * 2 ^ 6 + t * 2 ^ 14 + x * 2 ^ 22 + p * 2 ^ 30) word (omega arith)
+          (omega arith) hk;
+      from-read = field 32 8 lower f (t + x * 2 ^ 8 + p * 2 ^ 16) word (omega arith) (omega arith) hf;
+      to-read = field 40 8 (lower + f * 2 ^ 32) t (x + p * 2 ^ 8) word (omega arith) (omega arith) ht;
+      takes-read = field 48 1 (lower + f * 2 ^ 32 + t * 2 ^ 40) x (p * 2 ^ 7) word (omega arith) (omega arith) hx;
+      becomes-read =
+          field 56 8 (lower + f * 2 ^ 32 + t * 2 ^ 40 + x * 2 ^ 48) p 0 word (omega arith) (omega arith) hp;
     }
 
 flag-fits : (x : Bool) → flagOf x < 2
@@ -196,28 +200,25 @@ flag-read false = refl
 abbrev marked : Bool → ℕ → ℕ
 marked x word = word + flagOf x * 2 ^ 25
 
--- a move that promotes nothing is its squares and its mark
-abbrev named : Move → ℕ → BestMove
-named m k = BestMove.Play (promotionOf (m .from) (m .to) (m .takes) k)
-
 module _ (x : Bool) where
   play-bits : (v n : ℕ) (m : Move) → Byte v → Byte n → AdviceFits (BestMove.Play m)
-      → ValueBits v n 1 (m .from) (m .to) (flagOf (m .takes)) (flagOf x)
+      → ValueBits v n 1 (m .from) (m .to) (flagOf (m .takes)) (m .becomes) (flagOf x)
       (marked x (v * 2 ^ 8 + n * 2 ^ 16 + adviceWord (BestMove.Play m)))
   play-bits v n m hv hn h =
-      value-bits v n 1 (m .from) (m .to) (flagOf (m .takes)) (flagOf x) hv hn (omega arith) (h .0) (h .1)
-      (flag-fits (m .takes)) (flag-fits x)
+      value-bits v n 1 (m .from) (m .to) (flagOf (m .takes)) (m .becomes) (flagOf x) hv hn (omega arith) (h .0) (h .1)
+      (flag-fits (m .takes)) (omega (arith, h .2)) (flag-fits x)
 
   none-bits : (v n : ℕ) → Byte v → Byte n
-      → ValueBits v n 0 0 0 0 (flagOf x) (marked x (v * 2 ^ 8 + n * 2 ^ 16 + adviceWord BestMove.NoMove))
+      → ValueBits v n 0 0 0 0 0 (flagOf x) (marked x (v * 2 ^ 8 + n * 2 ^ 16 + adviceWord BestMove.NoMove))
   none-bits v n hv hn =
-      value-bits v n 0 0 0 0 (flagOf x) hv hn (omega arith) (omega arith) (omega arith) (omega arith) (flag-fits x)
+      value-bits v n 0 0 0 0 0 (flagOf x) hv hn (omega arith) (omega arith) (omega arith) (omega arith) (omega arith)
+      (flag-fits x)
 
   advice-back : (v n : ℕ) (a : BestMove) → Byte v → Byte n → AdviceFits a
       → adviceRead (marked x (v * 2 ^ 8 + n * 2 ^ 16 + adviceWord a)) ≡ a
   advice-back v n (BestMove.Play m) hv hn h =
       let b = play-bits v n m hv hn h in
-      rw (b .given-read, b .from-read, b .to-read, b .takes-read, flag-read (m .takes)) (ap (named m) (sym (h .2)))
+      rw (b .given-read, b .from-read, b .to-read, b .takes-read, b .becomes-read, flag-read (m .takes))
   advice-back v n BestMove.NoMove hv hn h = let b = none-bits v n hv hn in rw (b .given-read)
 
   value-back : (v n : ℕ) (a : BestMove) → Byte v → Byte n → AdviceFits a
@@ -233,11 +234,11 @@ module _ (x : Bool) where
         b .from-read,
         b .to-read,
         b .takes-read,
+        b .becomes-read,
         flag-read (m .takes),
         b .mark-read,
         flag-read x,
       )
-      (ap (λ (k : ℕ). record { answer = valueRead v n (named m k); «within_fifty» = x }) (sym (h .2)))
   value-back v n BestMove.NoMove hv hn h =
       let b = none-bits v n hv hn in
       rw (b .none, b .value-read, b .depth-read, b .given-read, b .mark-read, flag-read x)

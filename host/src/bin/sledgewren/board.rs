@@ -1,6 +1,6 @@
 //! The board in text and as a picture.
 
-use sledgewren::{Keyed, Man, Move, Side, Square};
+use sledgewren::{Keyed, KeyedMan, Man, Move, Side, Square};
 
 use crate::words;
 
@@ -13,7 +13,11 @@ pub fn on(board: Keyed, square: Square) -> Option<char> {
         return Some(words::king(Side::Black));
     }
     let man = board.men.into_iter().flatten().find(|man| man.square == square.code())?;
-    Some(Man::from_code(man.kind)?.letter_of(Side::from_code(man.colour)?))
+    let owner = Side::from_code(man.colour)?;
+    match man.kind {
+        KeyedMan::PAWN => Some(words::pawn(owner)),
+        kind => Some(Man::from_code(kind)?.letter_of(owner)),
+    }
 }
 
 const FILES: &str = "    a b c d e f g h\n";
@@ -51,11 +55,13 @@ fn figure(letter: char) -> char {
         'R' => '\u{2656}',
         'B' => '\u{2657}',
         'N' => '\u{2658}',
+        'P' => '\u{2659}',
         'k' => '\u{265A}',
         'q' => '\u{265B}',
         'r' => '\u{265C}',
         'b' => '\u{265D}',
-        _ => '\u{265E}',
+        'n' => '\u{265E}',
+        _ => '\u{265F}',
     }
 }
 

@@ -13,9 +13,11 @@ pub struct Read {
 
 impl Read {
     /// With one man; two are refused 1.
-    pub fn one(&self) -> Result<Position, Failure> {
-        let two = || refused(Refusal::BadMan, "there are two men, and this serves one");
-        Position::keyed(self.keyed).ok_or_else(two)
+    pub fn one(&self) -> Result<Keyed, Failure> {
+        match self.keyed.men {
+            [Some(_), None] => Ok(self.keyed),
+            _ => Err(refused(Refusal::BadMan, "there are two men, and this serves one")),
+        }
     }
 }
 
@@ -104,23 +106,27 @@ fn king(found: &[(char, Square)], letter: char, name: &str) -> Result<Square, Fa
     }
 }
 
-/// The man and his owner of a letter; none for a pawn.
-fn man_of(letter: char) -> Option<(Man, Side)> {
+/// The man of a letter on a square.
+fn man_of(&(letter, at): &(char, Square)) -> KeyedMan {
     let owner = if letter.is_ascii_uppercase() { Side::White } else { Side::Black };
-    Man::ALL.into_iter().find(|man| man.letter_of(owner) == letter).map(|man| (man, owner))
+    let piece = Man::ALL.into_iter().find(|man| man.letter_of(owner) == letter);
+    let kind = piece.map_or(KeyedMan::PAWN, Man::code);
+    KeyedMan { kind, colour: owner.code(), square: at.code() }
 }
 
-/// One man or two; no man and more than two have no table.
+/// One man or two; no man, more than two, and a pawn with a second man have no table.
 fn keyed_men(men: &[(char, Square)]) -> Result<[Option<KeyedMan>; 2], Failure> {
-    let keyed = |&(letter, at): &(char, Square)| match man_of(letter) {
-        Some((man, owner)) => {
-            Ok(KeyedMan { kind: man.code(), colour: owner.code(), square: at.code() })
-        }
-        None => Err(refused(Refusal::BadMan, &format!("there is a pawn on {at}"))),
-    };
     match men {
-        [one] => Ok([Some(keyed(one)?), None]),
-        [one, two] => Ok([Some(keyed(one)?), Some(keyed(two)?)]),
+        [one] => Ok([Some(man_of(one)), None]),
+        [one, two] => {
+            if let Some((_, at)) =
+                [one, two].into_iter().find(|(letter, _)| matches!(letter, 'P' | 'p'))
+            {
+                let words = format!("there is a pawn on {at}, and he is served alone");
+                return Err(refused(Refusal::BadMan, &words));
+            }
+            Ok([Some(man_of(one)), Some(man_of(two))])
+        }
         [] => Err(refused(Refusal::BadMan, "there is none")),
         _ => {
             let listed: Vec<String> =
@@ -131,17 +137,32 @@ fn keyed_men(men: &[(char, Square)]) -> Result<[Option<KeyedMan>; 2], Failure> {
     }
 }
 
-/// Castling and en passant would change what may be played, so they are refused. The halfmove
-/// clock is handed on.
-fn extras(fields: &[&str]) -> Result<Option<u32>, Failure> {
+/// Whether a lone pawn went two squares and passed this one: nobody can take him there, so that
+/// the square changes nothing.
+fn passed(square: &str, men: [Option<KeyedMan>; 2]) -> bool {
+    let [Some(KeyedMan { kind: KeyedMan::PAWN, colour, square: at }), None] = men else {
+        return false;
+    };
+    let behind = match (colour, at / 8) {
+        (0, 3) => at - 8,
+        (1, 4) => at + 8,
+        _ => return false,
+    };
+    Square::from_code(behind).is_some_and(|behind| behind.to_string() == square)
+}
+
+/// Castling and en passant would change what may be played, so they are refused, but behind a lone
+/// pawn. The halfmove clock is handed on.
+fn extras(fields: &[&str], men: [Option<KeyedMan>; 2]) -> Result<Option<u32>, Failure> {
     if let Some(castling) = fields.first().filter(|castling| **castling != "-") {
         let words = "not ruled: FEN gives castling rights";
         let advice = "the tables know no castling; write - if nobody may castle";
         return Err(Failure::Refused(format!("{words} ({castling}), and {advice}")));
     }
-    if let Some(square) = fields.get(1).filter(|square| **square != "-") {
+    if let Some(square) = fields.get(1).filter(|&&square| square != "-" && !passed(square, men)) {
         let words = "not ruled: FEN gives an en-passant square";
-        return Err(Failure::Refused(format!("{words} ({square}), and there are no pawns")));
+        let why = "and no pawn went past it and can be taken";
+        return Err(Failure::Refused(format!("{words} ({square}), {why}")));
     }
     let mut clock = None;
     for (place, name) in [(2, "halfmove clock"), (3, "move number")] {
@@ -170,7 +191,7 @@ fn from_fen(text: &str) -> Result<Read, Failure> {
     let men: Vec<(char, Square)> =
         found.into_iter().filter(|(piece, _)| !matches!(piece, 'K' | 'k')).collect();
     let men = keyed_men(&men)?;
-    let clock = extras(rest)?;
+    let clock = extras(rest, men)?;
     let [white_king, black_king] = [white_king, black_king].map(Square::code);
     Ok(Read { keyed: Keyed { side: side.code(), white_king, black_king, men }, clock })
 }
@@ -214,6 +235,18 @@ mod tests {
             let position: Position = line.parse().unwrap();
             let read = from_fen(&written(position.into())).ok().unwrap();
             assert_eq!((Position::keyed(read.keyed), read.clock), (Some(position), Some(0)));
+        }
+        for text in ["8/P7/8/8/8/8/2K5/k7 w - - 0 1", "8/8/8/8/4K3/7k/p7/8 b - - 0 1"] {
+            assert_eq!(from_fen(text).ok().map(|read| written(read.keyed)), Some(text.to_string()));
+        }
+    }
+
+    #[test]
+    fn squares_behind_a_pawn() {
+        assert!(from_fen("8/8/8/4k3/P7/8/8/4K3 b - a3 0 1").is_ok());
+        assert!(from_fen("4k3/8/8/7p/8/4K3/8/8 w - h6 0 1").is_ok());
+        for wrong in ["8/8/8/4k3/P7/8/8/4K3 b - b3 0 1", "8/8/8/4k3/8/P7/8/4K3 b - a2 0 1"] {
+            assert!(from_fen(wrong).is_err(), "{wrong}");
         }
     }
 }

@@ -1,11 +1,13 @@
 //! Playing on: a move as players write it, and the line of best play.
 
-use sledgewren::{entry, Accepted, Answer, FourMen, Keyed, Man, Marked, Move, Refusal, Side};
+use sledgewren::{entry, Accepted, Answer, FourMen, Keyed, KeyedMan, KingAndPawn, Man, Marked};
+use sledgewren::{Move, Refusal, Side};
 
 /// The tables that a position is looked up in.
 pub enum Tables<'a> {
     One(&'a Accepted),
     Two(&'a FourMen<'a>),
+    Pawn(&'a KingAndPawn<'a>),
 }
 
 impl Tables<'_> {
@@ -17,6 +19,7 @@ impl Tables<'_> {
         match self {
             Tables::One(table) => table.table().look_up_at(keyed, plies),
             Tables::Two(tables) => tables.look_up_at(keyed, plies),
+            Tables::Pawn(tables) => tables.look_up_at(keyed, plies),
         }
     }
 }
@@ -28,10 +31,13 @@ fn is_check(keyed: Keyed) -> bool {
     entry::count(exchanged) == Err(Refusal::OtherInCheck)
 }
 
-/// The letter of the piece on a move's from-square.
-fn letter(keyed: Keyed, chosen: Move) -> char {
+/// The letter of the piece on a move's from-square; a pawn has none.
+fn letter(keyed: Keyed, chosen: Move) -> String {
     let man = keyed.men.into_iter().flatten().find(|man| man.square == chosen.from.code());
-    man.and_then(|man| Man::from_code(man.kind)).map_or('K', Man::letter)
+    match man {
+        Some(KeyedMan { kind: KeyedMan::PAWN, .. }) => String::new(),
+        _ => man.and_then(|man| Man::from_code(man.kind)).map_or('K', Man::letter).to_string(),
+    }
 }
 
 /// What tells a move from another one of a like man to the same square: its file, its rank or
@@ -56,18 +62,19 @@ fn origin(keyed: Keyed, chosen: Move) -> Result<String, Refusal> {
     Ok(from)
 }
 
-/// Standard algebraic notation: `Qg1#`, `Kxb2`, `Rad1`.
+/// Standard algebraic notation: `Qg1#`, `Kxb2`, `Rad1`, `a8=Q#`.
 pub fn san(keyed: impl Into<Keyed>, chosen: Move) -> Result<String, Refusal> {
     let keyed = keyed.into();
     let (letter, origin) = (letter(keyed, chosen), origin(keyed, chosen)?);
     let takes = if chosen.takes { "x" } else { "" };
-    let next = entry::play(keyed, chosen.from.code(), chosen.to.code())?;
+    let becomes = chosen.becomes.map_or(String::new(), |man| format!("={}", man.letter()));
+    let next = keyed.play(chosen)?;
     let mark = match next.filter(|next| next.men[0].is_some() && is_check(*next)) {
         Some(next) if entry::count(next)? == 0 => "#",
         Some(_) => "+",
         None => "",
     };
-    Ok(format!("{letter}{origin}{takes}{}{mark}", chosen.to))
+    Ok(format!("{letter}{origin}{takes}{}{becomes}{mark}", chosen.to))
 }
 
 /// The moves that the tables give to both sides, up to mate.
@@ -76,7 +83,7 @@ pub fn line(tables: &Tables, keyed: impl Into<Keyed>) -> Result<Vec<String>, Ref
     // A depth is at most 253, and each of these moves takes one ply off it.
     while let Some(best) = tables.look_up(keyed)?.best() {
         moves.push(san(keyed, best)?);
-        match entry::play(keyed, best.from.code(), best.to.code())? {
+        match keyed.play(best)? {
             Some(next) if moves.len() < 254 && next.men[0].is_some() => keyed = next,
             _ => break,
         }

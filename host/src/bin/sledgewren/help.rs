@@ -9,16 +9,18 @@ struct Page {
     examples: &'static [&'static str],
 }
 
-const ABOUT: &str = "rules on chess positions of two kings and one man or two, and makes tables";
+const ABOUT: &str =
+    "rules on chess positions of two kings and one piece, two or a pawn, and makes tables";
 
 const INTRODUCTION: &[&str] = &[
-    "A position is two kings and one queen, rook, bishop or knight of either side, or two of them. \
-     It is given in FEN, or with one man as a line of the desk: the man (Q R B N, Black's q r b n), the side to move (w b), \
-     the white king, the man and the black king, as Q w b3 h2 a1; or the man, # and a number with \
-     its check digits, as Q # 0204962.",
+    "A position is two kings and one queen, rook, bishop or knight of either side, or two of them, \
+     or one pawn. It is given in FEN, or with one piece as a line of the desk: the man (Q R B N, \
+     Black's q r b n), the side to move (w b), the white king, the man and the black king, as \
+     Q w b3 h2 a1; or the man, # and a number with its check digits, as Q # 0204962.",
     "Every value, move and verdict is the proved library's.",
-    "A MAN is Q, R, B or N, or queen, rook, bishop or knight. An ENDING is a man, or is named by \
-     its pieces, as KQK, KQRK (both of one side) or KQKR (one each). A table serves both colours.",
+    "A MAN is Q, R, B or N, or queen, rook, bishop or knight. An ENDING is a man or P or pawn, or \
+     is named by its pieces, as KQK, KQRK (both of one side), KQKR (one each) or KPK. A table \
+     serves both colours.",
 ];
 
 const STATUSES: &[&str] = &[
@@ -37,18 +39,20 @@ const PAGES: &[Page] = &[
             "Prints the board, the value with its moves and plies, the best move in standard \
              notation and in the desk's form, the line of best play to mate, the second opinion \
              of a search without tables (up to 6 plies), the desk's slip and the number.",
-            "With two men there is no second opinion, slip or typed number. Their table is filled, \
-             which takes some seconds and is told on standard error, or read from --table \
-             FILE and checked.",
+            "With two men or a pawn there is no second opinion, slip or typed number. Their table \
+             is filled, which takes some seconds with two men and is told on standard error, or read \
+             from --table FILE and checked.",
             "--svg FILE draws the board, with the move as an arrow.",
-            "FEN's castling rights and en-passant square are refused: the tables know neither. Its \
-             halfmove clock is the plies since the last capture: it is told whether a win or a \
-             loss comes before a claim by the fifty-move rule. A third man, a pawn or no man at \
-             all is refused.",
+            "FEN's castling rights and en-passant square are refused, but for the square behind a \
+             lone pawn, whom nobody can take there: the tables know neither. Its halfmove clock is \
+             the plies since the last capture: it is told whether a win or a loss comes before a \
+             claim by the fifty-move rule, with a pawn not. A third man, a pawn with a second man \
+             or no man at all is refused.",
         ],
         examples: &[
             "sledgewren rule Q w b3 h2 a1",
             "sledgewren rule \"8/8/8/8/8/1K6/7Q/k7 w - - 0 1\"",
+            "sledgewren rule \"8/P7/8/8/8/8/2K5/k7 w - - 0 1\"",
         ],
     },
     Page {
@@ -56,8 +60,9 @@ const PAGES: &[Page] = &[
         usage: "sledgewren fill [--steps] ENDING FILE",
         about: "makes an ending's table",
         text: &[
-            "Fills the table, has it checked and writes its 59,136 bytes, 3,784,704 with two men. The file is written beside its \
-             place and renamed, so that FILE has its old bytes or all of the new ones.",
+            "Fills the table, has it checked and writes its 59,136 bytes, 3,784,704 with two men, \
+             196,608 with a pawn. The file is written beside its place and renamed, so that FILE has \
+             its old bytes or all of the new ones.",
             "That it fills goes to standard error, at a terminal with the seconds. With --steps it \
              fills a depth at a time, which takes longer, and shows each: a bar at a terminal, \
              plain lines elsewhere. The bytes are the same.",
@@ -112,10 +117,14 @@ const PAGES: &[Page] = &[
         about: "plays a position against you",
         text: &[
             "You have the side to move, or the one that --side names; the desk answers each move \
-             with its own, until mate, stalemate or bare kings. Type a move as h2g1 or Qg1, \
-             moves for the list of legal ones, board, or quit. A draw goes on as long as you like.",
+             with its own, until mate, stalemate or bare kings. Type a move as h2g1 or Qg1, a pawn's \
+             promotion as a7a8q or a8=Q, moves for the list of legal ones, board, or quit. A draw \
+             goes on as long as you like. Two men are not played.",
         ],
-        examples: &["sledgewren play R w e3 h1 e5"],
+        examples: &[
+            "sledgewren play R w e3 h1 e5",
+            "sledgewren play \"8/8/8/4k3/8/4K3/4P3/8 w - - 0 1\"",
+        ],
     },
 ];
 

@@ -19,12 +19,9 @@ fn show(text: &str) {
     let _ = screen.write_all(text.as_bytes()).and_then(|()| screen.flush());
 }
 
-/// One man by his name, as arbiters say; two by their letters.
+/// One piece by its name, as arbiters say; the others by their letters.
 fn name_of(ending: Ending) -> String {
-    match ending.second() {
-        None => ending.first().to_string(),
-        Some(_) => ending.to_string(),
-    }
+    ending.only().map_or_else(|| ending.to_string(), |man| man.to_string())
 }
 
 fn end(name: &str, greatest: Option<u8>, settled: u32, legal: u32) -> String {
@@ -50,16 +47,24 @@ fn with_seconds<T: Send>(name: &str, work: impl FnOnce() -> T + Send) -> T {
     })
 }
 
-/// Fills a table at once, by the quicker fill.
+/// The quicker fill, which does not take a pawn.
+fn filled(ending: Ending, lent: Lent, table: &mut [u8]) -> Result<Option<u8>, Refusal> {
+    match ending {
+        Ending::PAWN => entry::fill(ending, lent, table),
+        _ => entry::fill_back(ending, lent, table),
+    }
+}
+
+/// Fills a table at once.
 pub fn at_once(ending: Ending, lent: Lent, table: &mut [u8]) -> Result<String, Refusal> {
     let name = name_of(ending);
     let greatest = if io::stderr().is_terminal() {
-        let greatest = with_seconds(&name, || entry::fill_back(ending, lent, table));
+        let greatest = with_seconds(&name, || filled(ending, lent, table));
         show("\r\x1b[K");
         greatest?
     } else {
         show(&format!("{name}: filling\n"));
-        entry::fill_back(ending, lent, table)?
+        filled(ending, lent, table)?
     };
     let above = |least: u8| table.iter().filter(|&&byte| byte > least).count() as u32;
     Ok(end(&name, greatest, above(1), above(0)))

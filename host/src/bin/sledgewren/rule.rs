@@ -3,7 +3,7 @@
 use std::io::Write;
 
 use sledgewren::{entry, Position, Refusal, Side, Value, MOST_PLIES};
-use sledgewren::{second_opinion, Accepted, Answer, Ending, Keyed, Opinion};
+use sledgewren::{second_opinion, Accepted, Answer, Ending, FourTables, Keyed, Opinion};
 
 use crate::failure::{Done, Failure};
 use crate::fen::{self, Read};
@@ -29,6 +29,7 @@ fn opinion(position: Position, answer: Answer) -> Result<String, Failure> {
 fn fifty(tables: &Tables, keyed: Keyed, clock: u32) -> Result<String, Failure> {
     match tables.look_up_at(keyed, clock) {
         Ok(marked) if marked.answer.depth().is_none() => Ok("a draw, whatever the count".into()),
+        Ok(_) if Ending::of(keyed) == Some(Ending::PAWN) => Ok("not told with a pawn".into()),
         Ok(marked) => Ok(format!("{marked} ({clock})")),
         Err(Refusal::TooManyQuiet) => Ok(format!("{}: {clock}", Refusal::TooManyQuiet)),
         Err(refusal) => Err(refusal.into()),
@@ -110,17 +111,29 @@ pub fn run(words: &[String], out: &mut dyn Write) -> Done {
     entry::count(read.keyed)?;
     let ending = Ending::of(read.keyed).ok_or(Refusal::BadMan)?;
     let file = asked.table.as_deref();
-    let Some(second) = ending.second() else {
-        let table = match file {
-            Some(path) => tables::accepted(ending.first(), path)?,
-            None => Accepted::filled(ending.first())?,
-        };
-        return ruled(out, &read, &asked, &Tables::One(&table));
-    };
-    let (first, second) = (Accepted::filled(ending.first())?, Accepted::filled(second)?);
-    let four = match file {
-        Some(path) => tables::accepted_two(ending, &first, &second, path)?,
-        None => tables::filled_two(ending, &first, &second, progress::at_once)?.0,
-    };
-    ruled(out, &read, &asked, &Tables::Two(&four))
+    match (ending.first(), ending.second()) {
+        (Some(man), None) => {
+            let table = match file {
+                Some(path) => tables::accepted(man, path)?,
+                None => Accepted::filled(man)?,
+            };
+            ruled(out, &read, &asked, &Tables::One(&table))
+        }
+        (Some(first), Some(second)) => {
+            let (first, second) = (Accepted::filled(first)?, Accepted::filled(second)?);
+            let four = match file {
+                Some(path) => tables::accepted_two(ending, &first, &second, path)?,
+                None => tables::filled_two(ending, &first, &second, progress::at_once)?.0,
+            };
+            ruled(out, &read, &asked, &Tables::Two(&four))
+        }
+        (None, _) => {
+            let four = FourTables::filled()?;
+            let table = match file {
+                Some(path) => tables::accepted_pawn(&four, path)?,
+                None => tables::filled_pawn(&four, progress::at_once)?.0,
+            };
+            ruled(out, &read, &asked, &Tables::Pawn(&table))
+        }
+    }
 }

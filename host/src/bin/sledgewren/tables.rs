@@ -3,8 +3,9 @@
 use std::io::Write;
 
 use sledgewren::entry::{self, Lent};
-use sledgewren::{Accepted, Checked, Choice, Ending, FourMen, Man, Pocket, Position, Set, Table};
-use sledgewren::{LARGE_TABLE_BYTES, POCKET_BYTES, TABLE_BYTES};
+use sledgewren::{Accepted, Checked, Choice, Ending, FourMen, FourTables, KingAndPawn, Man};
+use sledgewren::{NotAcceptedLarge, Pocket, Position, Set, Table};
+use sledgewren::{LARGE_TABLE_BYTES, PAWN_TABLE_BYTES, POCKET_BYTES, TABLE_BYTES};
 
 use crate::failure::{Done, Failure};
 use crate::files;
@@ -55,24 +56,63 @@ pub fn accepted_two<'a>(
     second: &'a Accepted,
     path: &str,
 ) -> Result<FourMen<'a>, Failure> {
+    FourMen::accept(ending, first, second, long(ending, path)?)
+        .map_err(|not| not_accepted(ending, path, not))
+}
+
+/// King and pawn's table over those of the four pieces, filled with its progress shown and then
+/// judged; and the words for the end.
+pub fn filled_pawn(four: &FourTables, fill: Fill) -> Result<(KingAndPawn<'_>, String), Failure> {
+    let mut bytes = vec![0; PAWN_TABLE_BYTES].into_boxed_slice();
+    let end = fill(Ending::PAWN, four.lent(), &mut bytes)?;
+    match KingAndPawn::accept(four, bytes) {
+        Ok(table) => Ok((table, end)),
+        Err(not) => Err(Failure::Refused(format!("{}: {not}", Ending::PAWN))),
+    }
+}
+
+/// A file's bytes as king and pawn's table.
+pub fn accepted_pawn<'a>(four: &'a FourTables, path: &str) -> Result<KingAndPawn<'a>, Failure> {
+    KingAndPawn::accept(four, long(Ending::PAWN, path)?)
+        .map_err(|not| not_accepted(Ending::PAWN, path, not))
+}
+
+/// The bytes of a file that is as long as the ending's table.
+fn long(ending: Ending, path: &str) -> Result<Box<[u8]>, Failure> {
     let bytes = files::read(path)?;
-    if bytes.len() != LARGE_TABLE_BYTES {
-        let known = format!("a table of {ending} has {LARGE_TABLE_BYTES}");
+    if bytes.len() != ending.table_bytes() {
+        let known = format!("a table of {ending} has {}", ending.table_bytes());
         return Err(Failure::Refused(format!("{}; {known}", length(path, &bytes))));
     }
-    FourMen::accept(ending, first, second, bytes.into()).map_err(|not| match not.why {
+    Ok(bytes.into())
+}
+
+fn not_accepted(ending: Ending, path: &str, not: NotAcceptedLarge) -> Failure {
+    match not.why {
         Ok(number) => {
             let words = format!("not the table of {ending}: the lowest wrong number is {number}");
             Failure::Refused(format!("{path}: {words}"))
         }
         Err(refusal) => refusal.into(),
-    })
+    }
 }
 
-/// The tables of one man that an ending with two leads into.
-fn small(ending: Ending) -> Result<[Accepted; 2], Failure> {
-    let second = ending.second().unwrap_or(ending.first());
-    Ok([Accepted::filled(ending.first())?, Accepted::filled(second)?])
+/// What an ending's table is made of or judged by: its one piece, the tables of its two, or a
+/// pawn's four.
+enum Ground {
+    One(Man),
+    Two([Accepted; 2]),
+    Pawn(FourTables),
+}
+
+fn ground(ending: Ending) -> Result<Ground, Failure> {
+    Ok(match (ending.first(), ending.second()) {
+        (Some(man), None) => Ground::One(man),
+        (Some(first), Some(second)) => {
+            Ground::Two([Accepted::filled(first)?, Accepted::filled(second)?])
+        }
+        (None, _) => Ground::Pawn(FourTables::filled()?),
+    })
 }
 
 pub fn fill(words: &[String], out: &mut dyn Write) -> Done {
@@ -80,17 +120,24 @@ pub fn fill(words: &[String], out: &mut dyn Write) -> Done {
     let [name, path] = exactly(&words, "an ending and a file")?;
     let ending = ending(&name)?;
     let fill: Fill = if steps { progress::in_steps } else { progress::at_once };
-    let end = if ending.second().is_some() {
-        let [first, second] = small(ending)?;
-        let (four, end) = filled_two(ending, &first, &second, fill)?;
-        files::replace(&path, four.bytes())?;
-        end
-    } else {
-        let mut table = vec![0; TABLE_BYTES];
-        let end = fill(ending, Lent::NONE, &mut table)?;
-        judged(ending.first(), &table)?;
-        files::replace(&path, &table)?;
-        end
+    let end = match ground(ending)? {
+        Ground::Two([first, second]) => {
+            let (four, end) = filled_two(ending, &first, &second, fill)?;
+            files::replace(&path, four.bytes())?;
+            end
+        }
+        Ground::Pawn(four) => {
+            let (table, end) = filled_pawn(&four, fill)?;
+            files::replace(&path, table.bytes())?;
+            end
+        }
+        Ground::One(man) => {
+            let mut table = vec![0; TABLE_BYTES];
+            let end = fill(ending, Lent::NONE, &mut table)?;
+            judged(man, &table)?;
+            files::replace(&path, &table)?;
+            end
+        }
     };
     Ok(writeln!(out, "{end}; {path}: {} bytes, accepted", ending.table_bytes())?)
 }
@@ -130,14 +177,19 @@ pub fn accepted(man: Man, path: &str) -> Result<Accepted, Failure> {
 pub fn check(words: &[String], out: &mut dyn Write) -> Done {
     let [name, path] = exactly(words, "an ending and a file")?;
     let ending = ending(&name)?;
-    if ending.second().is_some() {
-        let [first, second] = small(ending)?;
-        accepted_two(ending, &first, &second, &path)?;
-        return Ok(writeln!(out, "{path}: accepted, the true table of {ending}")?);
+    match ground(ending)? {
+        Ground::Two([first, second]) => {
+            accepted_two(ending, &first, &second, &path)?;
+        }
+        Ground::Pawn(four) => {
+            accepted_pawn(&four, &path)?;
+        }
+        Ground::One(man) => {
+            accepted(man, &path)?;
+            return Ok(writeln!(out, "{path}: accepted, the {man}'s true table")?);
+        }
     }
-    let man = ending.first();
-    accepted(man, &path)?;
-    Ok(writeln!(out, "{path}: accepted, the {man}'s true table")?)
+    Ok(writeln!(out, "{path}: accepted, the true table of {ending}")?)
 }
 
 pub fn pack(words: &[String], out: &mut dyn Write) -> Done {

@@ -36,6 +36,14 @@ pub fn king(side: Side) -> char {
     }
 }
 
+/// FEN's letter of a pawn.
+pub fn pawn(side: Side) -> char {
+    match side {
+        Side::White => 'P',
+        Side::Black => 'p',
+    }
+}
+
 /// The words, where there are no options.
 pub fn plain(words: &[String]) -> Result<Vec<String>, Failure> {
     match words.iter().find(|word| word.starts_with("--")) {
@@ -78,10 +86,11 @@ pub fn first_option(
     Ok((found, rest))
 }
 
-/// An ending by its name, as KQK or KQKR, or one man by his letter or name.
+/// An ending by its name, as KQK or KQKR, or one man by his letter or name; a pawn too.
 pub fn ending(word: &str) -> Result<Ending, Failure> {
     match word.parse::<Ending>() {
         Ok(ending) => Ok(ending),
+        Err(_) if matches!(word, "P" | "pawn") => Ok(Ending::PAWN),
         Err(_) => Ok(Ending::one(man(word)?)),
     }
 }

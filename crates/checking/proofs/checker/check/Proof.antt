@@ -7,13 +7,13 @@ use Rattle.checking.specs.laws.Laws.{refused-ending, refused-lengths, th
 use Rattle.checking.proofs.checker.check.Statement.{statement}
 use Rattle.checking.proofs.checker.check.Tie as tie
 
-is-known-requires : tie.Need-is-known-requires
-is-known-requires c κs = tt
+is-given-requires : tie.Need-is-given-requires
+is-given-requires c κs = tt
 
 returns : tie.Need-returns
 returns c =
     let t = c .before .before .before .args .table .now in
-    one-promised _ (lent t t) _ _ (refused-ending _ _ _ _ (c .before .is-known .ensures) (not-true _ (c .if1 .taken)))
+    one-promised _ (lent t t) _ _ (refused-ending _ _ _ _ (c .before .is-given .ensures) (not-true _ (c .if1 .taken)))
 
 lengths-fit-requires : tie.Need-lengths-fit-requires
 lengths-fit-requires c κs = tt
@@ -23,7 +23,7 @@ returns-2 c =
     let k = c .before .before in
     let t = k .before .before .before .args .table .now in
     one-promised _ (lent t t) _ _
-    (refused-lengths _ _ _ _ (k .before .is-known .ensures) (not-false _ (k .if1 .left)) _
+    (refused-lengths _ _ _ _ (k .before .is-given .ensures) (not-false _ (k .if1 .left)) _
     (c .before .lengths-fit .ensures) (not-true _ (c .if2 .taken)))
 
 men-of-requires : tie.Need-men-of-requires
@@ -34,7 +34,7 @@ lowest-wrong-requires c κs =
     let f = c .before in
     let k = f .before .before in
     let t = k .before .before .before .args .table .now in
-    their-table _ (lent t t) t _ (k .before .is-known .ensures) (not-false _ (k .if1 .left)) _ (f .before .lengths-fit .ensures)
+    their-table _ (lent t t) t _ (k .before .is-given .ensures) (not-false _ (k .if1 .left)) _ (f .before .lengths-fit .ensures)
     (not-false _ (f .if2 .left)) _ (c .men-of .ensures)
 
 returns-3 : tie.Need-returns-3
@@ -43,11 +43,11 @@ returns-3 c =
     let k = f .before .before in
     let t = k .before .before .before .args .table .now in
     one-promised _ (lent t t) _ _
-    (found-last _ _ _ _ (k .before .is-known .ensures) (not-false _ (k .if1 .left)) _ (f .before .lengths-fit .ensures)
+    (found-last _ _ _ _ (k .before .is-given .ensures) (not-false _ (k .if1 .left)) _ (f .before .lengths-fit .ensures)
     (not-false _ (f .if2 .left)) true refl refl (c .before .men-of .result) (c .before .men-of .ensures) _ (c .lowest-wrong .ensures))
 
 pub check-spec : {M : Type 1} → statement M
 check-spec =
     tie.close
-    (tie.spec is-known-requires returns lengths-fit-requires returns-2 men-of-requires lowest-wrong-requires
+    (tie.spec is-given-requires returns lengths-fit-requires returns-2 men-of-requires lowest-wrong-requires
     returns-3)

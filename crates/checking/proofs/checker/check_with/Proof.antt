@@ -5,13 +5,13 @@ use Rattle.checking.specs.laws.Laws.{refused-ending, refused-lengths, th
 use Rattle.checking.proofs.checker.check_with.Statement.{statement}
 use Rattle.checking.proofs.checker.check_with.Tie as tie
 
-is-known-requires : tie.Need-is-known-requires
-is-known-requires c κs = tt
+is-given-requires : tie.Need-is-given-requires
+is-given-requires c κs = tt
 
 returns : tie.Need-returns
 returns c =
     check-promised-with _ _ _ _
-    (refused-ending _ _ _ _ (c .before .is-known .ensures) (not-true _ (c .if1 .taken)))
+    (refused-ending _ _ _ _ (c .before .is-given .ensures) (not-true _ (c .if1 .taken)))
 
 lengths-fit-requires : tie.Need-lengths-fit-requires
 lengths-fit-requires c κs = tt
@@ -20,7 +20,7 @@ returns-2 : tie.Need-returns-2
 returns-2 c =
     let k = c .before .before in
     check-promised-with _ _ _ _
-    (refused-lengths _ _ _ _ (k .before .is-known .ensures) (not-false _ (k .if1 .left)) _
+    (refused-lengths _ _ _ _ (k .before .is-given .ensures) (not-false _ (k .if1 .left)) _
     (c .before .lengths-fit .ensures) (not-true _ (c .if2 .taken)))
 
 lent-accepted-requires : tie.Need-lent-accepted-requires
@@ -31,7 +31,7 @@ returns-3 c =
     let f = c .before .before in
     let k = f .before .before in
     check-promised-with _ _ _ _
-    (refused-lent _ _ _ _ (k .before .is-known .ensures) (not-false _ (k .if1 .left)) _
+    (refused-lent _ _ _ _ (k .before .is-given .ensures) (not-false _ (k .if1 .left)) _
     (f .before .lengths-fit .ensures) (not-false _ (f .if2 .left)) _ (c .before .lent-accepted .ensures)
     (not-true _ (c .if3 .taken)))
 
@@ -42,7 +42,7 @@ lowest-wrong-requires : tie.Need-lowest-wrong-requires
 lowest-wrong-requires c κs =
     let f = c .before .before .before in
     let k = f .before .before in
-    their-table _ _ _ _ (k .before .is-known .ensures) (not-false _ (k .if1 .left)) _ (f .before .lengths-fit .ensures)
+    their-table _ _ _ _ (k .before .is-given .ensures) (not-false _ (k .if1 .left)) _ (f .before .lengths-fit .ensures)
     (not-false _ (f .if2 .left)) _ (c .men-of .ensures)
 
 returns-4 : tie.Need-returns-4
@@ -51,12 +51,12 @@ returns-4 c =
     let f = a .before .before in
     let k = f .before .before in
     check-promised-with _ _ _ _
-    (found-last _ _ _ _ (k .before .is-known .ensures) (not-false _ (k .if1 .left)) _ (f .before .lengths-fit .ensures)
+    (found-last _ _ _ _ (k .before .is-given .ensures) (not-false _ (k .if1 .left)) _ (f .before .lengths-fit .ensures)
     (not-false _ (f .if2 .left)) _ (a .before .lent-accepted .ensures) (not-false _ (a .if3 .left))
     (c .before .men-of .result) (c .before .men-of .ensures) _ (c .lowest-wrong .ensures))
 
 pub check-with-spec : {M : Type 1} → statement M
 check-with-spec =
     tie.close
-    (tie.spec is-known-requires returns lengths-fit-requires returns-2 lent-accepted-requires returns-3
+    (tie.spec is-given-requires returns lengths-fit-requires returns-2 lent-accepted-requires returns-3
     men-of-requires lowest-wrong-requires returns-4)

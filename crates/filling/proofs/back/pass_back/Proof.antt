@@ -13,7 +13,7 @@ pass-captures-requires c κs = let s = c .before .before .before .before in (s .
 pass-own-requires : tie.Need-pass-own-requires
 pass-own-requires c κs =
     let s = c .before .before .before .before .before .before .before .before in
-    (s .pre .0, s .pre .1, admitted-kept _ _ _ _ (s .pre .2) _ (c .before .before .before .pass-captures .ensures .0 .long))
+    (s .pre .0, s .pre .1, admitted-kept _ _ _ _ (s .pre .2) _ (c .before .before .before .pass-captures .ensures .0 .long), s .pre .3 .0)
 
 add-result : tie.Need-add-result
 add-result c =

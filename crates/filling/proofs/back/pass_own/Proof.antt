@@ -29,6 +29,7 @@ try-at-requires c κs =
       s .pre .1,
       omega (arith, c .before .loop-test .taken, i .1 .0 .long),
       admitted-kept _ _ _ _ (s .pre .2) _ (i .1 .0 .long),
+      s .pre .3,
     )
 
 add-settled : tie.Need-add-settled Inv-loop μ-loop

@@ -38,7 +38,7 @@ try-into-requires c κs =
       s .pre .3,
       place-legal (s .args .m) (s .args .first .now) (s .args .second .now) (s .args .k) (s .args .j) _
           (told-legal _ _ _ _ (c .before .before .standing .given .1)
-          (c .before .before .before .before .legal-at .ensures (s .pre .3 .ending) (s .pre .3 .colour) h)),
+          (c .before .before .before .before .legal-at .ensures (s .pre .4) (s .pre .3 .colour) h)),
     )
 
 enum-told : tie.Need-enum-told
@@ -54,7 +54,7 @@ returns-2 c =
     at-legal (s .args .m) (s .args .first .now) (s .args .second .now) (s .args .k) (s .args .j) _ (s .pre .3) _ _ _ (s .pre .2)
     (c .before .before .before .before .before .before .before .before .if1 .left)
     (told-legal _ _ _ _ (c .before .before .before .before .before .standing .given .1)
-    (c .before .before .before .before .before .before .before .legal-at .ensures (s .pre .3 .ending) (s .pre .3 .colour) h)) (c .before .before .try-into .ensures)
+    (c .before .before .before .before .before .before .before .legal-at .ensures (s .pre .4) (s .pre .3 .colour) h)) (c .before .before .try-into .ensures)
 
 returns-3 : tie.Need-returns-3
 returns-3 c =
@@ -62,7 +62,7 @@ returns-3 c =
     let h = in-size (s .args .m) (s .args .first .now) (s .args .second .now) _ (s .pre .3) _ (s .pre .2) in
     at-nothing (s .args .m) (s .args .first .now) (s .args .second .now) (s .args .k) (s .args .j) _ (s .pre .3)
     (told-nothing _ _ _ (c .enum-told .given .1)
-    (c .before .before .legal-at .ensures (s .pre .3 .ending) (s .pre .3 .colour) h))
+    (c .before .before .legal-at .ensures (s .pre .4) (s .pre .3 .colour) h))
 
 pub try-at-spec : {M : Type 1} → statement M
 try-at-spec =

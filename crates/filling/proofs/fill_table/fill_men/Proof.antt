@@ -10,7 +10,7 @@ use Rattle.table_theory.specs.Lending.{passesUntil}
 use Rattle.rules.specs.Chess.{chess}
 use Rattle.filling.specs.Admitted.{over}
 use Rattle.filling.specs.Stepping.{deeperThan, lastOf}
-use Rattle.filling.specs.laws.Code.{long, admitted-kept}
+use Rattle.filling.specs.laws.Code.{long, run-long, admitted-kept}
 use Rattle.filling.specs.Trying.{Ready}
 use Rattle.filling.specs.laws.Won.{ready-start}
 use Rattle.filling.specs.laws.StepCode.{step-went, step-ended, ready-after}
@@ -29,10 +29,12 @@ abbrev μ-loop : tie.MeasureT-loop
 μ-loop way m first second table₀ deepest k₀ last₀ table k last = 254 - k
 
 deepest-lent-requires : tie.Need-deepest-lent-requires Inv-loop μ-loop
-deepest-lent-requires c κs = tt
+deepest-lent-requires c κs =
+    let s = c .before .before .before in
+    (s .pre .0 .ending, run-long (s .args .m) (s .args .first .now) (s .args .second .now) _ (s .pre .0))
 
 start-requires : tie.Need-start-requires Inv-loop μ-loop
-start-requires c κs = let s = c .before .before .before .before .before in (s .pre .ending, s .pre .colour, long (s .args .m) _ _ _ (s .pre))
+start-requires c κs = let s = c .before .before .before .before .before in (s .pre .0 .ending, s .pre .0 .colour, long (s .args .m) _ _ _ (s .pre .0))
 
 loop-holds : tie.Need-loop-holds Inv-loop μ-loop
 loop-holds c =
@@ -45,9 +47,9 @@ step-at-requires c κs =
     let s = c .before .before .before .before .before .before .before .before .before .before in (
       i .0,
       c .before .before .before .before .before .before .deepest-lent .ensures .small,
-      admitted-kept (s .args .m) _ _ _ (s .pre) _
+      admitted-kept (s .args .m) _ _ _ (s .pre .0) _
           (i .1 ∙ start-long (s .args .m) (s .args .first .now) (s .args .second .now) _ _ (c .before .before .before .before .start .ensures)),
-      λ e. i .4,
+      λ e. (s .pre .1 e, i .4),
     )
 
 enum-known-said : tie.Need-enum-known-said Inv-loop μ-loop

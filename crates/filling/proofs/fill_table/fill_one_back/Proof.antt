@@ -1,5 +1,5 @@
 -- `filling::fill_one_back` meets its contract.
-use Rattle.filling.specs.laws.FillLaws.{promised-one}
+use Rattle.filling.specs.laws.FillLaws.{back-one}
 use borrow.Author.Needs.{needs}
 use Rattle.filling.proofs.fill_table.fill_one_back.Statement.{statement}
 use Rattle.filling.proofs.fill_table.fill_one_back.Tie as tie
@@ -17,7 +17,7 @@ same-length : tie.Need-same-length
 same-length c = search needs
 
 returns : tie.Need-returns
-returns c = promised-one _ _ _ _ _ _ (c .before .before .fill-back .ensures)
+returns c = back-one _ _ _ _ _ _ (c .before .before .fill-back .ensures)
 
 pub fill-one-back-spec : {M : Type 1} → statement M
 fill-one-back-spec =

@@ -1,5 +1,6 @@
 -- `filling::step_from` meets its contract.
 use native.Mathlib.Omega.{arith}
+use Rattle.filling.specs.laws.Code.{run-long}
 use Rattle.filling.specs.laws.StepCode.{from-going-code, from-done-code, from-ten-code}
 use borrow.Author.Needs.{needs}
 use Rattle.filling.proofs.taking.step_from.Statement.{statement}
@@ -9,7 +10,9 @@ next-depth-requires : tie.Need-next-depth-requires
 next-depth-requires c κs = search needs
 
 deepest-lent-requires : tie.Need-deepest-lent-requires
-deepest-lent-requires c κs = search needs
+deepest-lent-requires c κs =
+    let s = c .before .before .before .before .before in
+    (s .pre .ending, run-long (s .args .m) (s .args .first .now) (s .args .second .now) _ (s .pre))
 
 step-at-requires : tie.Need-step-at-requires
 step-at-requires c κs =

@@ -7,15 +7,15 @@ use borrow.Author.Needs.{needs}
 use Rattle.filling.proofs.taking.step_with.Statement.{statement}
 use Rattle.filling.proofs.taking.step_with.Tie as tie
 
-is-known-requires : tie.Need-is-known-requires
-is-known-requires c κs = search needs
+is-given-requires : tie.Need-is-given-requires
+is-given-requires c κs = search needs
 
 refuse-requires : tie.Need-refuse-requires
 refuse-requires c κs = search needs
 
 returns : tie.Need-returns
 returns c =
-    step-1 _ _ _ _ _ _ (sym (c .before .before .is-known .ensures) ∙ not-true _ (c .before .if1 .taken)) (c .refuse .ensures)
+    step-1 _ _ _ _ _ _ (sym (c .before .before .is-given .ensures) ∙ not-true _ (c .before .if1 .taken)) (c .refuse .ensures)
 
 lengths-fit-requires : tie.Need-lengths-fit-requires
 lengths-fit-requires c κs = search needs
@@ -28,7 +28,7 @@ same-length c = search needs
 
 returns-2 : tie.Need-returns-2
 returns-2 c =
-    step-7 _ _ _ _ _ _ (sym (c .before .before .before .before .before .is-known .ensures) ∙ not-false _ (c .before .before .before .before .if1 .left))
+    step-7 _ _ _ _ _ _ (sym (c .before .before .before .before .before .is-given .ensures) ∙ not-false _ (c .before .before .before .before .if1 .left))
     (sym (c .before .before .lengths-fit .ensures) ∙ not-true _ (c .before .if2 .taken)) (c .refuse2 .ensures)
 
 men-of-requires : tie.Need-men-of-requires
@@ -36,7 +36,7 @@ men-of-requires c κs = search needs
 
 step-from-requires : tie.Need-step-from-requires
 step-from-requires c κs =
-    admitted-by _ (c .before .men-of .result) _ _ _ _ _ (c .before .before .before .before .before .before .is-known .ensures) (not-false _ (c .before .before .before .before .before .if1 .left))
+    admitted-by _ (c .before .men-of .result) _ _ _ _ _ (c .before .before .before .before .before .before .is-given .ensures) (not-false _ (c .before .before .before .before .before .if1 .left))
     (c .before .before .before .lengths-fit .ensures) (not-false _ (c .before .before .if2 .left)) (c .before .men-of .ensures)
 
 same-length-2 : tie.Need-same-length-2
@@ -44,7 +44,7 @@ same-length-2 c = search needs
 
 returns-3 : tie.Need-returns-3
 returns-3 c =
-    let k = sym (c .before .before .before .before .before .before .before .before .before .is-known .ensures) ∙ not-false _ (c .before .before .before .before .before .before .before .before .if1 .left) in
+    let k = sym (c .before .before .before .before .before .before .before .before .before .is-given .ensures) ∙ not-false _ (c .before .before .before .before .before .before .before .before .if1 .left) in
     step-made _ _ _ _ _ (c .before .before .before .before .men-of .result) _ _ k (sym (c .before .before .before .before .before .before .lengths-fit .ensures) ∙ not-false _ (c .before .before .before .before .before .if2 .left))
     (c .before .before .before .before .men-of .ensures (of-true k) .0) (c .before .before .step-from .ensures)
 
@@ -52,7 +52,7 @@ pub step-with-spec : {M : Type 1} → statement M
 step-with-spec =
     tie.close
     (tie.spec
-    is-known-requires
+    is-given-requires
     refuse-requires
     returns
     lengths-fit-requires

@@ -25,8 +25,8 @@ returns-2 c =
       sym (c .before .bad-square .ensures) ∙ c .if2 .taken,
     ))
 
-shared-square-requires : tie.Need-shared-square-requires
-shared-square-requires c κs = search needs
+bad-pawn-requires : tie.Need-bad-pawn-requires
+bad-pawn-requires c κs = search needs
 
 returns-3 : tie.Need-returns-3
 returns-3 c =
@@ -34,7 +34,20 @@ returns-3 c =
       sym (c .before .before .before .before .before .bad-side .ensures)
           ∙ c .before .before .before .before .if1 .left,
       sym (c .before .before .before .bad-square .ensures) ∙ c .before .before .if2 .left,
-      sym (c .before .shared-square .ensures) ∙ c .if3 .taken,
+      sym (c .before .bad-pawn .ensures) ∙ c .if3 .taken,
+    ))
+
+shared-square-requires : tie.Need-shared-square-requires
+shared-square-requires c κs = search needs
+
+returns-4 : tie.Need-returns-4
+returns-4 c =
+    let r = c .before .before .before in
+    sym (rw (
+      sym (r .before .before .before .before .bad-side .ensures) ∙ r .before .before .before .if1 .left,
+      sym (r .before .before .bad-square .ensures) ∙ r .before .if2 .left,
+      sym (r .bad-pawn .ensures) ∙ c .before .before .if3 .left,
+      sym (c .before .shared-square .ensures) ∙ c .if4 .taken,
     ))
 
 targets-requires : tie.Need-targets-requires
@@ -46,31 +59,34 @@ has-requires c κs = search needs
 -- the answer about Black's king in the set of White's
 touches : (c : tie.After-has)
     → c .has .result
-    ≡ touching (boardOf (c .before .before .before .before .before .before .before .before .args .p))
+    ≡ touching
+    (boardOf (c .before .before .before .before .before .before .before .before .before .before .args .p))
 unfolding touching boardOf
 touches c = let r = c .before .targets in c .has .ensures ∙ reaches-has _ _ _ _ (r .ensures) (r .ok)
     ∙ king-reaches (has 0) (λ s. false) _ _
 
-returns-4 : tie.Need-returns-4
-returns-4 c =
-    sym (rw (
-      sym (c .before .before .before .before .before .before .before .before .bad-side .ensures)
-          ∙ c .before .before .before .before .before .before .before .if1 .left,
-      sym (c .before .before .before .before .before .before .bad-square .ensures)
-          ∙ c .before .before .before .before .before .if2 .left,
-      sym (c .before .before .before .before .shared-square .ensures) ∙ c .before .before .before .if3 .left,
-      sym (touches (c .before)) ∙ c .if4 .taken,
-    ))
-
 returns-5 : tie.Need-returns-5
 returns-5 c =
+    let s = c .before .before .before .before in
+    let r = s .before .before in
     sym (rw (
-      sym (c .before .before .before .before .before .before .before .before .bad-side .ensures)
-          ∙ c .before .before .before .before .before .before .before .if1 .left,
-      sym (c .before .before .before .before .before .before .bad-square .ensures)
-          ∙ c .before .before .before .before .before .if2 .left,
-      sym (c .before .before .before .before .shared-square .ensures) ∙ c .before .before .before .if3 .left,
-      sym (touches (c .before)) ∙ c .if4 .left,
+      sym (r .before .before .before .before .bad-side .ensures) ∙ r .before .before .before .if1 .left,
+      sym (r .before .before .bad-square .ensures) ∙ r .before .if2 .left,
+      sym (r .bad-pawn .ensures) ∙ s .before .if3 .left,
+      sym (s .shared-square .ensures) ∙ c .before .before .before .if4 .left,
+      sym (touches (c .before)) ∙ c .if5 .taken,
+    ))
+
+returns-6 : tie.Need-returns-6
+returns-6 c =
+    let s = c .before .before .before .before in
+    let r = s .before .before in
+    sym (rw (
+      sym (r .before .before .before .before .bad-side .ensures) ∙ r .before .before .before .if1 .left,
+      sym (r .before .before .bad-square .ensures) ∙ r .before .if2 .left,
+      sym (r .bad-pawn .ensures) ∙ s .before .if3 .left,
+      sym (s .shared-square .ensures) ∙ c .before .before .before .if4 .left,
+      sym (touches (c .before)) ∙ c .if5 .left,
     ))
 
 pub later-refusal-spec : {M : Type 1} → statement M
@@ -81,9 +97,11 @@ later-refusal-spec =
     returns
     bad-square-requires
     returns-2
-    shared-square-requires
+    bad-pawn-requires
     returns-3
+    shared-square-requires
+    returns-4
     targets-requires
     has-requires
-    returns-4
-    returns-5)
+    returns-5
+    returns-6)

@@ -22,7 +22,7 @@ returns c =
     c .played-word .ensures
     ∙ ap playedWord
     (c .before .play .ensures
-    ∙ ap (λ (p : Position). playOf p (a .from) (a .to)) (c .before .before .position-read .ensures))
+    ∙ ap (λ (p : Position). playOf p (a .from) (a .to) (a .becomes)) (c .before .before .position-read .ensures))
 
 pub sledgewren-play-spec : {M : Type 1} → statement M
 sledgewren-play-spec = tie.close (tie.spec position-read-requires play-requires played-word-requires returns)

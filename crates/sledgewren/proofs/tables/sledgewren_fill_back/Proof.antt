@@ -1,6 +1,6 @@
 -- `sledgewren::sledgewren_fill_back` meets its contract. The word of the answer.
 use borrow.Author.Needs.{needs}
-use Rattle.sledgewren.specs.laws.TableLaws.{filled-by}
+use Rattle.sledgewren.specs.laws.TableLaws.{filled-back-by}
 use Rattle.sledgewren.proofs.tables.sledgewren_fill_back.Statement.{statement}
 use Rattle.sledgewren.proofs.tables.sledgewren_fill_back.Tie as tie
 
@@ -19,7 +19,7 @@ same-length c = search needs
 returns : tie.Need-returns
 returns c =
     let f = c .before .before .before in
-    filled-by _ _ _ _ _ _ _ (f .before .before .material-read .ensures) (f .fill-back .ensures)
+    filled-back-by _ _ _ _ _ _ _ (f .before .before .material-read .ensures) (f .fill-back .ensures)
     (c .filled-word .ensures)
 
 pub sledgewren-fill-back-spec : {M : Type 1} → statement M

@@ -16,7 +16,7 @@ is-used-requires c κs = search needs
 
 returns : tie.Need-returns
 returns c = λ k l h. let s = c .before .before .place-at .ensures k l h in
-    found-unused _ _ _ (s .board) (sym (c .before .is-used .ensures s) ∙ not-true _ (c .if1 .taken))
+    found-unused _ _ _ k (s .board) (sym (c .before .is-used .ensures s) ∙ not-true _ (c .if1 .taken))
 
 other-requires : tie.Need-other-requires
 other-requires c κs = search needs
@@ -30,7 +30,7 @@ returns-2 c =
     λ k l h. let s = i .before .before .place-at .ensures k l h in
     let u = sym (i .before .is-used .ensures s) ∙ not-false _ (i .if1 .left) in
     let w = used-complete _ _ _ s (of-true u) in
-    found-illegal _ _ _ (s .board) u w
+    found-illegal _ _ _ k (s .board) u w
     (checked-other _ _ _ _ _ (c .before .before .other .ensures) (c .before .checked .ensures w) (c .if2 .taken))
 
 returns-3 : tie.Need-returns-3
@@ -39,7 +39,7 @@ returns-3 c =
     λ k l h. let s = i .before .before .place-at .ensures k l h in
     let u = sym (i .before .is-used .ensures s) ∙ not-false _ (i .if1 .left) in
     let w = used-complete _ _ _ s (of-true u) in
-    found-legal _ _ _ (s .board) u w
+    found-legal _ _ _ k (s .board) u w
     (checked-other _ _ _ _ _ (c .before .before .other .ensures) (c .before .checked .ensures w) (c .if2 .left))
 
 pub legal-at-spec : {M : Type 1} → statement M

@@ -13,8 +13,11 @@ enum-known-slot c = search needs
 returns : tie.Need-returns
 returns c = search needs
 
+one-of-requires : tie.Need-one-of-requires
+one-of-requires c κs = search needs
+
 returns-2 : tie.Need-returns-2
-returns-2 c = alone-some _ _ (c .before .slot .given .1)
+returns-2 c = alone-some _ _ _ (c .before .before .slot .given .1) (c .one-of .ensures)
 
 pub alone-spec : {M : Type 1} → statement M
-alone-spec = tie.close (tie.spec enum-told enum-known-slot returns returns-2)
+alone-spec = tie.close (tie.spec enum-told enum-known-slot one-of-requires returns returns-2)

@@ -14,15 +14,15 @@ man-read-requires-2 c κs = search needs
 material-in-requires : tie.Need-material-in-requires
 material-in-requires c κs = search needs
 
-is-known-requires : tie.Need-is-known-requires
-is-known-requires c κs = search needs
+is-given-requires : tie.Need-is-given-requires
+is-given-requires c κs = search needs
 
 returns : tie.Need-returns
 returns c =
     let x = c .before .before in
     let a = x .before .before .before .args in
     ending-none (a .first) (a .second) _ _ _ (x .before .before .man-read .ensures) (x .before .man-read2 .ensures)
-    (x .material-in .ensures) _ (c .before .is-known .ensures) (not-true _ (c .if1 .taken))
+    (x .material-in .ensures) _ (c .before .is-given .ensures) (not-true _ (c .if1 .taken))
 
 material-word-requires : tie.Need-material-word-requires
 material-word-requires c κs = search needs
@@ -32,7 +32,7 @@ returns-2 c =
     let x = c .before .before .before in
     let a = x .before .before .before .args in
     ending-some (a .first) (a .second) _ _ _ (x .before .before .man-read .ensures) (x .before .man-read2 .ensures)
-    (x .material-in .ensures) _ (c .before .before .is-known .ensures) _ (not-false _ (c .before .if1 .left))
+    (x .material-in .ensures) _ (c .before .before .is-given .ensures) _ (not-false _ (c .before .if1 .left))
     (c .material-word .ensures)
 
 pub ending-of-spec : {M : Type 1} → statement M
@@ -42,7 +42,7 @@ ending-of-spec =
     man-read-requires
     man-read-requires-2
     material-in-requires
-    is-known-requires
+    is-given-requires
     returns
     material-word-requires
     returns-2)

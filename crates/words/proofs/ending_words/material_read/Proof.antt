@@ -4,11 +4,14 @@ use borrow.Author.Needs.{needs}
 use Rattle.words.proofs.ending_words.material_read.Statement.{statement}
 use Rattle.words.proofs.ending_words.material_read.Tie as tie
 
-cast-t7 : tie.Need-cast-t7
-cast-t7 c = search needs
+cast-one-of : tie.Need-cast-one-of
+cast-one-of c = search needs
+
+one-of-requires : tie.Need-one-of-requires
+one-of-requires c κs = search needs
 
 returns : tie.Need-returns
-returns c = read-one _ (c .if1 .taken)
+returns c = read-one _ _ (c .one-of .ensures) (c .before .if1 .taken)
 
 returns-2 : tie.Need-returns-2
 returns-2 c = read-none _ (c .before .if1 .left) (c .if2 .taken)
@@ -30,4 +33,4 @@ returns-4 c = read-two _ (c .before .before .if1 .left) (c .before .if2 .left) (
 
 pub material-read-spec : {M : Type 1} → statement M
 material-read-spec =
-    tie.close (tie.spec cast-t7 returns returns-2 returns-3 cast-t8 sub-t3 cast-t9 returns-4)
+    tie.close (tie.spec cast-one-of one-of-requires returns returns-2 returns-3 cast-t8 sub-t3 cast-t9 returns-4)

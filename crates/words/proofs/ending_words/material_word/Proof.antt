@@ -40,11 +40,17 @@ mul-result-2 c = search needs
 add-result-3 : tie.Need-add-result-3
 add-result-3 c = search needs
 
+enum-told : tie.Need-enum-told
+enum-told c = search needs
+
 returns : tie.Need-returns
 returns c = search needs
 
 returns-2 : tie.Need-returns-2
 returns-2 c = two-word-is _ _ _ _ _ (c .before .before .m2 .given .1) (c .flag .ensures .0)
+
+returns-3 : tie.Need-returns-3
+returns-3 c = search needs
 
 pub material-word-spec : {M : Type 1} → statement M
 material-word-spec =
@@ -62,5 +68,7 @@ material-word-spec =
     cast-result-4
     mul-result-2
     add-result-3
+    enum-told
     returns
-    returns-2)
+    returns-2
+    returns-3)

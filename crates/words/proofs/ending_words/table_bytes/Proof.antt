@@ -5,17 +5,17 @@ use borrow.Author.Needs.{needs}
 use Rattle.words.proofs.ending_words.table_bytes.Statement.{statement}
 use Rattle.words.proofs.ending_words.table_bytes.Tie as tie
 
-is-known-requires : tie.Need-is-known-requires
-is-known-requires c κs = search needs
+is-given-requires : tie.Need-is-given-requires
+is-given-requires c κs = search needs
 
 returns : tie.Need-returns
-returns c = bytes-none (c .before .before .args .m) _ (c .before .is-known .ensures) (not-true _ (c .if1 .taken))
+returns c = bytes-none (c .before .before .args .m) _ (c .before .is-given .ensures) (not-true _ (c .if1 .taken))
 
 size-of-requires : tie.Need-size-of-requires
 size-of-requires c κs = search needs
 
 returns-2 : tie.Need-returns-2
-returns-2 c = let x = c .before in bytes-some (x .before .before .args .m) _ (x .before .is-known .ensures) _ (not-false _ (x .if1 .left)) (c .size-of .ensures)
+returns-2 c = let x = c .before in bytes-some (x .before .before .args .m) _ (x .before .is-given .ensures) _ (not-false _ (x .if1 .left)) (c .size-of .ensures)
 
 pub table-bytes-spec : {M : Type 1} → statement M
-table-bytes-spec = tie.close (tie.spec is-known-requires returns size-of-requires returns-2)
+table-bytes-spec = tie.close (tie.spec is-given-requires returns size-of-requires returns-2)

@@ -1,0 +1,5 @@
+pub mod PawnLaws
+pub mod VerdictLists
+pub mod PawnVerdicts
+pub mod StandingLaws
+pub mod SettlingLaws

@@ -1,0 +1,16 @@
+// Whether a byte is the one required, whatever the ending: of pieces, or king and pawn. The pawn's men are 4 and 4, its
+// square the place's first; the four tables it borrows lie one after the other in `first`.
+mod numbers;
+mod pawn;
+mod settling;
+mod verdicts;
+
+pub use numbers::is_legal_number;
+pub use numbers::legal_at;
+pub use settling::requires_at;
+pub use verdicts::byte_at;
+pub use verdicts::requires_depth;
+pub use verdicts::verdict_on;
+
+// The kind of a pawn.
+pub const PAWN: u8 = 4;

@@ -1,0 +1,47 @@
+// The legal position at a number.
+use super::PAWN;
+use pawn_moves::is_pawn_legal;
+use pawn_moves::pawn_seat;
+use position::Men;
+use successors::Standing;
+use successors::legal_at as legal_of_pieces;
+ghost use mathlib.Core.Path.{_≡_};
+ghost use Prim.Native.Nat.{_<_};
+ghost use lib.Dec.{T};
+ghost use Rattle.numbering.specs.declared.Material.{Material};
+ghost use Rattle.numbering.specs.Material.{given, sizeOf};
+ghost use Rattle.position.specs.Posed.{materialFor};
+ghost use Rattle.four_men.specs.Reading.{legalNumberOf};
+ghost use Rattle.deciding.specs.Deciding.{StandingFor};
+
+// King and pawn.
+fn legal_of_pawn(n: u32) -> Standing
+    ensures { λ r. ⌜ ((m : Men) → materialFor m ≡ Material.Pawn → StandingFor m n r) ⌝ }
+{
+    let q = pawn_seat(n);
+    if !is_pawn_legal(q) {
+        return Standing::Nothing;
+    }
+    Standing::Legal(q)
+}
+
+// The place at the number, if the number is used and its position legal.
+pub fn legal_at(m: Men, n: u32) -> Standing
+    ensures { λ r. ⌜ (T (given (materialFor m)) → m .colour < 2 → n < sizeOf (materialFor m) → StandingFor m n r) ⌝ }
+{
+    if m.first == PAWN {
+        return legal_of_pawn(n);
+    }
+    legal_of_pieces(m, n)
+}
+
+// Whether there is one.
+pub fn is_legal_number(m: Men, n: u32) -> bool
+    ensures { λ r. ⌜ (T (given (materialFor m)) → m .colour < 2 → n < sizeOf (materialFor m) → r ≡ legalNumberOf (materialFor m) n) ⌝ }
+{
+    let standing = legal_at(m, n);
+    match standing {
+        Standing::Legal(_) => true,
+        Standing::Nothing => false,
+    }
+}

@@ -1,0 +1,2 @@
+pub mod PawnMoves
+pub mod laws

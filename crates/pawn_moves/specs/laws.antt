@@ -1,0 +1,4 @@
+pub mod SeatLaws
+pub mod AfterLaws
+pub mod WeighLaws
+pub mod LoopLaws

@@ -1,0 +1,4 @@
+pub mod PawnNumber
+pub mod Places
+pub mod PawnNumberCases
+pub mod laws
