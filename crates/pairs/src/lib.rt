@@ -7,7 +7,6 @@ pub use back::kings_of;
 pub use forth::pair_by;
 pub use forth::pair_in;
 pub use forth::pair_list;
-pub use forth::pair_of;
 
 // How many pairs there are.
 pub const PAIR_COUNT: u32 = 462;
