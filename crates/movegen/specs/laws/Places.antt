@@ -166,16 +166,16 @@ module _ (m : Men) (q : Place) where
   own-three (suc (suc n)) t l h = absurd (omega arith)
 
   -- the squares of a side, gathered
-  pub own-set : (side k f s a b c : ℕ) → side < 2 → k ≡ cond (eqb side 0) (q .white) (q .black)
-      → f ≡ cond (eqb 0 side) (q .first) 64 → s ≡ cond (eqb (m .colour) side) (q .second) 64
-      → a ≡ setOf (λ (u : ℕ). eqb u k) → b ≡ setOf (λ (u : ℕ). eqb u f) → c ≡ setOf (λ (u : ℕ). eqb u s)
+  pub own-set : (side a b c : ℕ) → side < 2
+      → a ≡ setOf (λ (u : ℕ). eqb u (cond (eqb side 0) (q .white) (q .black)))
+      → b ≡ setOf (λ (u : ℕ). eqb u (cond (eqb 0 side) (q .first) 64))
+      → c ≡ setOf (λ (u : ℕ). eqb u (cond (eqb (m .colour) side) (q .second) 64))
       → a < 2 ^ 64 → b < 2 ^ 64 → c < 2 ^ 64
       → bitOr a (bitOr b c) ≡ setOf (stands (boardIn m q) side)
-  own-set side k f s a b c l ek ef es ea eb ec la lb lc =
+  own-set side a b c l ea eb ec la lb lc =
       set-is (stands (boardIn m q) side) (bitOr a (bitOr b c)) (or-lt 64 a (bitOr b c) la (or-lt 64 b c lb lc))
       (λ t h. has-or a (bitOr b c) t
-      ∙ ap₂ _||_ (set-has _ ea t h ∙ ap (eqb t) ek)
-      (has-or b c t ∙ ap₂ _||_ (set-has _ eb t h ∙ ap (eqb t) ef) (set-has _ ec t h ∙ ap (eqb t) es))
+      ∙ ap₂ _||_ (set-has _ ea t h) (has-or b c t ∙ ap₂ _||_ (set-has _ eb t h) (set-has _ ec t h))
       ∙ sym (own-three side t l h))
 
   -- the occupied squares, gathered
