@@ -12,6 +12,5 @@ pub use settling::requires_at;
 pub use verdicts::requires_byte;
 pub use verdicts::requires_depth;
 
-
 // The kind of a pawn.
 pub const PAWN: u8 = 4;

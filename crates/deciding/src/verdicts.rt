@@ -6,7 +6,6 @@ use position::Men;
 use position::Place;
 use successors::requires_byte as pieces_require_byte;
 use successors::requires_depth as pieces_require;
-
 ghost use mathlib.Core.Path.{_≡_};
 ghost use Prim.Native.Nat.{_+_};
 ghost use lib.Dec.{eqb};

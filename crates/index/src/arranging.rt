@@ -7,7 +7,6 @@ use super::least::place_from;
 use super::least::rising_key;
 use super::least::transposed_key;
 use super::least::turned_key;
-use super::pawns::pawn_normal_place;
 use position::Map;
 use position::Men;
 use position::Place;
@@ -16,6 +15,7 @@ use position::man_in;
 use position::other;
 use rules::Piece;
 ghost use mathlib.Core.Path.{_≡_};
+ghost use Rattle.position.specs.Keyed.{manKind};
 ghost use Rattle.position.specs.Refusals.{placingWith};
 ghost use Rattle.index.specs.Arranging.{goesAfter, whiteFirst, arrangedAs, normalAs, Normalises};
 
@@ -100,15 +100,10 @@ fn normal_of(men: Men, q: Place) -> NormalPlace
     }
 }
 
-// The normal place of a position's class, and the map that leads to it.
+// The normal place of a position's class, its men pieces, and the map that leads to it.
 pub fn normal_place(p: Position) -> NormalPlace
-    ensures { λ r. ⌜ (placingWith p ≡ 0 → Normalises p r) ⌝ }
+    ensures { λ r. ⌜ (placingWith p ≡ 0 → (manKind p ≡ 4 → ⊥) → Normalises p r) ⌝ }
 {
-    let first = p.first;
-    let man = man_in(first);
-    if man.kind == 4 {
-        return pawn_normal_place(p);
-    }
     let a = arrange(p);
     normal_of(a.men, a.place)
 }

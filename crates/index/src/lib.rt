@@ -34,6 +34,7 @@ pub use materials::is_known;
 pub use materials::men_of;
 pub use materials::size_of;
 pub use pawns::pawn_men;
+pub use pawns::pawn_normal_place;
 pub use pawns::pawn_place;
 pub use place::is_used;
 pub use place::place_at;
