@@ -1,7 +1,6 @@
 // The 462 pairs of kings, in rising order of white king's square, then black king's.
 mod back;
 mod forth;
-mod packed;
 
 pub use back::kings_of;
 pub use forth::pair_by;

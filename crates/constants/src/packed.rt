@@ -1,7 +1,7 @@
-// The pairs packed in words. An integer `match` becomes a read-only table; a constant array would be built anew at each read.
+// The pairs of kings packed in words.
 ghost use mathlib.Core.Path.{_≡_};
 ghost use lib.ListN.{getD};
-ghost use Rattle.pairs.specs.Packed.{fourPairs, eightBlacks};
+ghost use Rattle.constants.specs.Packed.{fourPairs, eightBlacks};
 
 // Four entries of the list of pairs.
 pub fn four_pairs(i: u16) -> u64
