@@ -1,4 +1,5 @@
 pub mod Lists
 pub mod Answers
 pub mod ListLaws
+pub mod Counting
 pub mod laws

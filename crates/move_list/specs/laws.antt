@@ -4,3 +4,6 @@ pub mod TargetLaws
 pub mod TurnLaws
 pub mod PawnIn
 pub mod AnswerLaws
+pub mod PlacingLaws
+pub mod SumLaws
+pub mod CountLaws

@@ -1,6 +1,7 @@
 // The move list and the count of moves.
 use super::Counted;
 use super::Listed;
+use super::counting::placed_count;
 use super::lists::moves_of;
 use super::lists::no_moves;
 use super::promoting::promoting_set;
@@ -8,8 +9,11 @@ use board::lowest;
 use board::size;
 use board::without;
 use movegen::legal_targets;
+use movegen::movers_of;
+use position::OTHER_IN_CHECK;
 use position::Position;
 use position::own;
+use position::placing_with;
 use position::standing_with;
 ghost use mathlib.Core.Path.{_≡_};
 ghost use lib.ListN.{length};
@@ -50,13 +54,17 @@ pub fn legal_moves(p: Position) -> Listed
     }
 }
 
-// Their count, or a refusal from 1 to 6.
+// Their count, or a refusal from 1 to 6: the sixth by the same sets that are counted.
 pub fn move_count(p: Position) -> Counted
     ensures { λ r. ⌜ Counts p r ⌝ }
 {
-    let refusal = standing_with(p);
+    let refusal = placing_with(p);
     if refusal != 0 {
         return Counted::Refused(refusal);
     }
-    Counted::Count(count_of(p))
+    let all = movers_of(p);
+    if all.check {
+        return Counted::Refused(OTHER_IN_CHECK);
+    }
+    Counted::Count(placed_count(p, all))
 }

@@ -2,6 +2,7 @@
 use rules::Move;
 
 mod answers;
+mod counting;
 mod lists;
 mod promoting;
 

@@ -9,11 +9,22 @@ ghost use Rattle.board.specs.Sets.{setOf};
 ghost use Rattle.rules.specs.Pawn.{pawn};
 ghost use Rattle.rules.specs.Rules.{promotes};
 ghost use Rattle.position.specs.Keyed.{slotMen, boardOf};
+ghost use Rattle.move_list.specs.Counting.{slotPawn};
 
 const PAWN: u8 = 4;
 
 // Ranks 1 and 8.
-const OUTER_RANKS: u64 = 0xFF000000000000FF;
+pub const OUTER_RANKS: u64 = 0xFF000000000000FF;
+
+// Whether the man in a slot is a pawn.
+pub fn is_pawn(slot: Slot) -> bool
+    ensures { λ r. ⌜ r ≡ slotPawn slot ⌝ }
+{
+    match slot {
+        Slot::Absent => false,
+        Slot::Present(m) => m.kind == PAWN,
+    }
+}
 
 // Whether the man in a slot is a pawn on this square.
 fn pawn_in(slot: Slot, square: u8) -> bool

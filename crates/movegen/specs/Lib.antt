@@ -1,4 +1,5 @@
 pub mod After
 pub mod Places
 pub mod Reach
+pub mod InPosition
 pub mod laws

@@ -8,3 +8,6 @@ pub mod Struck
 pub mod Reach
 pub mod Opening
 pub mod Movers
+pub mod OneThere
+pub mod Unpinned
+pub mod InPosition

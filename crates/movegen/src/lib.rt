@@ -1,9 +1,12 @@
 // Moves of a position: a move made, the legal targets of a piece, and where a move takes.
+mod in_position;
 mod making;
 mod places;
 mod reaching;
 mod targets;
 
+pub use in_position::movers_of;
+pub use in_position::targets_from;
 pub use making::make;
 pub use places::checked;
 pub use places::king_at;
@@ -20,4 +23,14 @@ pub struct Reach {
     pub king: u64,
     pub first: u64,
     pub second: u64,
+}
+
+// The squares of the side to move's pieces, the legal targets of its king and of each man (none for a man of the other
+// side, or one not there), and whether it attacks the other king.
+pub struct Movers {
+    pub own: u64,
+    pub king: u64,
+    pub first: u64,
+    pub second: u64,
+    pub check: bool,
 }

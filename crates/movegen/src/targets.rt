@@ -21,11 +21,21 @@ ghost use mathlib.Core.Path.{_≡_};
 ghost use mathlib.Core.Bool.{_&&_, not};
 ghost use Prim.Native.Nat.{ℕ, _<_};
 ghost use Rattle.board.specs.Sets.{has, setOf};
-ghost use Rattle.rules.specs.Rules.{inCheck, moved, canMove, taking};
+ghost use Rattle.rules.specs.Rules.{pieceOf, goesTo, inCheck, moved, canMove, taking};
 ghost use Rattle.position.specs.Keyed.{boardOf};
 ghost use Rattle.position.specs.Over.{goesFrom, goesOver};
 
 const PAWN: u8 = 4;
+
+// The squares where a piece may go.
+pub fn goes_to(occ: u64, kind: u8, colour: u8, square: u8) -> u64
+    ensures { λ r. ⌜ ((t : ℕ) → t < 64 → has r t ≡ goesTo (has occ) (pieceOf kind colour square) t) ⌝ }
+{
+    if kind == PAWN {
+        return pawn_goes(occ, colour, square);
+    }
+    targets(occ, kind, square)
+}
 
 // The squares where a piece may go, if it is of this side and stands on `from`.
 fn goes_set(occ: u64, side: u8, from: u8, m: Piece) -> u64
@@ -37,10 +47,7 @@ fn goes_set(occ: u64, side: u8, from: u8, m: Piece) -> u64
     if m.square != from {
         return 0;
     }
-    if m.kind == PAWN {
-        return pawn_goes(occ, m.colour, m.square);
-    }
-    targets(occ, m.kind, m.square)
+    goes_to(occ, m.kind, m.colour, m.square)
 }
 
 // The squares where the piece of the side to move on `from` may go.

@@ -14,6 +14,10 @@ strikes occ colour t m = eqb (m .colour) colour && attacks occ m t
 unfoldable pub attackedOver : (ℕ → Bool) → Board → ℕ → ℕ → Bool
 attackedOver occ b colour t = any (strikes occ colour t) (pieces b)
 
+-- a man of this colour attacks t
+unfoldable pub menOver : (ℕ → Bool) → Board → ℕ → ℕ → Bool
+menOver occ b colour t = any (strikes occ colour t) (b .men)
+
 -- the piece is of this side, stands on `from` and may go to t
 abbrev pub goesFrom : (ℕ → Bool) → ℕ → ℕ → ℕ → Piece → Bool
 goesFrom occ side from t m = eqb (m .colour) side && eqb (m .square) from && goesTo occ m t

@@ -95,6 +95,14 @@ abbrev pub slotsShare : Slot → Slot → Bool
 slotsShare Absent k = false
 slotsShare (Present m) k = slotOn (m .square) k
 
+-- a man whom one of 2 to 4 or 18 refuses, were he the only one
+abbrev pub slotMisplaced : ℕ → ℕ → Slot → Bool
+slotMisplaced white black Absent = false
+slotMisplaced white black (Present m) =
+    leb 2 (m .colour)
+    || (leb 64 (m .square)
+    || ((pawn m && outer (m .square)) || (eqb white (m .square) || eqb black (m .square))))
+
 -- ---- of one man or of two (02, P10): as of one man, but that two men have a table, and so has a lone pawn (P12)
 
 -- 1: no man at all, an absent one before a present one, a kind above 4, or a pawn beside another man

@@ -1,6 +1,8 @@
 pub mod SlotLaws
 pub mod Legality
 pub mod Over
+pub mod MenOver
+pub mod Unrefused
 pub mod Pieces
 pub mod MapLaws
 pub mod PlacedLaws

@@ -15,6 +15,7 @@ pub use attack::attack_set;
 pub use attack::attacked_over;
 pub use attack::in_check;
 pub use attack::king_square;
+pub use attack::men_set;
 pub use maps::transposed;
 pub use occupancy::occupied;
 pub use occupancy::own;

@@ -8,12 +8,13 @@ use super::OTHER_IN_CHECK;
 use super::Position;
 use super::SHARED_SQUARE;
 use super::Slot;
-use super::attack::in_check;
+use super::attack::men_check;
 use super::other;
 use board::has;
 use board::targets;
 ghost use mathlib.Core.Path.{_≡_};
-ghost use Rattle.position.specs.Refusals.{badMen, badSide, badSquare, badPawn, sharedSquare, slotForeign, slotOff, slotAstray, slotOn, slotsShare, laterRefusal, placingRefusal, orInCheck, standingRefusal, badMenOf, placingWith, standingWith};
+ghost use mathlib.Core.Bool.{false};
+ghost use Rattle.position.specs.Refusals.{badMen, badSide, badSquare, badPawn, sharedSquare, slotForeign, slotOff, slotAstray, slotOn, slotsShare, slotMisplaced, kingsTouch, laterRefusal, placingRefusal, orInCheck, standingRefusal, badMenOf, placingWith, standingWith};
 
 // Whether the men are none that have a table.
 fn bad_men(first: Slot, second: Slot) -> bool
@@ -131,6 +132,42 @@ fn shared_square(p: Position) -> bool
             | ((is_on(black, first) | is_on(black, second)) | men_share(first, second)))
 }
 
+// Whether a man is of neither side, off the board, a pawn on rank 1 or 8, or on a king's square.
+fn is_misplaced(white: u8, black: u8, slot: Slot) -> bool
+    ensures { λ r. ⌜ r ≡ slotMisplaced white black slot ⌝ }
+{
+    match slot {
+        Slot::Absent => false,
+        Slot::Present(m) => (2 <= m.colour)
+            | ((64 <= m.square)
+                | (((m.kind == 4) & ((m.square < 8) | (56 <= m.square)))
+                    | ((white == m.square) | (black == m.square)))),
+    }
+}
+
+// Whether one of refusals 2 to 5 and 18 applies: one quick test of all, where most positions meet none.
+fn is_refused(p: Position) -> bool
+    ensures { λ r. ⌜ (r ≡ false → laterRefusal p ≡ 0) ⌝ }
+{
+    let white = p.white_king;
+    let black = p.black_king;
+    let first = p.first;
+    let second = p.second;
+    if (2 <= p.side) | ((64 <= white) | ((64 <= black) | (white == black))) {
+        return true;
+    }
+    if is_misplaced(white, black, first) {
+        return true;
+    }
+    if is_misplaced(white, black, second) {
+        return true;
+    }
+    if men_share(first, second) {
+        return true;
+    }
+    has(targets(0, 5, white), black)
+}
+
 // Refusals 2 to 5 and 18, the first that applies; 0 where none does.
 fn later_refusal(p: Position) -> u8
     ensures { λ r. ⌜ r ≡ laterRefusal p ⌝ }
@@ -162,6 +199,9 @@ pub fn placing_refusal(p: Position) -> u8
     if bad_men(first, second) {
         return BAD_MAN;
     }
+    if !is_refused(p) {
+        return 0;
+    }
     later_refusal(p)
 }
 
@@ -174,17 +214,20 @@ pub fn placing_with(p: Position) -> u8
     if bad_men_of(first, second) {
         return BAD_MAN;
     }
+    if !is_refused(p) {
+        return 0;
+    }
     later_refusal(p)
 }
 
-// Such a refusal, or else 6 where it applies.
+// Such a refusal, or else 6 where it applies: once the kings do not touch, men alone give check.
 fn or_in_check(p: Position, refusal: u8) -> u8
-    ensures { λ r. ⌜ r ≡ orInCheck p refusal ⌝ }
+    ensures { λ r. ⌜ ((refusal ≡ 0 → kingsTouch p ≡ false) → r ≡ orInCheck p refusal) ⌝ }
 {
     if refusal != 0 {
         return refusal;
     }
-    if in_check(p, other(p.side)) {
+    if men_check(p, other(p.side)) {
         return OTHER_IN_CHECK;
     }
     0

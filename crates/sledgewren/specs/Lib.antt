@@ -1,4 +1,5 @@
 pub mod Words
+pub mod Stored
 pub mod TypedWord
 pub mod OpinionWord
 pub mod PocketWords

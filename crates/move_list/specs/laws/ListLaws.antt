@@ -32,7 +32,7 @@ appended-first ms h = list-eq _ _ _ _ stored (zero-add (length ms))
         ∙ rw (zero-add (length ms), drop-replicate (length ms) room zeroMove h)
 
 -- two runs of stores are one
-sets-append : (l : List Move) (i : ℕ) (xs ys : List Move) → sets (sets l i xs) (i + length xs) ys ≡ sets l i (xs ++ ys)
+pub sets-append : {A : Type 0} (l : List A) (i : ℕ) (xs ys : List A) → sets (sets l i xs) (i + length xs) ys ≡ sets l i (xs ++ ys)
 sets-append l i [] ys = rw add-zero
 sets-append l i (x ∷ xs) ys = rw (add-suc, ← suc-add) (sets-append (set l i x) (suc i) xs ys)
 

@@ -32,7 +32,7 @@ module _ (foes ends from : ℕ) where
   targets-end rest z = rw (z, members-none)
 
   module _ (rest to others : ℕ) (low : Lowest rest to others) where
-    targets-next : targetsMoves foes ends from (members rest)
+    pub targets-next : targetsMoves foes ends from (members rest)
         ≡ targetMoves foes ends from to ++ targetsMoves foes ends from (members others)
     unfolding targetsMoves flatMap
     targets-next = rw (low .first)

@@ -69,7 +69,7 @@ module _ (b : Board) (rest from others targets : ℕ) (low : Lowest rest from ot
 
   -- as code stores them behind those of a list
   module _ (foes ends : ℕ) (ef : foes ≡ setOf (taking b)) (ee : ends ≡ setOf (promotes b from)) where
-    turn-moves : flatMap (movesFrom b) (members rest)
+    pub turn-moves : flatMap (movesFrom b) (members rest)
         ≡ targetsMoves foes ends from (members targets) ++ flatMap (movesFrom b) (members others)
     turn-moves =
         turn-split

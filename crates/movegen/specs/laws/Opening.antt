@@ -89,7 +89,7 @@ module _ (occ : ℕ → Bool) (foe at square : ℕ) where
       (λ u n o. and-both (occ u) (not (eqb u square)) o (not-T (eqb u square) (λ e. n (eqb→eq u square e))))
       (x .kind) (x .square) (and-right own hit h))
 
-  unpinned : (x : Piece) → pieceStrikes (lifted occ at) foe at x ≡ false → pieceStrikes (lifted occ at) foe square x ≡ false
+  pub unpinned : (x : Piece) → pieceStrikes (lifted occ at) foe at x ≡ false → pieceStrikes (lifted occ at) foe square x ≡ false
       → pieceStrikes (lifted occ square) foe at x ≡ false
   unpinned x e f =
       fails (pieceStrikes (lifted occ square) foe at x) (λ h. ⊎-elim (λ a. refuted e a) (λ b. refuted f b) (strikes-opened x h))

@@ -1,21 +1,44 @@
+-- `move_list::move_count` meets its contract.
+use mathlib.Core.Path.{refl, sym, _∙_}
 use Rattle.move_list.specs.laws.AnswerLaws.{refused-count, given-count}
+use Rattle.move_list.specs.laws.PlacingLaws.{standing-refused, standing-check, standing-none}
+use native.Mathlib.Omega.{arith}
 use borrow.Author.Needs.{needs}
 use Rattle.move_list.proofs.answers.move_count.Statement.{statement}
 use Rattle.move_list.proofs.answers.move_count.Tie as tie
 
-standing-with-requires : tie.Need-standing-with-requires
-standing-with-requires c κs = search needs
+placing-with-requires : tie.Need-placing-with-requires
+placing-with-requires c κs = search needs
 
 returns : tie.Need-returns
-returns c = refused-count _ _ (c .before .standing-with .ensures) (c .if1 .taken)
+returns c =
+    let r = c .before .placing-with .ensures in
+    refused-count _ _ (r ∙ standing-refused _ (λ z. c .if1 .taken (r ∙ z))) (c .if1 .taken)
 
-count-of-requires : tie.Need-count-of-requires
-count-of-requires c κs = search needs
+movers-of-requires : tie.Need-movers-of-requires
+movers-of-requires c κs = search needs
 
 returns-2 : tie.Need-returns-2
 returns-2 c =
-    given-count _ _ (c .before .before .standing-with .ensures) (c .before .if1 .left) _ (c .count-of .ensures)
+    let m = c .before in
+    let z = sym (m .before .before .placing-with .ensures) ∙ m .before .if1 .left in
+    refused-count _ _ (standing-check _ z (sym (m .movers-of .ensures z .check) ∙ c .if2 .taken)) (λ q. absurd (omega (arith, q)))
+
+placed-count-requires : tie.Need-placed-count-requires
+placed-count-requires c κs =
+    let m = c .before in
+    let z = sym (m .before .before .placing-with .ensures) ∙ m .before .if1 .left in
+    (z, m .movers-of .ensures z)
+
+returns-3 : tie.Need-returns-3
+returns-3 c =
+    let m = c .before .before in
+    let r = m .before .before .placing-with .ensures in
+    let z = sym r ∙ m .before .if1 .left in
+    given-count _ _ (standing-none _ z (sym (m .movers-of .ensures z .check) ∙ c .before .if2 .left)) refl
+    _ (c .placed-count .ensures)
 
 pub move-count-spec : {M : Type 1} → statement M
 move-count-spec =
-    tie.close (tie.spec standing-with-requires returns count-of-requires returns-2)
+    tie.close
+    (tie.spec placing-with-requires returns movers-of-requires returns-2 placed-count-requires returns-3)

@@ -1,6 +1,7 @@
 -- `position::standing_refusal` meets its contract.
-use mathlib.Core.Path.{ap, _∙_}
+use mathlib.Core.Path.{sym, ap, _∙_}
 use Rattle.position.specs.Refusals.{orInCheck, standingRefusal}
+use Rattle.position.specs.laws.Unrefused.{placing-kings}
 use borrow.Author.Needs.{needs}
 use Rattle.position.proofs.refusals.standing_refusal.Statement.{statement}
 use Rattle.position.proofs.refusals.standing_refusal.Tie as tie
@@ -14,7 +15,7 @@ or-in-check-requires c κs = search needs
 returns : tie.Need-returns
 unfolding standingRefusal
 returns c =
-    c .or-in-check .ensures
+    c .or-in-check .ensures (λ z. placing-kings _ (sym (c .before .placing-refusal .ensures) ∙ z))
     ∙ ap (orInCheck (c .before .before .args .p)) (c .before .placing-refusal .ensures)
 
 pub standing-refusal-spec : {M : Type 1} → statement M

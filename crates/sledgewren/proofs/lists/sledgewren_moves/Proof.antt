@@ -1,58 +1,110 @@
--- `host::sledgewren_moves` meets its contract, by the test of the bytes' length.
-use mathlib.Core.Path.{ap, _∙_}
-use Rattle.move_list.specs.Answers.{listed}
+-- `sledgewren::sledgewren_moves` meets its contract: each return by the tests that led there.
+use mathlib.Core.Path.{sym, _∙_}
+use native.Mathlib.Omega.{arith}
+use Rattle.move_list.specs.laws.Served.{few-moves}
+use Rattle.move_list.specs.laws.PlacingLaws.{standing-refused, standing-check, standing-none}
 use borrow.Author.Needs.{needs}
-use Rattle.sledgewren.specs.laws.Laws.{not-listed, listed-few, listed-bytes}
+use Rattle.sledgewren.specs.laws.Laws.{not-listed, refused-bytes, given-bytes}
 use Rattle.sledgewren.proofs.lists.sledgewren_moves.Statement.{statement}
 use Rattle.sledgewren.proofs.lists.sledgewren_moves.Tie as tie
 
 returns : tie.Need-returns
 returns c = not-listed _ _ (c .if1 .taken)
 
+clear-requires : tie.Need-clear-requires
+clear-requires c κs = search needs
+
 position-read-requires : tie.Need-position-read-requires
 position-read-requires c κs = search needs
 
-legal-moves-requires : tie.Need-legal-moves-requires
-legal-moves-requires c κs = search needs
-
-write-moves-requires : tie.Need-write-moves-requires
-write-moves-requires c κs =
-    let l = c .before .before in
-    (l .before .before .if1 .left, listed-few _ _ (l .legal-moves .ensures))
+placing-with-requires : tie.Need-placing-with-requires
+placing-with-requires c κs = search needs
 
 cast-result : tie.Need-cast-result
 cast-result c = search needs
-
-cast-result-2 : tie.Need-cast-result-2
-cast-result-2 c = search needs
-
-mul-result : tie.Need-mul-result
-mul-result c = search needs
-
-add-result : tie.Need-add-result
-add-result c = search needs
 
 same-length : tie.Need-same-length
 same-length c = search needs
 
 returns-2 : tie.Need-returns-2
 returns-2 c =
-    let w = c .before .before .before .before in
-    let l = w .before .before .before in
-    listed-bytes _ _ _ _ (l .before .before .if1 .left)
-    (l .legal-moves .ensures ∙ ap listed (l .before .position-read .ensures)) (w .write-moves .ensures)
+    let q = c .before in
+    let r = q .before in
+    let k = r .before .before .before in
+    let e = q .placing-with .ensures in
+    refused-bytes _ _ (k .before .before .if1 .left) _ (k .clear .ensures) _ (r .position-read .ensures) _
+    (e ∙ standing-refused _ (λ z. c .if2 .taken (e ∙ z))) (c .if2 .taken)
+
+movers-of-requires : tie.Need-movers-of-requires
+movers-of-requires c κs = search needs
+
+cast-result-2 : tie.Need-cast-result-2
+cast-result-2 c = search needs
+
+same-length-2 : tie.Need-same-length-2
+same-length-2 c = search needs
+
+returns-3 : tie.Need-returns-3
+returns-3 c =
+    let m = c .before in
+    let q = m .before .before in
+    let r = q .before in
+    let k = r .before .before .before in
+    let z = sym (q .placing-with .ensures) ∙ m .before .if2 .left in
+    refused-bytes _ _ (k .before .before .if1 .left) _ (k .clear .ensures) _ (r .position-read .ensures) 6
+    (standing-check _ z (sym (m .movers-of .ensures z .check) ∙ c .if3 .taken)) (λ e. absurd (omega (arith, e)))
+
+write-moves-requires : tie.Need-write-moves-requires
+write-moves-requires c κs =
+    let m = c .before .before in
+    let q = m .before .before in
+    let k = q .before .before .before .before in
+    let z = sym (q .placing-with .ensures) ∙ m .before .if2 .left in
+    (k .clear .kept .0 ∙ k .before .before .if1 .left, m .movers-of .ensures z)
+
+cast-result-3 : tie.Need-cast-result-3
+cast-result-3 c =
+    let w = c .before .before in
+    let r = w .before .before .before .before .before .before in
+    omega (arith, w .write-moves .ensures .count, few-moves (r .position-read .result))
+
+mul-result : tie.Need-mul-result
+mul-result c =
+    let w = c .before .before in
+    let r = w .before .before .before .before .before .before in
+    omega (arith, w .write-moves .ensures .count, few-moves (r .position-read .result))
+
+same-length-3 : tie.Need-same-length-3
+same-length-3 c = search needs
+
+returns-4 : tie.Need-returns-4
+returns-4 c =
+    let w = c .before .before in
+    let m = w .before .before .before in
+    let q = m .before .before in
+    let r = q .before in
+    let k = r .before .before .before in
+    let z = sym (q .placing-with .ensures) ∙ m .before .if2 .left in
+    given-bytes _ _ (k .before .before .if1 .left) _ (k .clear .ensures) _ (r .position-read .ensures)
+    (sym (standing-none _ z (sym (m .movers-of .ensures z .check) ∙ w .before .before .if3 .left))) _ _ (w .write-moves .ensures)
 
 pub sledgewren-moves-spec : {M : Type 1} → statement M
 sledgewren-moves-spec =
     tie.close
     (tie.spec
     returns
+    clear-requires
     position-read-requires
-    legal-moves-requires
-    write-moves-requires
+    placing-with-requires
     cast-result
-    cast-result-2
-    mul-result
-    add-result
     same-length
-    returns-2)
+    returns-2
+    movers-of-requires
+    cast-result-2
+    same-length-2
+    returns-3
+    write-moves-requires
+    cast-result-3
+    mul-result
+    same-length-3
+    returns-4)
