@@ -23,13 +23,6 @@ pub fn king_at(q: Place, side: u8) -> u8
     if side == 0 { q.white } else { q.black }
 }
 
-// The square of a man, if he is of this side; off the board otherwise.
-fn square_if(owner: u8, side: u8, square: u8) -> u8
-    ensures { λ r. ⌜ r ≡ cond (eqb owner side) square 64 ⌝ }
-{
-    if owner == side { square } else { 64 }
-}
-
 // The occupied squares.
 pub fn occupied_at(q: Place) -> u64
     ensures { λ r. ⌜ ((m : Men) → r ≡ setOf (occupied (boardIn m q))) ⌝ }
@@ -62,14 +55,27 @@ pub fn own_at(m: Men, q: Place, side: u8) -> u64
     king_set(q, side) | (one_if(0, side, q.first) | one_if(m.colour, side, q.second))
 }
 
+// Whether a man is of this colour and attacks t: his colour is asked first, and whether he is there.
+fn strikes(occ: u64, kind: u8, owner: u8, square: u8, colour: u8, t: u8) -> bool
+    ensures { λ r. ⌜ r ≡ pieceStrikes (has occ) colour t (pieceOf kind owner square) ⌝ }
+{
+    if owner != colour {
+        return false;
+    }
+    if 64 <= square {
+        return false;
+    }
+    attacks(occ, kind, square, t)
+}
+
 // Whether a man of this colour attacks t.
 pub fn men_strike(m: Men, q: Place, occ: u64, colour: u8, t: u8) -> bool
     ensures { λ r. ⌜ r ≡ menStrike m q (has occ) colour t ⌝ }
 {
-    if attacks(occ, m.first, square_if(0, colour, q.first), t) {
+    if strikes(occ, m.first, 0, q.first, colour, t) {
         return true;
     }
-    attacks(occ, m.second, square_if(m.colour, colour, q.second), t)
+    strikes(occ, m.second, m.colour, q.second, colour, t)
 }
 
 // The squares that a man attacks, if he is of this colour and on the board: the lines are walked only then.

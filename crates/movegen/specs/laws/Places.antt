@@ -124,18 +124,6 @@ module _ (m : Men) (q : Place) where
 
 -- ---- a man by his square: off the board if he is not of the side asked for
 
-module _ (occ : ℕ → Bool) (colour t kind owner square : ℕ) where
-  strike-if : reaches occ kind (cond (eqb owner colour) square 64) t ≡ pieceStrikes occ colour t (pieceOf kind owner square)
-  strike-if = go (eqb owner colour)
-    where
-      go : (x : Bool) → reaches occ kind (cond x square 64) t ≡ (x && reaches occ kind square t)
-      go true = refl
-      go false = reaches-off occ kind 64 t (inl (omega arith))
-
-  pub struck : (at : ℕ) (x : Bool) → at ≡ cond (eqb owner colour) square 64 → x ≡ reaches occ kind at t
-      → x ≡ pieceStrikes occ colour t (pieceOf kind owner square)
-  struck at x e h = h ∙ ap (λ (s : ℕ). reaches occ kind s t) e ∙ strike-if
-
 own-if : (colour t kind owner square : ℕ) → t < 64
     → ownOn colour t (pieceOf kind owner square) ≡ eqb t (cond (eqb owner colour) square 64)
 own-if colour t kind owner square h = go (eqb owner colour)
