@@ -22,11 +22,13 @@ fn broken(entry: &str, answer: u64) -> ! {
     panic!("sledgewren_{entry} answered {answer:#x}, which its contract rules out")
 }
 
+#[inline]
 fn bits(answer: u64, first: u32) -> u8 {
     (answer >> first) as u8
 }
 
 /// The answer if its lowest bits hold no refusal.
+#[inline]
 fn unless_refused(entry: &str, answer: u64) -> Result<u64, Refusal> {
     match bits(answer, 0) {
         0 => Ok(answer),

@@ -151,6 +151,7 @@ impl Keyed {
     }
 
     /// The men as the library's C functions take them; 0 for none.
+    #[inline]
     pub fn words(self) -> [u32; 2] {
         self.men.map(|man| man.map_or(0, KeyedMan::word))
     }

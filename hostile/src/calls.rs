@@ -159,6 +159,9 @@ fn random_table(sequence: &mut Sequence, man: u8, manner: usize) -> Vec<u8> {
 /// Without small tables a pawn's ending is refused 7, whatever its own table's length.
 const NO_RUN: Refused = Refused(7);
 
+/// The word of refusal 1.
+const BAD_MAN: u32 = 1;
+
 fn compare_check(man: u8, table: &[u8], tally: &mut Tally) {
     let checked = if man as u32 == PAWN { Err(NO_RUN) } else { second_check(man, table) };
     let due = word(checked, |checked| match checked {
@@ -201,11 +204,13 @@ pub fn lengths(tally: &mut Tally) {
                 tally.add("fill", &(man, len), lent::fill(man as u32, NONE, &mut one), due);
                 tally.add("filled bytes", &(man, len), one == other, true);
                 let mut back = vec![dirt; len];
+                // The second fill keeps to pieces: a pawn stays refused 1 there (02, P12).
+                let due_back = if man as u32 == PAWN { BAD_MAN } else { due };
                 tally.add(
                     "fill back",
                     &(man, len),
                     lent::fill_back(man as u32, NONE, &mut back),
-                    due,
+                    due_back,
                 );
                 tally.add("bytes filled back", &(man, len), back == other, true);
                 compare_check(man, &one, tally);

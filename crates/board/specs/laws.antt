@@ -1,4 +1,3 @@
-pub mod MatchLaws
 pub mod SquareLaws
 pub mod LineLaws
 pub mod WalkLaws

@@ -1,11 +1,11 @@
 // The squares that a piece attacks, as one set.
-use super::empty_board::bishop_lines;
-use super::empty_board::king_steps;
-use super::empty_board::knight_steps;
-use super::empty_board::rook_lines;
 use super::steps::ends_of;
 use super::steps::step_at;
 use super::steps::stepped;
+use constants::bishop_lines;
+use constants::king_steps;
+use constants::knight_steps;
+use constants::rook_lines;
 ghost use mathlib.Core.Path.{_≡_};
 ghost use Prim.Native.Nat.{ℕ, _-_, _≤_, _<_};
 ghost use Rattle.finite.specs.Members.{any};

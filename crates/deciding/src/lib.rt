@@ -7,10 +7,10 @@ mod verdicts;
 
 pub use numbers::is_legal_number;
 pub use numbers::legal_at;
+pub use pawn::pawn_verdict;
 pub use settling::requires_at;
-pub use verdicts::byte_at;
+pub use verdicts::requires_byte;
 pub use verdicts::requires_depth;
-pub use verdicts::verdict_on;
 
 // The kind of a pawn.
 pub const PAWN: u8 = 4;

@@ -44,6 +44,17 @@ pub fn pawn_verdict(q: Place, byte: u8, table: &[u8], run: &[u8]) -> Verdict
     }
 }
 
+// Whether the byte is the one required.
+pub fn pawn_requires_byte(q: Place, byte: u8, table: &[u8], run: &[u8]) -> bool
+    ensures { λ r. ⌜ (PawnOn q → r ≡ eqb byte (requiredAt chess (pawnBytes (now (run .entry)) (now (table .entry))) (pawnAt q))) ⌝ }
+{
+    let verdict = pawn_verdict(q, byte, table, run);
+    match verdict {
+        Verdict::Wrong => false,
+        Verdict::Right(_) => true,
+    }
+}
+
 // Whether the rule requires depth k.
 pub fn pawn_requires(q: Place, k: u8, table: &[u8], run: &[u8]) -> bool
     ensures { λ r. ⌜ (PawnOn q → r ≡ eqb (requiredAt chess (pawnBytes (now (run .entry)) (now (table .entry))) (pawnAt q)) (2 + k)) ⌝ }

@@ -3,7 +3,7 @@
 use mathlib.Core.Path.{_≡_}
 use mathlib.Core.Bool.{Bool, false, cond}
 use mathlib.Core.Logic.{_⊎_}
-use Prim.Native.Nat.{_-_, _<_, _/_, _%_}
+use Prim.Native.Nat.{ℕ, _-_, _<_, _/_, _%_}
 use lib.Dec.{T, ltb, eqb}
 use Rattle.rules.specs.declared.Piece.{Piece}
 use Rattle.rules.specs.Pawn.{inner}
@@ -71,6 +71,14 @@ unfoldable pub swapsAt : Men → Place → Bool
 swapsAt m q =
     let k = turnedKey (q .white) (q .black) (q .first) (q .second) in
     ltb (risingKey (alike m) (transposedKey k)) (risingKey (alike m) k)
+
+-- the normal place by a key and the one with file and rank exchanged, and the map that leads to it
+unfoldable pub normalBy : Men → Place → ℕ → ℕ → NormalPlace
+normalBy m q s t = record {
+  men = m;
+  place = placeFrom (alone q) (q .side) (cond (ltb t s) t s);
+  via = record { files = ltb 3 (q .white % 8); ranks = ltb 3 (q .white / 8); swap = ltb t s };
+}
 
 -- the normal place of a class and the map that leads to it
 unfoldable pub normalAs : Arranged → NormalPlace

@@ -1,7 +1,8 @@
 -- The least key of a class of boards with one man or two, as code finds it: four squares in one number. Definitions
 -- only.
+use mathlib.Core.Path.{_≡_}
 use mathlib.Core.Bool.{Bool, cond, _&&_}
-use Prim.Native.Nat.{ℕ, _+_, _*_, _/_, _%_}
+use Prim.Native.Nat.{ℕ, _+_, _*_, _/_, _%_, _<_}
 use lib.Bits.{bitAnd, bitXor}
 use lib.Dec.{leb, ltb}
 use Rattle.numbering.specs.Kings.{above, onDiagonal}
@@ -28,6 +29,14 @@ unfoldable pub turnedKey : ℕ → ℕ → ℕ → ℕ → ℕ
 turnedKey white black first second =
     let flip = flipOf white in
     packed (bitXor white flip) (bitXor black flip) (bitXor first flip) (cond (leb 64 second) 0 (bitXor second flip))
+
+-- a key of squares as they stand: 0 for a second man who is not there
+pub record KeyFor (single : Bool) (k w b x y : ℕ) : Type 0 where
+  pub white : w < 64
+  pub black : b < 64
+  pub first : x < 64
+  pub alone : single ≡ leb 64 y
+  pub key : k ≡ packed w b x (cond single 0 y)
 
 -- file and rank exchanged in each of the squares: 1864135 keeps the files
 unfoldable pub transposedKey : ℕ → ℕ

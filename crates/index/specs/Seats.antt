@@ -9,7 +9,7 @@ use Rattle.numbering.specs.Material.{known, menOf}
 use Rattle.position.specs.declared.Men.{Men}
 use Rattle.position.specs.declared.Place.{Place}
 use Rattle.position.specs.Posed.{boardIn, materialFor}
-use Rattle.index.specs.Least.{turnedKey, leastOf}
+use Rattle.index.specs.Least.{packed, turnedKey, leastOf}
 
 -- kings and men stand on the board, two on one square perhaps, and none is missing
 pub record Seated (m : Men) (q : Place) : Type 0 where
@@ -33,6 +33,10 @@ alike m = eqb (m .first) (m .second) && eqb 0 (m .colour)
 -- there is no second man
 abbrev pub alone : Place → Bool
 alone q = leb 64 (q .second)
+
+-- the key of the squares as they stand
+unfoldable pub keyAt : Place → ℕ
+keyAt q = packed (q .white) (q .black) (q .first) (cond (alone q) 0 (q .second))
 
 -- the least key of the class
 unfoldable pub leastAt : Men → Place → ℕ

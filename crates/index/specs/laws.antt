@@ -3,6 +3,7 @@ pub mod NumberLaws
 pub mod BackLaws
 pub mod Count
 pub mod LeastLaws
+pub mod KeyLaws
 pub mod NormalKey
 pub mod SeatLaws
 pub mod PlaceLaws

@@ -7,7 +7,6 @@ use super::least::place_from;
 use super::least::rising_key;
 use super::least::transposed_key;
 use super::least::turned_key;
-use super::pawns::pawn_normal_place;
 use position::Map;
 use position::Men;
 use position::Place;
@@ -16,8 +15,9 @@ use position::man_in;
 use position::other;
 use rules::Piece;
 ghost use mathlib.Core.Path.{_≡_};
+ghost use Rattle.position.specs.Keyed.{manKind};
 ghost use Rattle.position.specs.Refusals.{placingWith};
-ghost use Rattle.index.specs.Arranging.{goesAfter, whiteFirst, arrangedAs, normalAs, Normalises};
+ghost use Rattle.index.specs.Arranging.{goesAfter, whiteFirst, arrangedAs, normalBy, normalAs, Normalises};
 
 // Whether the first man's kind is the later one, or of one kind he is Black's and the other White's.
 fn goes_after(a: Piece, c: Piece) -> bool
@@ -79,15 +79,11 @@ pub fn arrange(p: Position) -> Arranged
     white_first(a, c, p)
 }
 
-// The normal place of an arranged position, and the map that leads to it.
-fn normal_of(men: Men, q: Place) -> NormalPlace
-    ensures { λ r. ⌜ r ≡ normalAs (record { men = men; place = q }) ⌝ }
+// The normal place of an arranged position, by its key and the one with file and rank exchanged.
+fn normal_by(men: Men, q: Place, s: u32, t: u32) -> NormalPlace
+    ensures { λ r. ⌜ r ≡ normalBy men q s t ⌝ }
 {
     let white = q.white;
-    let like = alike(men);
-    let k = turned_key(q.white, q.black, q.first, q.second);
-    let t = rising_key(like, transposed_key(k));
-    let s = rising_key(like, k);
     let place = place_from(64 <= q.second, q.side, lesser(s, t));
     NormalPlace {
         men: men,
@@ -100,15 +96,22 @@ fn normal_of(men: Men, q: Place) -> NormalPlace
     }
 }
 
-// The normal place of a position's class, and the map that leads to it.
-pub fn normal_place(p: Position) -> NormalPlace
-    ensures { λ r. ⌜ (placingWith p ≡ 0 → Normalises p r) ⌝ }
+// The normal place of an arranged position, and the map that leads to it. Only like men may change places.
+fn normal_of(men: Men, q: Place) -> NormalPlace
+    ensures { λ r. ⌜ r ≡ normalAs (record { men = men; place = q }) ⌝ }
 {
-    let first = p.first;
-    let man = man_in(first);
-    if man.kind == 4 {
-        return pawn_normal_place(p);
+    let k = turned_key(q.white, q.black, q.first, q.second);
+    let t = transposed_key(k);
+    if alike(men) {
+        return normal_by(men, q, rising_key(true, k), rising_key(true, t));
     }
+    normal_by(men, q, k, t)
+}
+
+// The normal place of a position's class, its men pieces, and the map that leads to it.
+pub fn normal_place(p: Position) -> NormalPlace
+    ensures { λ r. ⌜ (placingWith p ≡ 0 → (manKind p ≡ 4 → ⊥) → Normalises p r) ⌝ }
+{
     let a = arrange(p);
     normal_of(a.men, a.place)
 }

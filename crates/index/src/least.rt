@@ -1,6 +1,8 @@
 // The least key of a class, with one man or two: four squares in one number, six bits each. With the kings before the
 // men, the lesser of a key and the same with file and rank exchanged has the kings by the rule and the men as they
 // prefer.
+use super::keys::key_at;
+use super::keys::number_keyed;
 use pairs::PAIR_COUNT;
 use pairs::pair_in;
 use pairs::pair_list;
@@ -9,7 +11,7 @@ use position::Place;
 use position::other;
 ghost use mathlib.Core.Path.{_≡_};
 ghost use mathlib.Core.Bool.{cond};
-ghost use Prim.Native.Nat.{ℕ, _/_, _%_, _<_};
+ghost use Prim.Native.Nat.{ℕ, _/_, _%_, _^_, _<_};
 ghost use lib.Dec.{T, ltb};
 ghost use Rattle.numbering.specs.Kings.{inTriangle};
 ghost use Rattle.numbering.specs.Number.{numberOf};
@@ -38,8 +40,8 @@ pub fn flip_of(white: u8) -> u8
 }
 
 // Four squares: the white king's, the black king's, the first man's, the second's.
-fn packed(w: u8, b: u8, x: u8, y: u8) -> u32
-    ensures { λ r. ⌜ r ≡ packedOf w b x y ⌝ }
+pub fn packed(w: u8, b: u8, x: u8, y: u8) -> u32
+    ensures { λ r. ⌜ (r ≡ packedOf w b x y) × (r < 2 ^ 27) ⌝ }
 {
     ((w as u32 * 64 + b as u32) * 64 + x as u32) * 64 + y as u32
 }
@@ -85,7 +87,7 @@ pub fn lesser(k: u32, t: u32) -> u32
 }
 
 // File and rank exchanged where that is less.
-fn least_of(like: bool, k: u32) -> u32
+pub fn least_of(like: bool, k: u32) -> u32
     ensures { λ r. ⌜ r ≡ leastOf like k ⌝ }
 {
     let t = transposed_key(k);
@@ -144,37 +146,17 @@ fn number_by(single: bool, side: u8, pair: u16, k: u32) -> u32
 }
 
 // The number that a key tells, with one man or with two; a least key has its white king in the triangle a1-d1-d4.
-fn number_from(single: bool, side: u8, k: u32) -> u32
+pub fn number_from(single: bool, side: u8, k: u32) -> u32
     ensures { λ r. ⌜ (T (inTriangle (k / 4096 % 4096 / 64)) → r ≡ numberFrom single side k) ⌝ }
 {
     number_by(single, side, pairs::pair_by((k / 4096 % 4096) as u16), k)
-}
-
-// The number of squares given one by one, since a place handed through memory costs time.
-fn number_on(single: bool, like: bool, side: u8, white: u8, black: u8, first: u8, second: u8) -> u32
-    ensures { λ r. ⌜ (T (inTriangle (leastOf like (turnedKey white black first second) / 4096 % 4096 / 64)) → r ≡ numberFrom single side (leastOf like (turnedKey white black first second))) ⌝ }
-{
-    number_from(
-        single,
-        side,
-        least_of(like, turned_key(white, black, first, second)),
-    )
 }
 
 // The number of an ending's men on the board.
 pub fn number_at(m: Men, q: Place) -> u32
     ensures { λ r. ⌜ (Seated m q → r ≡ numberOf (boardIn m q)) ⌝ }
 {
-    let like = alike(m);
-    number_on(
-        64 <= q.second,
-        like,
-        q.side,
-        q.white,
-        q.black,
-        q.first,
-        q.second,
-    )
+    number_keyed(64 <= q.second, alike(m), q.side, key_at(q))
 }
 
 // The same, the pair by the constant list.
@@ -192,11 +174,7 @@ pub fn number_listed(m: Men, q: Place) -> u32
 fn number_one(side: u8, white: u8, black: u8, square: u8) -> u32
     ensures { λ r. ⌜ ((kind : ℕ) → white < 64 → black < 64 → square < 64 → r ≡ numberOf (boardOf (oneMan kind 0 side white square black))) ⌝ }
 {
-    number_from(
-        true,
-        side,
-        least_of(false, turned_key(white, black, square, 64)),
-    )
+    number_keyed(true, false, side, packed(white, black, square, 0))
 }
 
 // The number of a man left alone, of either side.

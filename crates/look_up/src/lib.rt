@@ -2,11 +2,12 @@
 use answers::Answer;
 use answers::BestMove;
 use deciding::PAWN;
-use deciding::byte_at;
-use deciding::verdict_on;
+use deciding::pawn_verdict;
 use four_men::lengths_fit;
 use four_men::material_for;
 use index::normal_place;
+use index::pawn_normal_place;
+use pawn_moves::pawn_byte;
 use position::BAD_MAN;
 use position::INCONSISTENT;
 use position::Map;
@@ -17,12 +18,17 @@ use position::man_in;
 use position::standing_with;
 use rules::promotion_of;
 use successors::Verdict;
+use successors::byte_at;
+use successors::verdict_on;
 ghost use mathlib.Core.Path.{_≡_};
 ghost use Rattle.symmetry.specs.Symmetry.{inverse};
+ghost use Rattle.position.specs.Keyed.{manKind};
+ghost use Rattle.position.specs.Refusals.{standingWith};
 ghost use Rattle.position.specs.Maps.{symmetryOf};
 ghost use Rattle.endings.specs.Answers.{mappedAdvice, answerOf, lookUpOf};
 ghost use Rattle.four_men.specs.Lending.{lent};
 ghost use Rattle.four_men.specs.Answers.{lookUpWith};
+ghost use Rattle.look_up.specs.Told.{toldOf};
 
 // What a byte that stands says of the side to move.
 fn answer(byte: u8, advice: BestMove) -> Answer
@@ -52,6 +58,45 @@ fn carried_back(via: Map, advice: BestMove) -> BestMove
     }
 }
 
+// What a verdict on the normal position's byte says of the position as keyed.
+fn told(via: Map, byte: u8, verdict: Verdict) -> Answer
+    ensures { λ r. ⌜ r ≡ toldOf via byte verdict ⌝ }
+{
+    match verdict {
+        Verdict::Wrong => Answer::Refused(INCONSISTENT),
+        Verdict::Right(advice) => answer(byte, carried_back(via, advice)),
+    }
+}
+
+// A position with a pawn that nothing refuses; the tables that it borrows are one run, the first.
+fn look_up_pawn(p: Position, table: &[u8], first: &[u8], second: &[u8]) -> Answer
+    ensures { λ r. ⌜ (standingWith p ≡ 0 → manKind p ≡ 4 → r ≡ lookUpWith (lent (now (first .entry)) (now (second .entry))) (now (table .entry)) p) ⌝ }
+{
+    let normal = pawn_normal_place(p);
+    let m = normal.men;
+    let q = normal.place;
+    if !lengths_fit(material_for(m), table, first, second) {
+        return Answer::Refused(TABLE_LENGTH);
+    }
+    let byte = pawn_byte(q, table);
+    told(normal.via, byte, pawn_verdict(q, byte, table, first))
+}
+
+// One of pieces.
+fn look_up_pieces(p: Position, table: &[u8], first: &[u8], second: &[u8]) -> Answer
+    ensures { λ r. ⌜ (standingWith p ≡ 0 → (manKind p ≡ 4 → ⊥) → r ≡ lookUpWith (lent (now (first .entry)) (now (second .entry))) (now (table .entry)) p) ⌝ }
+{
+    let normal = normal_place(p);
+    let m = normal.men;
+    let q = normal.place;
+    if !lengths_fit(material_for(m), table, first, second) {
+        return Answer::Refused(TABLE_LENGTH);
+    }
+    let byte = byte_at(m, q, table);
+    let verdict = verdict_on(m, q, byte, table, first, second);
+    told(normal.via, byte, verdict)
+}
+
 // The value, the depth and a move, by the table of the position's own ending and the lent ones; or a refusal, 1 to 7,
 // 11 or 18. It asks the normal position, so that one study has one move.
 pub fn look_up_with(p: Position, table: &[u8], first: &[u8], second: &[u8]) -> Answer
@@ -61,18 +106,12 @@ pub fn look_up_with(p: Position, table: &[u8], first: &[u8], second: &[u8]) -> A
     if refusal != 0 {
         return Answer::Refused(refusal);
     }
-    let normal = normal_place(p);
-    let m = normal.men;
-    let q = normal.place;
-    if !lengths_fit(material_for(m), table, first, second) {
-        return Answer::Refused(TABLE_LENGTH);
+    let slot = p.first;
+    let man = man_in(slot);
+    if man.kind == PAWN {
+        return look_up_pawn(p, table, first, second);
     }
-    let byte = byte_at(m, q, table);
-    let verdict = verdict_on(m, q, byte, table, first, second);
-    match verdict {
-        Verdict::Wrong => Answer::Refused(INCONSISTENT),
-        Verdict::Right(advice) => answer(byte, carried_back(normal.via, advice)),
-    }
+    look_up_pieces(p, table, first, second)
 }
 
 // The same for the parts that keep to three men, whose tables borrow none: two men are refused 1, and so is a

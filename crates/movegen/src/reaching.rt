@@ -1,15 +1,16 @@
 // The legal targets of all pieces of the side to move, on an ending's place.
 use super::Reach;
 use super::places::king_at;
+use super::places::king_set;
 use super::places::men_check;
 use super::places::occupied_at;
 use super::places::own_at;
 use super::places::place_after;
 use super::places::strike_set;
+use super::places::struck_by;
 use board::has as has_square;
 use board::lowest;
 use board::minus;
-use board::one;
 use board::targets;
 use board::with;
 use board::without;
@@ -22,7 +23,7 @@ ghost use Prim.Native.Nat.{ℕ, _<_};
 ghost use Rattle.board.specs.Sets.{has, setOf};
 ghost use Rattle.rules.specs.Rules.{king, inCheck, moved, canMove};
 ghost use Rattle.position.specs.Posed.{boardIn, Complete};
-ghost use Rattle.movegen.specs.Reach.{Man, Stays, View, Mover};
+ghost use Rattle.movegen.specs.Reach.{Stays, View, Mover};
 
 const KING: u8 = 5;
 
@@ -42,11 +43,14 @@ fn tested(m: Men, q: Place, from: u8, free: u64) -> u64
     safe
 }
 
-// The targets of a man who may shield his king: all, or those of the targets that may parry an attack which leave no
-// check.
+// The targets of a man who may shield his king, of those that his own side leaves free: all, or those that may parry an
+// attack and leave no check.
 fn shielding(m: Men, q: Place, occ: u64, square: u8, free: u64) -> u64
-    ensures { λ r. ⌜ ((kind : ℕ) → Mover m q occ kind square free → r ≡ setOf (canMove (boardIn m q) square)) ⌝ }
+    ensures { λ r. ⌜ ((kind owner : ℕ) → Mover m q occ kind owner square free → r ≡ setOf (canMove (boardIn m q) square)) ⌝ }
 {
+    if free == 0 {
+        return 0;
+    }
     let side = q.side;
     let foe = other(side);
     let strike = strike_set(m, q, without(occ, square), foe);
@@ -54,35 +58,6 @@ fn shielding(m: Men, q: Place, occ: u64, square: u8, free: u64) -> u64
         return free;
     }
     tested(m, q, square, free & (strike | own_at(m, q, foe)))
-}
-
-// A man's targets. `strike` are the squares that his foes attack with his king lifted off the board: he is free to go
-// where it holds neither his square nor his king's.
-fn man_reach(
-    m: Men,
-    q: Place,
-    occ: u64,
-    own: u64,
-    strike: u64,
-    kind: u8,
-    owner: u8,
-    square: u8,
-) -> u64
-    ensures { λ r. ⌜ (View m q occ own strike → Man m q kind owner square → r ≡ setOf (canMove (boardIn m q) square)) ⌝ }
-{
-    let side = q.side;
-    if owner != side {
-        return 0;
-    }
-    if 64 <= square {
-        return 0;
-    }
-    let free = minus(targets(occ, kind, square), own);
-    let two = with(one(king_at(q, side)), square);
-    if strike & two == 0 {
-        return free;
-    }
-    shielding(m, q, occ, square, free)
 }
 
 // The king's: the squares next to him that no foe attacks.
@@ -94,17 +69,29 @@ fn king_reach(q: Place, own: u64, strike: u64) -> u64
     minus(free, targets(0, KING, king_at(q, other(side))) | strike)
 }
 
-// Where the pieces of the side to move may go: the other side's have no targets.
+// Where the pieces of the side to move may go: the other side's have no targets. The squares that the foes attack with
+// the mover's king lifted off the board tell all at once: where they hold none of his pieces, nobody gives check and
+// nobody is pinned.
 pub fn reach_of(m: Men, q: Place) -> Reach
     ensures { λ r. ⌜ (Complete m q → (r .king ≡ setOf (canMove (boardIn m q) (king (boardIn m q) (q .side)))) × (r .first ≡ setOf (canMove (boardIn m q) (q .first))) × (r .second ≡ setOf (canMove (boardIn m q) (q .second)))) ⌝ }
 {
     let side = q.side;
     let occ = occupied_at(q);
     let own = own_at(m, q, side);
-    let strike = strike_set(m, q, without(occ, king_at(q, side)), other(side));
+    let strike = strike_set(m, q, minus(occ, king_set(q, side)), other(side));
+    let king = king_reach(q, own, strike);
+    let first = minus(struck_by(occ, m.first, 0, q.first, side), own);
+    let second = minus(struck_by(occ, m.second, m.colour, q.second, side), own);
+    if strike & own == 0 {
+        return Reach {
+            king,
+            first,
+            second,
+        };
+    }
     Reach {
-        king: king_reach(q, own, strike),
-        first: man_reach(m, q, occ, own, strike, m.first, 0, q.first),
-        second: man_reach(m, q, occ, own, strike, m.second, m.colour, q.second),
+        king,
+        first: shielding(m, q, occ, q.first, first),
+        second: shielding(m, q, occ, q.second, second),
     }
 }

@@ -1,6 +1,6 @@
 // The pair of two kings' squares, by a constant list and by the same list packed.
 use super::PairList;
-use super::packed::four_pairs;
+use constants::four_pairs;
 ghost use mathlib.Core.Path.{_≡_};
 ghost use Prim.Native.Nat.{_/_, _%_, _<_};
 ghost use lib.Dec.{T};
@@ -694,20 +694,6 @@ fn pair_at(i: u16) -> u16
     ensures { λ r. ⌜ r ≡ getD pairs i 0 ⌝ }
 {
     ((four_pairs(i / 4) >> (i % 4 * 16)) % 65536) as u16
-}
-
-// The pair of any two bytes; 65535 where they form none.
-pub fn pair_of(white: u8, black: u8) -> u16
-    ensures { λ r. ⌜ r ≡ pairOf white black ⌝ }
-{
-    let slot = slot_of(white);
-    if 10 <= slot {
-        return 65535;
-    }
-    if 64 <= black {
-        return 65535;
-    }
-    pair_at(slot as u16 * 64 + black as u16)
 }
 
 // The pair of kings packed as white king's square x 64 + black king's, the white king in the triangle a1-d1-d4, where each rank has one square fewer

@@ -1,13 +1,11 @@
 // The 462 pairs of kings, in rising order of white king's square, then black king's.
 mod back;
 mod forth;
-mod packed;
 
 pub use back::kings_of;
 pub use forth::pair_by;
 pub use forth::pair_in;
 pub use forth::pair_list;
-pub use forth::pair_of;
 
 // How many pairs there are.
 pub const PAIR_COUNT: u32 = 462;

@@ -1,7 +1,8 @@
 -- Moves that take no man. Definitions only.
-use mathlib.Core.Bool.{Bool, not, _&&_, _||_}
-use Prim.Native.Nat.{ℕ, _-_}
-use lib.Dec.{eqb}
+use mathlib.Core.Bool.{Bool, cond, not, _&&_, _||_}
+use Prim.Native.Nat.{ℕ, _+_, _*_, _-_}
+use lib.Bits.{bitXor}
+use lib.Dec.{leb, eqb}
 use Rattle.board.specs.Sets.{has}
 use Rattle.rules.specs.Rules.{carried}
 use Rattle.position.specs.declared.Men.{Men}
@@ -17,12 +18,33 @@ takesMan targets q = has targets (q .first) || has targets (q .second)
 abbrev pub ofMan : Place → ℕ → Bool
 ofMan q from = eqb (q .first) from || eqb (q .second) from
 
--- neither the kings nor the men's likeness exchange anything, and no king stands on the square, nor both men
-abbrev pub plainFor : Men → Place → Frame → ℕ → Bool
-plainFor m q f from =
-    eqb (f .exchange) 0
-    && (not (alike m)
-    && (not (eqb (q .white) from || eqb (q .black) from) && not (eqb (q .first) from && eqb (q .second) from)))
+-- neither the kings nor the men's likeness exchange anything
+abbrev pub plainFor : Men → Frame → Bool
+plainFor m f = eqb (f .exchange) 0 && not (alike m)
+
+-- where the bytes of the man on a square begin, and how far apart they lie
+abbrev pub baseFor : Men → Place → Frame → ℕ → ℕ
+baseFor m q f from =
+    cond (leb 4 (m .second)) (f .kings * 64)
+    (cond (eqb (q .first) from) (f .kings * 4096 + bitXor (q .second) (f .flip))
+    (f .kings * 4096 + bitXor (q .first) (f .flip) * 64))
+
+abbrev pub scaleFor : Men → Place → ℕ → ℕ
+scaleFor m q from = cond (leb 4 (m .second)) 1 (cond (eqb (q .first) from) 64 1)
+
+-- what a step of one square adds to a key, of White's king or of Black's
+abbrev pub kingUnit : ℕ → ℕ
+kingUnit side = cond (eqb side 0) 262144 4096
+
+-- the place with the king of the side to move on a1
+abbrev pub kingLifted : Place → Place
+kingLifted q = record {
+  side = q .side;
+  white = cond (eqb (q .side) 0) 0 (q .white);
+  black = cond (eqb (q .side) 0) (q .black) 0;
+  first = q .first;
+  second = q .second;
+}
 
 -- the place after a king's move that takes no man
 abbrev pub kingTo : Place → ℕ → ℕ → Place

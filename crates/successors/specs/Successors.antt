@@ -29,6 +29,7 @@ use Rattle.successors.specs.declared.Sifted.{Sifted}
 use Rattle.successors.specs.declared.Judged.{Judged}
 use Rattle.successors.specs.declared.Seen.{Seen}
 use Rattle.successors.specs.declared.Verdict.{Verdict}
+use Rattle.successors.specs.declared.Weighed.{Weighed}
 
 -- the byte of a board of the ending, and of what its captures leave: in its own table, and in the lent ones
 abbrev pub bytesIn : Men → List ℕ → List ℕ → List ℕ → Board → ℕ
@@ -107,10 +108,36 @@ abbrev pub noTargets : Reach → Bool
 noTargets r = eqb (r .king) 0 && (eqb (r .first) 0 && eqb (r .second) 0)
 
 -- with no move left the byte is 2 in check, which is mate, and 1 otherwise, which is stalemate
+unfoldable pub endVerdict : ℕ → Board → Verdict
+endVerdict c b = cond (eqb c (cond (inCheck b (b .side)) 2 1)) (Verdict.Right BestMove.NoMove) Verdict.Wrong
+
 unfoldable pub overOf : ℕ → Reach → Board → Verdict
-overOf c r b =
-    cond (noTargets r)
-    (cond (eqb c (cond (inCheck b (b .side)) 2 1)) (Verdict.Right BestMove.NoMove) Verdict.Wrong) Verdict.Wrong
+overOf c r b = cond (noTargets r) (endVerdict c b) Verdict.Wrong
+
+-- ---- a byte weighed
+
+-- no byte suits, and what the pieces' targets are
+pub record NoneSuits (m : Men) (q : Place) (byte : Board → ℕ) (c : ℕ) (stuck : Bool) : Type 0 where
+  pub sets : Reach
+  pub found : judgedFrom byte c (boardIn m q) (kingAt q) (q .first) (q .second) ≡ Judged.Found sets
+  pub unseen : 64 ≤ seenIn (kingAt q) (q .first) (q .second) sets .from
+  pub reach : Reach
+  pub reaches : Reaches m q reach
+  pub targets : noTargets reach ≡ stuck
+
+-- the first of the moves whose bytes suit
+pub record OneSuits (m : Men) (q : Place) (byte : Board → ℕ) (c : ℕ) (s : Seen) : Type 0 where
+  pub sets : Reach
+  pub found : judgedFrom byte c (boardIn m q) (kingAt q) (q .first) (q .second) ≡ Judged.Found sets
+  pub seen : s ≡ seenIn (kingAt q) (q .first) (q .second) sets
+  pub on : s .from < 64
+
+abbrev pub Weighs : Men → Place → (Board → ℕ) → ℕ → Weighed → Type 0
+Weighs m q byte c Weighed.Refuted =
+    judgedFrom byte c (boardIn m q) (kingAt q) (q .first) (q .second) ≡ Judged.Refuted
+Weighs m q byte c Weighed.Unmet = NoneSuits m q byte c false
+Weighs m q byte c Weighed.Stuck = NoneSuits m q byte c true
+Weighs m q byte c (Weighed.Met s) = OneSuits m q byte c s
 
 -- ---- what stands at a number
 

@@ -4,6 +4,7 @@ pub mod FramingLaws
 pub mod ByteLaws
 pub mod SiftLaws
 pub mod QuietLaws
+pub mod KingKeys
 pub mod JudgeLaws
 pub mod ChoiceLaws
 pub mod VerdictLaws

@@ -16,7 +16,6 @@ use position::Place;
 use position::other;
 ghost use mathlib.Core.Path.{_≡_};
 ghost use mathlib.Core.Bool.{true, false};
-ghost use mathlib.Core.List.{List};
 ghost use Prim.Native.Nat.{ℕ, _+_, _*_, _-_, _^_, _<_};
 ghost use lib.Bits.{bitXor};
 ghost use lib.Dec.{T};
@@ -24,9 +23,8 @@ ghost use lib.ListN.{getD};
 ghost use Rattle.board.specs.Sets.{setOf};
 ghost use Rattle.rules.specs.Rules.{Board, moved, canMove};
 ghost use Rattle.position.specs.Posed.{boardIn, Complete};
-ghost use Rattle.successors.specs.Framing.{frameFor};
 ghost use Rattle.successors.specs.Successors.{bytesIn, siftedFrom};
-ghost use Rattle.successors.specs.Quiet.{takesMan, ofMan, plainFor};
+ghost use Rattle.successors.specs.Quiet.{takesMan, ofMan, plainFor, baseFor, scaleFor};
 
 // A target's place in the table.
 fn spot(base: usize, flip: u8, scale: u8, to: u8) -> usize
@@ -63,15 +61,11 @@ fn sift_plain(base: usize, flip: u8, scale: u8, targets: u64, byte: u16, table: 
     Sifted::Suited(found)
 }
 
-// Whether neither the kings nor the men's likeness exchange anything, and no king stands on the square, nor both
-// men.
-fn is_plain(m: Men, q: Place, f: Frame, from: u8) -> bool
-    ensures { λ r. ⌜ r ≡ plainFor m q f from ⌝ }
+// Whether neither the kings nor the men's likeness exchange anything.
+fn is_plain(m: Men, f: Frame) -> bool
+    ensures { λ r. ⌜ r ≡ plainFor m f ⌝ }
 {
-    (f.exchange == 0)
-        & (!alike(m)
-            & (!((q.white == from) | (q.black == from))
-                & !((q.first == from) & (q.second == from))))
+    (f.exchange == 0) & !alike(m)
 }
 
 // A square with the reversals of a frame.
@@ -103,18 +97,26 @@ fn base_of_second(f: Frame, first: u8) -> usize
     f.kings as usize * 4096 + s as usize * 64
 }
 
-// The moves of a man who takes none, by the frame of his kings.
-fn sift_along(m: Men, q: Place, f: Frame, from: u8, targets: u64, byte: u16, table: &[u8]) -> Sifted
-    ensures { λ r. ⌜ (Complete m q → targets ≡ setOf (canMove (boardIn m q) from) → takesMan targets q ≡ false → ofMan q from ≡ true → f ≡ frameFor (1 - q .side) (q .white) (q .black) → plainFor m q f from ≡ true → (first second : List ℕ) → r ≡ siftedFrom (bytesIn m first second (now (table .entry))) byte (boardIn m q) from) ⌝ }
+// Where the bytes of the man on a square begin, and how far apart they lie.
+fn base_for(m: Men, q: Place, f: Frame, from: u8) -> usize
+    ensures { λ r. ⌜ (r ≡ baseFor m q f from) × (r < 2 ^ 48) ⌝ }
 {
-    let flip = f.flip;
     if 4 <= m.second {
-        return sift_plain(base_of_one(f), flip, 1, targets, byte, table);
+        return base_of_one(f);
     }
     if q.first == from {
-        return sift_plain(base_of_first(f, q.second), flip, 64, targets, byte, table);
+        return base_of_first(f, q.second);
     }
-    sift_plain(base_of_second(f, q.first), flip, 1, targets, byte, table)
+    base_of_second(f, q.first)
+}
+
+fn scale_for(m: Men, q: Place, from: u8) -> u8
+    ensures { λ r. ⌜ r ≡ scaleFor m q from ⌝ }
+{
+    if 4 <= m.second {
+        return 1;
+    }
+    if q.first == from { 64 } else { 1 }
 }
 
 // The moves of a man who takes none.
@@ -131,8 +133,9 @@ pub fn sift_man(
     ensures { λ r. ⌜ (Complete m q → targets ≡ setOf (canMove (boardIn m q) from) → takesMan targets q ≡ false → ofMan q from ≡ true → r ≡ siftedFrom (bytesIn m (now (first .entry)) (now (second .entry)) (now (table .entry))) byte (boardIn m q) from) ⌝ }
 {
     let f = frame_for(other(q.side), q.white, q.black);
-    if is_plain(m, q, f, from) {
-        return sift_along(m, q, f, from, targets, byte, table);
+    if is_plain(m, f) {
+        let base = base_for(m, q, f, from);
+        return sift_plain(base, f.flip, scale_for(m, q, from), targets, byte, table);
     }
     sift_each(m, q, from, targets, byte, table, first, second)
 }

@@ -1,4 +1,4 @@
-// A king's moves that take no man: each byte by its number, with no question what is left.
+// A king's moves that take no man: his squares put in turn into the key of the other pieces.
 use super::Sifted;
 use super::after::read;
 use super::sifting::with_suited;
@@ -6,57 +6,75 @@ use board::lowest;
 use board::without;
 use byte_rule::refutes;
 use byte_rule::suits;
-use index::number_at;
+use index::alike;
+use index::key_at;
+use index::number_keyed;
 use position::Men;
 use position::Place;
 use position::other;
 ghost use mathlib.Core.Path.{_≡_};
 ghost use mathlib.Core.Bool.{false};
 ghost use mathlib.Core.List.{List};
-ghost use Prim.Native.Nat.{ℕ};
-ghost use lib.Dec.{T};
+ghost use Prim.Native.Nat.{ℕ, _+_, _*_, _≤_, _<_};
+ghost use lib.ListN.{getD};
 ghost use Rattle.board.specs.Sets.{setOf};
-ghost use Rattle.rules.specs.Rules.{moved, canMove, carried};
+ghost use Rattle.rules.specs.Rules.{canMove};
+ghost use Rattle.numbering.specs.Number.{numberOf};
 ghost use Rattle.position.specs.Posed.{boardIn, Complete};
-ghost use Rattle.successors.specs.Successors.{bytesIn, siftedFrom};
-ghost use Rattle.successors.specs.Quiet.{takesMan, ofMan, kingTo};
+ghost use Rattle.index.specs.Seats.{Seated, alike as alikeMen, alone, keyAt};
+ghost use Rattle.successors.specs.Successors.{bytesIn, siftedFrom, kingAt};
+ghost use Rattle.successors.specs.Quiet.{takesMan, kingUnit, kingLifted};
 
-// The square of a king after a move.
-fn king_after(from: u8, to: u8, s: u8) -> u8
-    ensures { λ r. ⌜ r ≡ carried from to s ⌝ }
+// What a step of one square adds to a key, of White's king or of Black's.
+fn king_unit(side: u8) -> u32
+    ensures { λ r. ⌜ (r ≡ kingUnit side) × (r ≤ 262144) ⌝ }
 {
-    if s == from { to } else { s }
+    if side == 0 { 262144 } else { 4096 }
 }
 
-// The place after a king's move that takes no man.
-fn king_to(q: Place, from: u8, to: u8) -> Place
-    ensures { λ r. ⌜ r ≡ kingTo q from to ⌝ }
+// The place with the king of the side to move on a1.
+fn king_lifted(q: Place) -> Place
+    ensures { λ r. ⌜ r ≡ kingLifted q ⌝ }
 {
+    if q.side == 0 {
+        return Place {
+            side: q.side,
+            white: 0,
+            black: q.black,
+            first: q.first,
+            second: q.second,
+        };
+    }
     Place {
-        side: other(q.side),
-        white: king_after(from, to, q.white),
-        black: king_after(from, to, q.black),
+        side: q.side,
+        white: q.white,
+        black: 0,
         first: q.first,
         second: q.second,
     }
 }
 
-// The byte there.
-fn byte_by_king(m: Men, q: Place, from: u8, to: u8, table: &[u8]) -> u8
-    ensures { λ r. ⌜ (Complete m q → (targets : ℕ) → targets ≡ setOf (canMove (boardIn m q) from) → takesMan targets q ≡ false → ofMan q from ≡ false → T (canMove (boardIn m q) from to) → (first second : List ℕ) → r ≡ bytesIn m first second (now (table .entry)) (moved (boardIn m q) from to)) ⌝ }
+// The byte at a key's number.
+fn byte_keyed(single: bool, like: bool, side: u8, k: u32, table: &[u8]) -> u8
+    ensures { λ r. ⌜ ((m : Men) (next : Place) → single ≡ alone next → like ≡ alikeMen m → side ≡ next .side → k ≡ keyAt next → Seated m next → r ≡ getD (now (table .entry)) (numberOf (boardIn m next)) 0) ⌝ }
 {
-    read(table, number_at(m, king_to(q, from, to)))
+    read(table, number_keyed(single, like, side, k))
 }
 
-// The moves of a king who takes no man.
-pub fn sift_king(m: Men, q: Place, from: u8, targets: u64, byte: u16, table: &[u8]) -> Sifted
-    ensures { λ r. ⌜ (Complete m q → targets ≡ setOf (canMove (boardIn m q) from) → takesMan targets q ≡ false → ofMan q from ≡ false → (first second : List ℕ) → r ≡ siftedFrom (bytesIn m first second (now (table .entry))) byte (boardIn m q) from) ⌝ }
+// The moves of the king of the side to move, where he takes no man.
+pub fn sift_king(m: Men, q: Place, targets: u64, byte: u16, table: &[u8]) -> Sifted
+    ensures { λ r. ⌜ (Complete m q → targets ≡ setOf (canMove (boardIn m q) (kingAt q)) → takesMan targets q ≡ false → (first second : List ℕ) → r ≡ siftedFrom (bytesIn m first second (now (table .entry))) byte (boardIn m q) (kingAt q)) ⌝ }
 {
+    let single = 64 <= q.second;
+    let like = alike(m);
+    let side = other(q.side);
+    let unit = king_unit(q.side);
+    let others = key_at(king_lifted(q));
     let mut found: u64 = 0;
     let mut rest = targets;
     while rest != 0 {
         let to = lowest(rest);
-        let c = byte_by_king(m, q, from, to, table);
+        let c = byte_keyed(single, like, side, others + to as u32 * unit, table);
         if refutes(byte, c) {
             return Sifted::Refuted;
         }

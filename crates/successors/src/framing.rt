@@ -1,26 +1,26 @@
 // The number by its frame: made once, a frame serves all the moves of a man.
 use super::Frame;
 use index::exchange_of;
-use index::exchanged;
 use index::flip_of;
-use pairs::PAIR_COUNT;
-use pairs::pair_of;
+use index::number_keyed;
+use index::packed;
 use position::transposed;
 ghost use mathlib.Core.Path.{_≡_};
+ghost use Prim.Native.Nat.{_<_};
 ghost use Rattle.index.specs.laws.LeastLaws.{menDigits};
 ghost use Rattle.successors.specs.Framing.{frameFor, chosenDigits, numberOn};
 
-// The frame of two kings and a side to move.
+// The frame of two kings and a side to move: their part of the number of any one man with them.
 pub fn frame_for(side: u8, white: u8, black: u8) -> Frame
-    ensures { λ r. ⌜ r ≡ frameFor side white black ⌝ }
+    ensures { λ r. ⌜ (white < 64 → black < 64 → r ≡ frameFor side white black) ⌝ }
 {
     let flip = flip_of(white);
     let w = white ^ flip;
     let b = black ^ flip;
     let exchange = exchange_of(w, b);
-    let pair = pair_of(exchanged(exchange, w), exchanged(exchange, b));
+    let alone = number_keyed(true, false, side, packed(white, black, 0, 0));
     Frame {
-        kings: side as u32 * PAIR_COUNT + pair as u32,
+        kings: alone / 64,
         flip,
         exchange,
     }

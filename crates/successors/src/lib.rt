@@ -18,6 +18,7 @@ mod verdicts;
 pub use after::byte_at;
 pub use numbers::is_legal_number;
 pub use numbers::legal_at;
+pub use verdicts::requires_byte;
 pub use verdicts::requires_depth;
 pub use verdicts::verdict_on;
 
@@ -53,6 +54,15 @@ pub struct Frame {
 pub struct Seen {
     pub from: u8,
     pub to: u8,
+}
+
+// A byte weighed against all successors: one refutes it; none suits, though there are moves; there is no move; or the
+// first move that suits.
+pub enum Weighed {
+    Refuted,
+    Unmet,
+    Stuck,
+    Met(Seen),
 }
 
 // The verdict on a byte: it is not the one required; or it is, with the move that it advises.

@@ -4,13 +4,16 @@ use super::along::sift_man;
 use super::by_king::sift_king;
 use super::sifting::sift_each;
 use board::has;
+use movegen::Reach;
+use movegen::king_at;
 use position::Men;
 use position::Place;
 ghost use mathlib.Core.Path.{_≡_};
+ghost use mathlib.Core.Bool.{true, false};
 ghost use Rattle.board.specs.Sets.{setOf};
 ghost use Rattle.rules.specs.Rules.{canMove};
 ghost use Rattle.position.specs.Posed.{boardIn, Complete};
-ghost use Rattle.successors.specs.Successors.{bytesIn, siftedFrom};
+ghost use Rattle.successors.specs.Successors.{bytesIn, siftedFrom, kingAt};
 ghost use Rattle.successors.specs.Quiet.{takesMan, ofMan};
 
 // Whether a man stands on a target.
@@ -20,15 +23,36 @@ fn takes_man(targets: u64, q: Place) -> bool
     has(targets, q.first) | has(targets, q.second)
 }
 
-// Whether a man moves from the square.
-fn of_man(q: Place, from: u8) -> bool
-    ensures { λ r. ⌜ r ≡ ofMan q from ⌝ }
+// Whether a man stands on a target of any piece.
+pub fn takes_some(q: Place, reach: Reach) -> bool
+    ensures { λ r. ⌜ (r ≡ false → (takesMan (reach .king) q ≡ false) × (takesMan (reach .first) q ≡ false) × (takesMan (reach .second) q ≡ false)) ⌝ }
 {
-    (q.first == from) | (q.second == from)
+    takes_man(reach.king | (reach.first | reach.second), q)
 }
 
-// The moves of the piece on a square to all its legal targets, which are some as a rule.
-pub fn sift_some(
+// The moves of the king to move to all his legal targets.
+pub fn sift_steps(
+    takes: bool,
+    m: Men,
+    q: Place,
+    targets: u64,
+    byte: u16,
+    table: &[u8],
+    first: &[u8],
+    second: &[u8],
+) -> Sifted
+    ensures { λ r. ⌜ (Complete m q → targets ≡ setOf (canMove (boardIn m q) (kingAt q)) → (takes ≡ false → takesMan targets q ≡ false) → r ≡ siftedFrom (bytesIn m (now (first .entry)) (now (second .entry)) (now (table .entry))) byte (boardIn m q) (kingAt q)) ⌝ }
+{
+    if takes {
+        let king = king_at(q, q.side);
+        return sift_each(m, q, king, targets, byte, table, first, second);
+    }
+    sift_king(m, q, targets, byte, table)
+}
+
+// The moves of the man on a square to all his legal targets.
+pub fn sift_moves(
+    takes: bool,
     m: Men,
     q: Place,
     from: u8,
@@ -38,32 +62,10 @@ pub fn sift_some(
     first: &[u8],
     second: &[u8],
 ) -> Sifted
-    ensures { λ r. ⌜ (Complete m q → targets ≡ setOf (canMove (boardIn m q) from) → r ≡ siftedFrom (bytesIn m (now (first .entry)) (now (second .entry)) (now (table .entry))) byte (boardIn m q) from) ⌝ }
+    ensures { λ r. ⌜ (Complete m q → targets ≡ setOf (canMove (boardIn m q) from) → (takes ≡ false → takesMan targets q ≡ false) → ofMan q from ≡ true → r ≡ siftedFrom (bytesIn m (now (first .entry)) (now (second .entry)) (now (table .entry))) byte (boardIn m q) from) ⌝ }
 {
-    if takes_man(targets, q) {
+    if takes {
         return sift_each(m, q, from, targets, byte, table, first, second);
     }
-    if of_man(q, from) {
-        return sift_man(m, q, from, targets, byte, table, first, second);
-    }
-    sift_king(m, q, from, targets, byte, table)
-}
-
-// The same of a piece that may have none: told before anything is handed over.
-pub fn sift(
-    m: Men,
-    q: Place,
-    from: u8,
-    targets: u64,
-    byte: u16,
-    table: &[u8],
-    first: &[u8],
-    second: &[u8],
-) -> Sifted
-    ensures { λ r. ⌜ (Complete m q → targets ≡ setOf (canMove (boardIn m q) from) → r ≡ siftedFrom (bytesIn m (now (first .entry)) (now (second .entry)) (now (table .entry))) byte (boardIn m q) from) ⌝ }
-{
-    if targets == 0 {
-        return Sifted::Suited(0);
-    }
-    sift_some(m, q, from, targets, byte, table, first, second)
+    sift_man(m, q, from, targets, byte, table, first, second)
 }

@@ -17,7 +17,8 @@ use Rattle.finite.specs.Below.{allBelow, below}
 use Rattle.board.specs.Square.{stays, shift}
 use Rattle.board.specs.Reach.{line, stepXs, stepYs, stepRanges, stepsOf, lineOf, reaches}
 use Rattle.board.specs.Sets.{has, pack, setOf}
-use Rattle.board.specs.EmptyBoard.{nothing, kingSteps, knightSteps, rookLines, bishopLines}
+use Rattle.board.specs.EmptyBoard.{nothing}
+use Rattle.constants.specs.EmptyBoard.{kingSteps, knightSteps, rookLines, bishopLines}
 use Rattle.board.specs.laws.SetLaws.{has-none, has-and, has-or, setOf-same, set-is, set-has}
 use Rattle.board.specs.laws.ReachLaws.{reaches-squares, reaches-off, king-reaches, knight-reaches}
 use Rattle.board.specs.laws.Blocking.{reaches-fewer}

@@ -1,9 +1,7 @@
 -- An ending of pieces is numbered by king rule and key.
 use mathlib.Core.Path.{_≡_, refl}
-use mathlib.Core.Bool.{Bool}
 use Prim.Native.Nat.{ℕ}
 use lib.Dec.{T}
-use Rattle.symmetry.specs.Symmetry.{Symmetry}
 use Rattle.rules.specs.Rules.{Board, legal}
 use Rattle.numbering.specs.declared.Material.{Material}
 use Rattle.numbering.specs.Material.{known, menOf, legalIn}

@@ -266,6 +266,13 @@ module _ (like : Bool) (w b x y : ℕ) (hw : w < 64) (hb : b < 64) (hx : x < 64)
 
 -- ---- as code finds it: unlike men stay in their order
 
+pub rising-unlike : (like : Bool) (n : ℕ) → like ≡ false → n ≡ risingKey like n
+rising-unlike like n e = ap (λ (l : Bool). n) e ∙ sym (rw e (unfold risingKey in go (ltb (n % 64) (n / 64 % 64))))
+  where
+    go : (p : Bool) → cond (p && false) (n / 4096 * 4096 + (n % 64 * 64 + n / 64 % 64)) n ≡ n
+    go true = refl
+    go false = refl
+
 module _ (like : Bool) (k t : ℕ) (e : t ≡ transposedKey k) where
   pub least-like : like ≡ true → (let r = risingKey true t in let s = risingKey true k in cond (ltb r s) r s) ≡ leastOf like k
   unfolding leastOf
@@ -273,11 +280,4 @@ module _ (like : Bool) (k t : ℕ) (e : t ≡ transposedKey k) where
 
   pub least-unlike : like ≡ false → cond (ltb t k) t k ≡ leastOf like k
   unfolding leastOf
-  least-unlike l = sym (rw (← e, l, unlike k, unlike t))
-    where
-      unlike : (n : ℕ) → risingKey false n ≡ n
-      unlike n = unfold risingKey in go (ltb (n % 64) (n / 64 % 64))
-        where
-          go : (p : Bool) → cond (p && false) (n / 4096 * 4096 + (n % 64 * 64 + n / 64 % 64)) n ≡ n
-          go true = refl
-          go false = refl
+  least-unlike l = sym (rw (← e, ← rising-unlike like k l, ← rising-unlike like t l))

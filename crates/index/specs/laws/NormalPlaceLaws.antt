@@ -31,9 +31,9 @@ use Rattle.position.specs.Refusals.{placingWith}
 use Rattle.position.specs.Posed.{posed, boardIn}
 use Rattle.position.specs.laws.PlacedLaws.{kings-separate}
 use Rattle.index.specs.declared.Arranged.{Arranged}
-use Rattle.index.specs.Least.{turnedKey, transposedKey, risingKey}
+use Rattle.index.specs.Least.{turnedKey, transposedKey, risingKey, leastOf}
 use Rattle.index.specs.Seats.{Seated, alike, alone, leastAt, placeFrom}
-use Rattle.index.specs.Arranging.{arrangedAs, Arranges, swapsAt, normalAs, Normalises}
+use Rattle.index.specs.Arranging.{arrangedAs, Arranges, swapsAt, normalBy, normalAs, Normalises}
 use Rattle.index.specs.laws.LeastLaws.{transposed-less}
 use Rattle.index.specs.laws.NormalKey.{pair-arranged, pair-swap, one-swap}
 use Rattle.index.specs.laws.SeatLaws.{board-one, board-two, known-one, known-two, turned-one, turned-two, normal-place}
@@ -188,3 +188,11 @@ module _ (p : Position) (r : Arranged) (a : Arranges p r) where
 pub normal-found : (p : Position) → T (known (materialIn (boardOf p .men))) → placingWith p ≡ 0
     → Normalises p (normalAs (arrangedAs p))
 normal-found p t z = normalises p (arrangedAs p) (placed-arranges p t z) (placed-facts-with p z) t
+
+-- ---- as code finds it
+
+pub normal-keys : (m : Men) (q : Place) (k t s u : ℕ) → k ≡ turnedKey (q .white) (q .black) (q .first) (q .second)
+    → t ≡ transposedKey k → s ≡ risingKey (alike m) k → u ≡ risingKey (alike m) t
+    → normalBy m q s u ≡ normalAs (record { men = m; place = q })
+unfolding normalBy normalAs leastAt leastOf swapsAt
+normal-keys m q k t s u hk ht hs hu = rw (hu, hs, ht, hk)

@@ -1,10 +1,11 @@
 -- Look-up's answer by the tests that lead to it.
-use mathlib.Core.Path.{_≡_, refl, sym, ap, _∙_}
+use mathlib.Core.Path.{_≡_, refl, sym, ap, subst⁻¹, _∙_}
 use mathlib.Core.Bool.{Bool, true, false}
 use mathlib.Core.List.{List}
 use Prim.Native.Nat.{ℕ}
+use native.Mathlib.Omega.{arith}
 use lib.Dec.{T}
-use borrow.Author.Tests.{eq-eqb, ne-eqb}
+use borrow.Author.Tests.{ne-eqb}
 use Rattle.theory.specs.Required.{requiredAt}
 use Rattle.theory.specs.Play.{firstSuited}
 use Rattle.table_theory.specs.Tables.{reads}
@@ -14,7 +15,7 @@ use Rattle.rules.specs.declared.Move.{Move}
 use Rattle.rules.specs.Rules.{Board, promotionOf}
 use Rattle.rules.specs.Chess.{chess}
 use Rattle.numbering.specs.declared.Material.{Material}
-use Rattle.numbering.specs.Material.{given, legalIn, OfMaterial, materialIn}
+use Rattle.numbering.specs.Material.{known, given, legalIn, OfMaterial, materialIn}
 use Rattle.answers.specs.declared.BestMove.{BestMove}
 use Rattle.answers.specs.declared.Answer.{Answer}
 use Rattle.position.specs.declared.Slot.{Slot}
@@ -25,10 +26,11 @@ use Rattle.position.specs.declared.Men.{Men}
 use Rattle.position.specs.Keyed.{boardOf, manIn, manKind}
 use Rattle.position.specs.Refusals.{badMen, placingRefusal, standingRefusal, placingWith, standingWith}
 use Rattle.position.specs.Maps.{symmetryOf}
-use Rattle.position.specs.Posed.{boardIn, materialFor}
+use Rattle.position.specs.Posed.{boardIn, materialFor, Complete}
 use Rattle.position.specs.laws.BothSizes.{standing-placed-with}
 use Rattle.index.specs.declared.NormalPlace.{NormalPlace}
-use Rattle.index.specs.Arranging.{Normalises}
+use Rattle.index.specs.Arranging.{Normalises, pawnNormalAs}
+use Rattle.index.specs.laws.PawnLaws.{keyed-pieces}
 use Rattle.endings.specs.Answers.{adviceOf, mappedAdvice, answerOf, chosenBy, lookUpOf}
 use Rattle.four_men.specs.Lending.{Lent}
 use Rattle.four_men.specs.Reading.{numbered}
@@ -40,7 +42,10 @@ use Rattle.four_men.specs.laws.Standing.{standing-with-facts}
 use Rattle.successors.specs.declared.Verdict.{Verdict}
 use Rattle.successors.specs.Successors.{suitedFrom, verdictOf}
 use Rattle.successors.specs.laws.VerdictLaws.{told-wrong, told-right}
-use Rattle.deciding.specs.Deciding.{Seated}
+use Rattle.deciding.specs.Deciding.{PawnSeated, Seated}
+use Rattle.deciding.specs.laws.PawnLaws.{known-first}
+use Rattle.deciding.specs.laws.PawnVerdicts.{seated-pawn, seated-pieces}
+use Rattle.look_up.specs.Told.{toldOf}
 use Rattle.look_up.specs.laws.Normal.{given-of, normal-for, reads-for, required-for, seated-of}
 
 -- a move, its two squares carried back
@@ -55,12 +60,30 @@ pub fit-of : (l : Lent) (t : List ℕ) (m : Men) (x : Material) (fit : Bool) →
     → fit ≡ lengthsFit (materialFor m) l t
 fit-of l t m x fit e h = h ∙ ap (λ (y : Material). lengthsFit y l t) e
 
+-- the normal place of pieces, and of a pawn
+pub of-pieces : (p : Position) (r : NormalPlace) → standingWith p ≡ 0 → (placingWith p ≡ 0 → Normalises p r)
+    → (manKind p ≡ 4 → ⊥) → Seated (r .men) (r .place) → Complete (r .men) (r .place)
+of-pieces p r z f k s =
+    let placed = standing-placed-with p z in
+    seated-pieces (r .men) (r .place) s
+    (λ e. omega (
+      arith,
+      known-first (r .men)
+          (subst⁻¹ (λ (x : Material). T (known x)) (f placed .material) (keyed-pieces p placed k)),
+      e,
+    ))
+
+pub of-pawn : (p : Position) (r : NormalPlace) → r ≡ pawnNormalAs p → Seated (r .men) (r .place)
+    → PawnSeated (r .men) (r .place)
+unfolding pawnNormalAs
+of-pawn p r e s = seated-pawn (r .men) (r .place) s (ap (λ (x : NormalPlace). x .men .first) e)
+
 module _ (l : Lent) (t : List ℕ) (p : Position) where
   pub refused-standing : (n : ℕ) → n ≡ standingWith p → (n ≡ 0 → ⊥) → Answer.Refused n ≡ lookUpWith l t p
   unfolding lookUpWith
   refused-standing n e h = sym (rw (← e, ne-eqb n 0 h))
 
-  module _ (n : ℕ) (e : n ≡ standingWith p) (z : n ≡ 0) (r : NormalPlace) (f : placingWith p ≡ 0 → Normalises p r) where
+  module _ (stands : standingWith p ≡ 0) (r : NormalPlace) (f : placingWith p ≡ 0 → Normalises p r) where
     abbrev b : Board
     b = boardOf p
 
@@ -72,9 +95,6 @@ module _ (l : Lent) (t : List ℕ) (p : Position) where
 
     abbrev bytes : Board → ℕ
     bytes = reads chess (numbered m l) t
-
-    stands : standingWith p ≡ 0
-    stands = sym e ∙ z
 
     there : Normalises p r
     there = f (standing-placed-with p stands)
@@ -100,7 +120,7 @@ module _ (l : Lent) (t : List ℕ) (p : Position) where
 
       pub refused-length : fit ≡ false → Answer.Refused 7 ≡ lookUpWith l t p
       unfolding lookUpWith
-      refused-length h = sym (rw (← e, eq-eqb n 0 z, sym fits ∙ h))
+      refused-length h = sym (rw (stands, sym fits ∙ h))
 
       module _ (long : fit ≡ true) (byte : ℕ) (v : Verdict)
           (g : Seated (r .men) (r .place)
@@ -124,12 +144,11 @@ module _ (l : Lent) (t : List ℕ) (p : Position) where
         required : requiredAt chess bytes c ≡ requiredAt chess bytes b
         required = sym (required-for m is-given l t b c same)
 
-        pub refused-byte : v ≡ Verdict.Wrong → Answer.Refused 11 ≡ lookUpWith l t p
+        refused-byte : v ≡ Verdict.Wrong → Answer.Refused 11 ≡ lookUpWith l t p
         unfolding lookUpWith
         refused-byte w =
             sym (rw (
-              ← e,
-              eq-eqb n 0 z,
+              stands,
               sym fits ∙ long,
               ← at-number,
               ← required,
@@ -137,7 +156,7 @@ module _ (l : Lent) (t : List ℕ) (p : Position) where
             ))
 
         -- the advice carried back by the map
-        pub answered : (a d : BestMove) → v ≡ Verdict.Right a → d ≡ mappedAdvice (inverse (symmetryOf (r .via))) a
+        answered : (a d : BestMove) → v ≡ Verdict.Right a → d ≡ mappedAdvice (inverse (symmetryOf (r .via))) a
             → answerOf byte d ≡ lookUpWith l t p
         unfolding lookUpWith chosenBy suitedFrom firstSuited
         answered a d w u =
@@ -146,7 +165,14 @@ module _ (l : Lent) (t : List ℕ) (p : Position) where
             u ∙ ap (λ (k : Symmetry). mappedAdvice (inverse k) a) (there .map)
             ∙ ap (mappedAdvice (inverse (mapIn m b))) (j .1)
             ∙ ap (λ (i : ℕ). mappedAdvice (inverse (mapIn m b)) (adviceOf (suitedFrom bytes i c))) at-normal in
-            sym (rw (← e, eq-eqb n 0 z, sym fits ∙ long, ← at-number, ← required, j .0, ← x))
+            sym (rw (stands, sym fits ∙ long, ← at-number, ← required, j .0, ← x))
+
+        pub told-answer : (x : Answer) → x ≡ toldOf (r .via) byte v → x ≡ lookUpWith l t p
+        told-answer x i = i ∙ go v refl
+          where
+            go : (u : Verdict) → v ≡ u → toldOf (r .via) byte u ≡ lookUpWith l t p
+            go Verdict.Wrong w = refused-byte w
+            go (Verdict.Right a) w = answered a _ w refl
 
 -- ---- the parts that keep to three men
 

@@ -1,6 +1,6 @@
 -- The kings and the men of an ending on a place: each alone on its square.
 use mathlib.Core.Path.{_≡_, refl, sym, _∙_}
-use mathlib.Core.Bool.{Bool, true, false, cond, _&&_, _||_, or-false, and-false}
+use mathlib.Core.Bool.{Bool, true, false, cond, _&&_, _||_, or-true, or-false, and-false}
 use Prim.Native.Nat.{ℕ, zero, suc, _-_, _≤_, _<_}
 use native.Mathlib.Omega.{arith}
 use lib.Dec.{eqb}
@@ -36,6 +36,11 @@ third-of a b c d e f h = rw (e, f, h) (or-false c)
 fourth-of : (a b c d : Bool) → a ≡ false → b ≡ false → c ≡ false → (a || (b || (c || d))) ≡ d
 fourth-of a b c d e f g = rw (e, f, g)
 
+-- ---- a piece of a colour on a square, or not
+
+own-here : (colour t kind owner : ℕ) → owner ≡ colour → ownOn colour t (pieceOf kind owner t) ≡ true
+own-here colour t kind owner e = rw (eq-eqb owner colour e, eq-eqb t t refl)
+
 own-elsewhere : (colour t kind owner square : ℕ) → (square ≡ t → ⊥) → ownOn colour t (pieceOf kind owner square) ≡ false
 own-elsewhere colour t kind owner square n = rw (ne-eqb square t n) (and-false (eqb owner colour))
 
@@ -67,6 +72,7 @@ module _ (m : Men) (q : Place) (w : Spread m q) where
             (goes-elsewhere occ (q .side) s t (firstOf m q) (λ e. w .white-first (sym e)))
             (goes-elsewhere occ (q .side) s t (secondOf m q) (λ e. w .white-second (sym e)))
             ∙ mine occ (q .side) t 5 0 s (λ e. absurd (omega arith));
+        own = λ e l. stands-men m q (q .side) s l ∙ rw (own-here (q .side) s 5 0 e);
         foes = λ e l. stands-men m q (1 - q .side) s l
             ∙ none-of _ _ _ _ (own-other (1 - q .side) s 5 0 s (not-foe 0 (q .side) e (w .side)))
             (own-elsewhere (1 - q .side) s 5 1 (q .black) (λ e. w .white-black (sym e)))
@@ -83,6 +89,8 @@ module _ (m : Men) (q : Place) (w : Spread m q) where
             (goes-elsewhere occ (q .side) s t (firstOf m q) (λ e. w .black-first (sym e)))
             (goes-elsewhere occ (q .side) s t (secondOf m q) (λ e. w .black-second (sym e)))
             ∙ mine occ (q .side) t 5 1 s (λ e. absurd (omega arith));
+        own = λ e l. stands-men m q (q .side) s l
+            ∙ rw (own-here (q .side) s 5 1 e) (or-true (ownOn (q .side) s (pieceOf 5 0 (q .white))));
         foes = λ e l. stands-men m q (1 - q .side) s l
             ∙ none-of _ _ _ _ (own-elsewhere (1 - q .side) s 5 0 (q .white) (w .white-black))
             (own-other (1 - q .side) s 5 1 s (not-foe 1 (q .side) e (w .side)))
@@ -99,6 +107,9 @@ module _ (m : Men) (q : Place) (w : Spread m q) where
             (goes-elsewhere occ (q .side) s t (pieceOf 5 1 (q .black)) (w .black-first))
             (goes-elsewhere occ (q .side) s t (secondOf m q) (λ e. w .first-second (sym e)))
             ∙ mine occ (q .side) t (m .first) 0 s (w .pawnless .first);
+        own = λ e l. stands-men m q (q .side) s l
+            ∙ rw (own-here (q .side) s (m .first) 0 e, or-true (ownOn (q .side) s (pieceOf 5 1 (q .black))))
+            (or-true (ownOn (q .side) s (pieceOf 5 0 (q .white))));
         foes = λ e l. stands-men m q (1 - q .side) s l
             ∙ none-of _ _ _ _ (own-elsewhere (1 - q .side) s 5 0 (q .white) (w .white-first))
             (own-elsewhere (1 - q .side) s 5 1 (q .black) (w .black-first))
@@ -115,6 +126,12 @@ module _ (m : Men) (q : Place) (w : Spread m q) where
             (goes-elsewhere occ (q .side) s t (pieceOf 5 1 (q .black)) (w .black-second))
             (goes-elsewhere occ (q .side) s t (firstOf m q) (w .first-second))
             ∙ mine occ (q .side) t (m .second) (m .colour) s (w .pawnless .second);
+        own = λ e l. stands-men m q (q .side) s l
+            ∙ rw (
+              own-here (q .side) s (m .second) (m .colour) e,
+              or-true (ownOn (q .side) s (firstOf m q)),
+              or-true (ownOn (q .side) s (pieceOf 5 1 (q .black))),
+            ) (or-true (ownOn (q .side) s (pieceOf 5 0 (q .white))));
         foes = λ e l. stands-men m q (1 - q .side) s l
             ∙ none-of _ _ _ _ (own-elsewhere (1 - q .side) s 5 0 (q .white) (w .white-second))
             (own-elsewhere (1 - q .side) s 5 1 (q .black) (w .black-second))

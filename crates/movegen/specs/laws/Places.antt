@@ -124,18 +124,6 @@ module _ (m : Men) (q : Place) where
 
 -- ---- a man by his square: off the board if he is not of the side asked for
 
-module _ (occ : ℕ → Bool) (colour t kind owner square : ℕ) where
-  strike-if : reaches occ kind (cond (eqb owner colour) square 64) t ≡ pieceStrikes occ colour t (pieceOf kind owner square)
-  strike-if = go (eqb owner colour)
-    where
-      go : (x : Bool) → reaches occ kind (cond x square 64) t ≡ (x && reaches occ kind square t)
-      go true = refl
-      go false = reaches-off occ kind 64 t (inl (omega arith))
-
-  pub struck : (at : ℕ) (x : Bool) → at ≡ cond (eqb owner colour) square 64 → x ≡ reaches occ kind at t
-      → x ≡ pieceStrikes occ colour t (pieceOf kind owner square)
-  struck at x e h = h ∙ ap (λ (s : ℕ). reaches occ kind s t) e ∙ strike-if
-
 own-if : (colour t kind owner square : ℕ) → t < 64
     → ownOn colour t (pieceOf kind owner square) ≡ eqb t (cond (eqb owner colour) square 64)
 own-if colour t kind owner square h = go (eqb owner colour)
@@ -166,16 +154,16 @@ module _ (m : Men) (q : Place) where
   own-three (suc (suc n)) t l h = absurd (omega arith)
 
   -- the squares of a side, gathered
-  pub own-set : (side k f s a b c : ℕ) → side < 2 → k ≡ cond (eqb side 0) (q .white) (q .black)
-      → f ≡ cond (eqb 0 side) (q .first) 64 → s ≡ cond (eqb (m .colour) side) (q .second) 64
-      → a ≡ setOf (λ (u : ℕ). eqb u k) → b ≡ setOf (λ (u : ℕ). eqb u f) → c ≡ setOf (λ (u : ℕ). eqb u s)
+  pub own-set : (side a b c : ℕ) → side < 2
+      → a ≡ setOf (λ (u : ℕ). eqb u (cond (eqb side 0) (q .white) (q .black)))
+      → b ≡ setOf (λ (u : ℕ). eqb u (cond (eqb 0 side) (q .first) 64))
+      → c ≡ setOf (λ (u : ℕ). eqb u (cond (eqb (m .colour) side) (q .second) 64))
       → a < 2 ^ 64 → b < 2 ^ 64 → c < 2 ^ 64
       → bitOr a (bitOr b c) ≡ setOf (stands (boardIn m q) side)
-  own-set side k f s a b c l ek ef es ea eb ec la lb lc =
+  own-set side a b c l ea eb ec la lb lc =
       set-is (stands (boardIn m q) side) (bitOr a (bitOr b c)) (or-lt 64 a (bitOr b c) la (or-lt 64 b c lb lc))
       (λ t h. has-or a (bitOr b c) t
-      ∙ ap₂ _||_ (set-has _ ea t h ∙ ap (eqb t) ek)
-      (has-or b c t ∙ ap₂ _||_ (set-has _ eb t h ∙ ap (eqb t) ef) (set-has _ ec t h ∙ ap (eqb t) es))
+      ∙ ap₂ _||_ (set-has _ ea t h) (has-or b c t ∙ ap₂ _||_ (set-has _ eb t h) (set-has _ ec t h))
       ∙ sym (own-three side t l h))
 
   -- the occupied squares, gathered

@@ -9,8 +9,8 @@ use borrow.Author.Tests.{eq-eqb}
 use Rattle.board.specs.Reach.{reaches}
 use Rattle.board.specs.Sets.{has, setOf}
 use Rattle.board.specs.laws.ReachLaws.{king-reaches}
-use Rattle.board.specs.laws.SetLaws.{set-is, set-has, has-setOf, has-none, has-or}
-use Rattle.rules.specs.Rules.{occupied, king, inCheck, stands, goes, moved, canMove}
+use Rattle.board.specs.laws.SetLaws.{set-has, has-setOf, has-or}
+use Rattle.rules.specs.Rules.{occupied, king, inCheck, stands, moved, canMove}
 use Rattle.position.specs.declared.Men.{Men}
 use Rattle.position.specs.declared.Place.{Place}
 use Rattle.position.specs.Keyed.{boardOf}
@@ -26,11 +26,11 @@ use Rattle.movegen.specs.laws.Struck.{attacked-split, attacked-king}
 
 module _ (m : Men) (q : Place) (w : Spread m q) (occ own : ℕ) (eo : occ ≡ setOf (occupied (boardIn m q)))
     (em : own ≡ setOf (stands (boardIn m q) (q .side))) where
-  module _ (kind owner square : ℕ) (a : Alone m q kind owner square) (e : owner ≡ q .side) (reach free : ℕ)
-      (er : (t : ℕ) → t < 64 → has reach t ≡ reaches (has occ) kind square t)
+  module _ (kind owner square : ℕ) (a : Alone m q kind owner square) (reach free : ℕ)
+      (er : (t : ℕ) → t < 64 → has reach t ≡ (eqb owner (q .side) && reaches (has occ) kind square t))
       (ef : free ≡ setOf (λ (u : ℕ). has reach u && not (has own u))) where
     pub goes-reach : (t : ℕ) → t < 64 → has reach t ≡ goesOver (has occ) (boardIn m q) square t
-    goes-reach t l = er t l ∙ sym (a .goes (has occ) t ∙ rw (eq-eqb owner (q .side) e))
+    goes-reach t l = er t l ∙ sym (a .goes (has occ) t)
 
     -- each move made
     pub man-tested : (r : ℕ) → r < 2 ^ 64
@@ -39,7 +39,7 @@ module _ (m : Men) (q : Place) (w : Spread m q) (occ own : ℕ) (eo : occ ≡ se
     unfolding posed
     man-tested = by-making (posed m q) square occ reach own free eo goes-reach em ef
 
-    module _ (l : square < 64) (foe rest : ℕ) (es : foe ≡ 1 - q .side)
+    module _ (e : owner ≡ q .side) (l : square < 64) (foe rest : ℕ) (es : foe ≡ 1 - q .side)
         (el : rest ≡ setOf (λ (u : ℕ). has occ u && not (eqb u square))) where
       no-foe : has (setOf (stands (boardIn m q) foe)) square ≡ false
       no-foe = has-setOf (stands (boardIn m q) foe) square l
@@ -82,24 +82,15 @@ king-on m q w = go (eqb (q .side) 0)
     go true = w .white
     go false = w .black
 
--- a man of the other side, or one who is not there
-pub man-none : (m : Men) (q : Place) (kind owner square : ℕ) → Alone m q kind owner square
-    → ((t : ℕ) → (eqb owner (q .side) && reaches (occupied (boardIn m q)) kind square t) ≡ false)
-    → 0 ≡ setOf (canMove (boardIn m q) square)
-unfolding canMove goes goesOver boardOf posed
-man-none m q kind owner square a none =
-    set-is _ 0 (omega arith)
-    (λ t l. has-none t ∙ sym (rw (a .goes (occupied (boardIn m q)) t ∙ none t)))
-
 -- ---- by what code has in hand
 
 module _ {m : Men} {q : Place} {occ own strike : ℕ} where
   pub view-of : Spread m q → occ ≡ setOf (occupied (boardIn m q)) → own ≡ setOf (stands (boardIn m q) (q .side))
-      → (at rest foe : ℕ) → at ≡ king (boardIn m q) (q .side)
-      → rest ≡ setOf (λ (u : ℕ). has occ u && not (eqb u at)) → foe ≡ 1 - q .side
+      → (mine rest foe : ℕ) → mine ≡ setOf (λ (u : ℕ). eqb u (king (boardIn m q) (q .side)))
+      → rest ≡ setOf (λ (u : ℕ). has occ u && not (has mine u)) → foe ≡ 1 - q .side
       → ((t : ℕ) → t < 64 → has strike t ≡ menStrike m q (has rest) foe t)
       → View m q occ own strike
-  view-of w eo em at rest foe ek er es et =
+  view-of w eo em mine rest foe ek er es et =
       record {
         spread = w;
         occ-is = eo;
@@ -107,7 +98,7 @@ module _ {m : Men} {q : Place} {occ own strike : ℕ} where
         strike-is = λ t h. et t h
             ∙ ap (λ (c : ℕ). menStrike m q (has rest) c t) es
             ∙ strike-same m q (1 - q .side) (has rest) (lifted (has occ) (king (boardIn m q) (q .side)))
-            (λ u l. set-has _ er u l ∙ ap (λ (k : ℕ). has occ u && not (eqb u k)) ek) t;
+            (λ u l. set-has _ er u l ∙ ap (λ (x : Bool). has occ u && not x) (set-has _ ek u l)) t;
       }
 
   pub king-view : View m q occ own strike → (at foe other reach free near r : ℕ)
@@ -120,8 +111,9 @@ module _ {m : Men} {q : Place} {occ own strike : ℕ} where
       let b = boardIn m q in
       let k = king b (q .side) in
       let rest = setOf (λ (u : ℕ). has occ u && not (eqb u k)) in
-      king-free m q (v .spread) occ own (v .occ-is) (v .own-is) 5 (q .side) k (king-alone m q (v .spread)) refl reach free
-      (λ t h. set-has _ er t h ∙ ap (λ (s : ℕ). reaches (has 0) 5 s t) ek ∙ king-reaches (has 0) (has occ) k t) ef
+      king-free m q (v .spread) occ own (v .occ-is) (v .own-is) 5 (q .side) k (king-alone m q (v .spread)) reach free
+      (λ t h. set-has _ er t h ∙ ap (λ (s : ℕ). reaches (has 0) 5 s t) ek ∙ king-reaches (has 0) (has occ) k t
+      ∙ sym (rw (eq-eqb (q .side) (q .side) refl))) ef refl
       (king-on m q (v .spread)) (1 - q .side) rest refl refl refl near strike r
       (λ t h. set-has _ en t h
       ∙ ap (λ (s : ℕ). reaches (has 0) 5 s t) (ep ∙ ap (king b) es)

@@ -17,7 +17,7 @@ use Rattle.position.specs.declared.Slot.the-variants.{Absent, Present}
 use Rattle.position.specs.declared.Position.{Position}
 use Rattle.position.specs.Keyed.{slotMen, boardOf, oneMan, manIn, manKind, colourOf, manSquare}
 use Rattle.position.specs.laws.SlotLaws.{leb-not}
-use Rattle.position.specs.Refusals.{ranked, badMen, badMan, badSide, badSquare, badPawn, sharedSquare, kingsTouch, laterRefusal, placingRefusal, standingRefusal, orInCheck}
+use Rattle.position.specs.Refusals.{ranked, badMen, badMan, badSide, badSquare, badPawn, sharedSquare, kingsTouch, laterRefusal, placingRefusal, standingRefusal}
 
 -- ---- men that have a table: one, of either side
 

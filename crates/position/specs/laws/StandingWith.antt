@@ -8,7 +8,7 @@ use Prim.Native.Nat.{ℕ, _-_, _<_, min, max}
 use native.Mathlib.Omega.{arith}
 use lib.Dec.{T, leb, ltb, eqb, le→leb, lt→ltb}
 use borrow.Author.Tests.{lt-ltb, le-ltb, leb-false, eq-eqb, ne-eqb, eqb-true, eqb-false}
-use Rattle.finite.specs.Truth.{same-test, and-right, and-both, of-true, refuted, implies}
+use Rattle.finite.specs.Truth.{same-test, and-right, and-both, of-true, refuted}
 use Rattle.finite.specs.Members.{all, all-in, all-out}
 use Rattle.rules.specs.declared.Piece.{Piece}
 use Rattle.rules.specs.Pawn.{pawn, inner}

@@ -8,7 +8,7 @@ use lib.Dec.{T, leb, ltb, eqb}
 use borrow.Author.Tests.{lt-ltb, le-ltb, leb-false, eq-eqb, ne-eqb}
 use Rattle.symmetry.specs.Symmetry.{mapped, exchange}
 use Rattle.symmetry.specs.laws.SymmetryLaws.{mapped-on}
-use Rattle.numbering.specs.Kings.{above, onDiagonal, pairOf}
+use Rattle.numbering.specs.Kings.{above, inTriangle, onDiagonal, pairOf}
 use Rattle.numbering.specs.Normal.{turn, swapsKings}
 use Rattle.numbering.specs.KingMaps.{swapping}
 use Rattle.numbering.specs.Number.{numberOf}
@@ -20,6 +20,7 @@ use Rattle.index.specs.Least.{flipOf, flipped, exchangeOf, packed, turnedKey, l
 use Rattle.index.specs.Seats.{Seated, alike, alone, leastAt, numberFrom}
 use Rattle.index.specs.laws.LeastLaws.{flip-turns, packed-first, menDigits, inOrder, swapsFour, least-packed}
 use Rattle.index.specs.laws.SeatLaws.{number-place}
+use Rattle.index.specs.laws.CornerLaws.{lone-found}
 use Rattle.successors.specs.declared.Frame.{Frame}
 use Rattle.successors.specs.Framing.{frameFor, chosenDigits, numberOn}
 
@@ -179,12 +180,68 @@ number-framed m q s =
 
 -- ---- as code makes it
 
-pub frame-is : (side white black flip e u v pair : ℕ) → flip ≡ flipOf white
-    → e ≡ exchangeOf (bitXor white flip) (bitXor black flip) → u ≡ mapped (swapping (eqb e 1)) (bitXor white flip)
-    → v ≡ mapped (swapping (eqb e 1)) (bitXor black flip) → pair ≡ pairOf u v
-    → _≡_ {A = Frame} (record { kings = side * 462 + pair; flip = flip; exchange = e }) (frameFor side white black)
-unfolding frameFor
-frame-is side white black flip e u v pair hf he hu hv hp = rw (hp, hu, hv, he, hf)
+men-lt : (like : Bool) (x y : ℕ) → x < 64 → y < 64 → menDigits like x y < 4096
+men-lt like x y hx hy = go (ltb y x && like)
+  where
+    go : (e : Bool) → cond e (y * 64 + x) (x * 64 + y) < 4096
+    go true = omega arith
+    go false = omega arith
+
+chosen-lt : (e : ℕ) (like : Bool) (x y : ℕ) → x < 64 → y < 64 → chosenDigits e like x y < 4096
+unfolding chosenDigits
+chosen-lt e like x y hx hy =
+    go (eqb e 0) (eqb e 1) (ltb t s) (men-lt like x y hx hy)
+    (men-lt like (mapped exchange x) (mapped exchange y) (mapped-on exchange x hx) (mapped-on exchange y hy))
+  where
+    s : ℕ
+    s = menDigits like x y
+
+    t : ℕ
+    t = menDigits like (mapped exchange x) (mapped exchange y)
+
+    go : (a b c : Bool) → s < 4096 → t < 4096 → cond a s (cond b t (cond c t s)) < 4096
+    go true b c h k = h
+    go false true c h k = k
+    go false false true h k = k
+    go false false false h k = h
+
+-- the kings' part of the number of a man with them
+kings-part : (side white black n : ℕ) → white < 64 → black < 64
+    → n ≡ numberFrom true side (leastOf false (turnedKey white black 0 64))
+    → n / 64 ≡ frameFor side white black .kings
+unfolding frameFor turnedKey
+kings-part side white black n hw hb e =
+    part n _ (chosenDigits (exchangeOf w b) false x 0)
+    (e ∙ framed true false side w b x 0 (flip-on white white hw) (flip-on white black hb) hx (omega arith))
+    (chosen-lt (exchangeOf w b) false x 0 hx (omega arith))
+  where
+    w : ℕ
+    w = bitXor white (flipOf white)
+
+    b : ℕ
+    b = bitXor black (flipOf white)
+
+    x : ℕ
+    x = bitXor 0 (flipOf white)
+
+    hx : x < 64
+    hx = flip-on white 0 (omega arith)
+
+    part : (n k d : ℕ) → n ≡ k * 64 + d / 64 → d < 4096 → n / 64 ≡ k
+    part n k d h l = omega arith
+
+pub frame-is : (side white black flip e n : ℕ) → white < 64 → black < 64 → flip ≡ flipOf white
+    → e ≡ exchangeOf (bitXor white flip) (bitXor black flip)
+    → (T (inTriangle (leastOf false (turnedKey white black 0 64) / 4096 % 4096 / 64))
+    → n ≡ numberFrom true side (leastOf false (turnedKey white black 0 64)))
+    → _≡_ {A = Frame} (record { kings = n / 64; flip = flip; exchange = e }) (frameFor side white black)
+frame-is side white black flip e n hw hb hf he hn =
+    rw (
+      kings-part side white black n hw hb (hn (lone-found 0 side white black 0 hw hb (omega arith) _ refl .0)),
+      he,
+      hf,
+    )
+    (unfold frameFor in refl)
 
 pub cond-yes : (x : Bool) (u v : ℕ) → x ≡ true → u ≡ cond x u v
 cond-yes x u v e = sym (rw e)

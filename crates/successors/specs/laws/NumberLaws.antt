@@ -4,7 +4,7 @@ use mathlib.Core.Bool.{Bool, true, false, cond, not, _&&_}
 use Prim.Native.Nat.{ℕ, _-_}
 use lib.Dec.{T, eqb}
 use borrow.Author.Tests.{eq-eqb}
-use Rattle.rules.specs.Rules.{Board, touching, inCheck, legal, legalWithPawn}
+use Rattle.rules.specs.Rules.{Board, inCheck, legal, legalWithPawn}
 use Rattle.numbering.specs.Keys.{boardAt}
 use Rattle.numbering.specs.Number.{used}
 use Rattle.numbering.specs.Material.{known, menOf}

@@ -1,15 +1,15 @@
 -- The byte after a move that takes no man: of a man at equal steps from a base, of a king at the number.
-use mathlib.Core.Path.{_≡_, refl, sym, ap, subst⁻¹, _∙_}
+use mathlib.Core.Path.{_≡_, refl, sym, ap, ap₂, subst⁻¹, _∙_}
 use mathlib.Core.Bool.{Bool, true, false, cond, not, _&&_, _||_}
 use mathlib.Core.Logic.{_⊎_, inl, inr}
 use mathlib.Core.List.{List}
 use Prim.Native.Nat.{ℕ, _+_, _*_, _-_, _/_, _≤_, _<_}
 use native.Mathlib.Omega.{arith}
 use lib.Bits.{bitXor}
-use lib.Dec.{T, leb, ltb, eqb}
+use lib.Dec.{T, leb, leb→le, ltb, eqb}
 use lib.ListN.{getD}
-use borrow.Author.Tests.{lt-ltb, le-leb, lt-leb, eq-eqb, ne-eqb, eqb-true}
-use Rattle.finite.specs.Truth.{true-of, refuted}
+use borrow.Author.Tests.{lt-ltb, le-leb, lt-leb, leb-false, eq-eqb, ne-eqb, eqb-true}
+use Rattle.finite.specs.Truth.{of-true, refuted}
 use Rattle.board.specs.Sets.{has, setOf}
 use Rattle.board.specs.laws.SetLaws.{set-has}
 use Rattle.rules.specs.Rules.{moved, canMove}
@@ -18,13 +18,15 @@ use Rattle.numbering.specs.Number.{numberOf}
 use Rattle.position.specs.declared.Men.{Men}
 use Rattle.position.specs.declared.Place.{Place}
 use Rattle.position.specs.Posed.{boardIn, Complete}
+use Rattle.position.specs.Spread.{Spread}
+use Rattle.position.specs.laws.PosedLaws.{complete-spread}
 use Rattle.index.specs.Seats.{Seated, alike}
 use Rattle.index.specs.laws.LeastLaws.{menDigits}
 use Rattle.movegen.specs.Places.{squareAfter, placeAfter}
 use Rattle.successors.specs.declared.Frame.{Frame}
 use Rattle.successors.specs.Framing.{frameFor, chosenDigits, numberOn}
 use Rattle.successors.specs.Successors.{bytesIn, framedAfter}
-use Rattle.successors.specs.Quiet.{takesMan, ofMan, plainFor, kingTo}
+use Rattle.successors.specs.Quiet.{takesMan, ofMan, plainFor, baseFor, scaleFor, kingTo}
 use Rattle.successors.specs.laws.PlaceLaws.{whole}
 use Rattle.successors.specs.laws.FramingLaws.{cond-yes, cond-no}
 use Rattle.successors.specs.laws.ByteLaws.{AllThere, all-there, own-seated, byte-own, byte-moved, byte-framed}
@@ -35,17 +37,10 @@ none : (a b : Bool) → (a || b) ≡ false → (a ≡ false) × (b ≡ false)
 none true b e = absurd (refuted e tt)
 none false b e = (refl, e)
 
-plain-facts : (a b c d : Bool) → (a && (not b && (not c && not d))) ≡ true
-    → (a ≡ true) × (b ≡ false) × (c ≡ false) × (d ≡ false)
-plain-facts true false false false e = (refl, refl, refl, refl)
-plain-facts true false false true e = absurd (refuted (sym e) tt)
-plain-facts true false true d e = absurd (refuted (sym e) tt)
-plain-facts true true c d e = absurd (refuted (sym e) tt)
-plain-facts false b c d e = absurd (refuted (sym e) tt)
-
-not-both : (a b : Bool) → (a && b) ≡ false → a ≡ true → b ≡ false
-not-both true b e h = e
-not-both false b e h = absurd (refuted (sym h) tt)
+plain-facts : (a b : Bool) → (a && not b) ≡ true → (a ≡ true) × (b ≡ false)
+plain-facts true false e = (refl, refl)
+plain-facts true true e = absurd (refuted (sym e) tt)
+plain-facts false b e = absurd (refuted (sym e) tt)
 
 other-one : (a b : Bool) → (a || b) ≡ true → b ≡ false → a ≡ true
 other-one true b e h = refl
@@ -54,6 +49,17 @@ other-one false b e h = sym h ∙ e
 other-two : (a b : Bool) → (a || b) ≡ true → a ≡ false → b ≡ true
 other-two true b e h = absurd (refuted h tt)
 other-two false b e h = e
+
+-- the men's own squares
+pub of-first : (q : Place) → ofMan q (q .first) ≡ true
+of-first q = rw (eq-eqb (q .first) (q .first) refl)
+
+pub of-second : (q : Place) → ofMan q (q .second) ≡ true
+of-second q = rw (eq-eqb (q .second) (q .second) refl) (go (eqb (q .first) (q .second)))
+  where
+    go : (x : Bool) → (x || true) ≡ true
+    go true = refl
+    go false = refl
 
 -- ---- the number, where nothing is exchanged
 
@@ -113,27 +119,48 @@ module _ (m : Men) (q : Place) (from : ℕ) (targets : ℕ) (e : targets ≡ set
       let d = none (eqb (q .first) from) (eqb (q .second) from) n in
       sym (rw (first-off, second-off, d .0, d .1))
 
-  pub byte-king : Complete m q → (first second table : List ℕ) → ofMan q from ≡ false → (next : Place) (n r : ℕ)
-      → next ≡ kingTo q from t → (Seated m next → n ≡ numberOf (boardIn m next)) → r ≡ getD table n 0
+  pub byte-king : Complete m q → (first second table : List ℕ) → ofMan q from ≡ false → (next : Place) (r : ℕ)
+      → next ≡ kingTo q from t → (Seated m next → r ≡ getD table (numberOf (boardIn m next)) 0)
       → r ≡ bytesIn m first second table (moved (boardIn m q) from t)
-  byte-king w first second table o next n r z hn hr =
+  byte-king w first second table o next r z hr =
       let a : AllThere m next = subst⁻¹ (AllThere m) z (all-there m q w) in
       byte-moved m q w first second table from t r next c (z ∙ king-place o)
-      (λ i. byte-own m next i first second table a n r (hn (own-seated m next i a)) hr)
+      (λ i. byte-own m next i first second table a _ r refl (hr (own-seated m next i a)))
 
   -- ---- a man's
 
   module _ (w : Complete m q) (first second table : List ℕ) (f : Frame)
-      (hf : f ≡ frameFor (1 - q .side) (q .white) (q .black)) (p : plainFor m q f from ≡ true) where
+      (hf : f ≡ frameFor (1 - q .side) (q .white) (q .black)) (p : plainFor m f ≡ true) (o : ofMan q from ≡ true) where
     abbrev byte : ℕ
     byte = bytesIn m first second table (moved (boardIn m q) from t)
 
-    facts : (eqb (f .exchange) 0 ≡ true)
-        × (alike m ≡ false)
-        × ((eqb (q .white) from || eqb (q .black) from) ≡ false)
-        × ((eqb (q .first) from && eqb (q .second) from) ≡ false)
-    facts = plain-facts (eqb (f .exchange) 0) (alike m) (eqb (q .white) from || eqb (q .black) from)
-        (eqb (q .first) from && eqb (q .second) from) p
+    apart : Spread m q
+    apart = complete-spread w
+
+    mover : (q .first ≡ from) ⊎ (q .second ≡ from)
+    mover = go (eqb (q .first) from) refl
+      where
+        go : (x : Bool) → eqb (q .first) from ≡ x → (q .first ≡ from) ⊎ (q .second ≡ from)
+        go true e = inl (eqb-true (q .first) from e)
+        go false e = inr (eqb-true (q .second) from (other-two (eqb (q .first) from) (eqb (q .second) from) o e))
+
+    no-king : (eqb (q .white) from || eqb (q .black) from) ≡ false
+    no-king = go mover
+      where
+        go : (q .first ≡ from) ⊎ (q .second ≡ from) → (eqb (q .white) from || eqb (q .black) from) ≡ false
+        go (inl e) =
+            rw (
+              ne-eqb (q .white) from (λ z. apart .white-first (z ∙ sym e)),
+              ne-eqb (q .black) from (λ z. apart .black-first (z ∙ sym e)),
+            )
+        go (inr e) =
+            rw (
+              ne-eqb (q .white) from (λ z. apart .white-second (z ∙ sym e)),
+              ne-eqb (q .black) from (λ z. apart .black-second (z ∙ sym e)),
+            )
+
+    facts : (eqb (f .exchange) 0 ≡ true) × (alike m ≡ false)
+    facts = plain-facts (eqb (f .exchange) 0) (alike m) p
 
     unexchanged : f .exchange ≡ 0
     unexchanged = eqb-true (f .exchange) 0 (facts .0)
@@ -142,23 +169,21 @@ module _ (m : Men) (q : Place) (from : ℕ) (targets : ℕ) (e : targets ≡ set
     on = can-on (boardIn m q) from t c .1
 
     framed-one : (x y : ℕ) → x < 64 → 4 ≤ m .second → framedAfter m q from x y ≡ true
-    framed-one x y hx h = rw (facts .2, lt-ltb x 64 hx, le-leb 4 (m .second) h)
+    framed-one x y hx h = rw (no-king, lt-ltb x 64 hx, le-leb 4 (m .second) h)
 
     framed-two : (x y : ℕ) → x < 64 → y < 64 → m .second < 4 → framedAfter m q from x y ≡ true
-    framed-two x y hx hy h = rw (facts .2, lt-ltb x 64 hx, lt-leb 4 (m .second) h, lt-ltb y 64 hy)
+    framed-two x y hx hy h = rw (no-king, lt-ltb x 64 hx, lt-leb 4 (m .second) h, lt-ltb y 64 hy)
 
-    single-first : 4 ≤ m .second → ofMan q from ≡ true → eqb (q .first) from ≡ true
-    single-first h o = other-one (eqb (q .first) from) (eqb (q .second) from) o
+    single-first : 4 ≤ m .second → eqb (q .first) from ≡ true
+    single-first h = other-one (eqb (q .first) from) (eqb (q .second) from) o
         (ne-eqb (q .second) from
         (λ z. let a = whole m q w .alone h in let b = can-on (boardIn m q) from t c .0 in omega arith))
 
-    pub byte-one : 4 ≤ m .second → ofMan q from ≡ true → (base : ℕ) → base ≡ f .kings * 64
-        → getD table (base + bitXor t (f .flip) * 1) 0 ≡ byte
-    byte-one h o base z =
+    byte-one : 4 ≤ m .second → getD table (f .kings * 64 + bitXor t (f .flip) * 1) 0 ≡ byte
+    byte-one h =
         byte-framed m q w first second table from t t (squareAfter from t (q .second)) _ _ f c hf
-        (goes (q .first) first-off (single-first h o)) refl (framed-one t (squareAfter from t (q .second)) on h)
-        (ap (λ (n : ℕ). n + bitXor t (f .flip) * 1) z
-        ∙ number-one f (leb 4 (m .second)) (alike m) t (squareAfter from t (q .second)) unexchanged (facts .1)
+        (goes (q .first) first-off (single-first h)) refl (framed-one t (squareAfter from t (q .second)) on h)
+        (number-one f (leb 4 (m .second)) (alike m) t (squareAfter from t (q .second)) unexchanged (facts .1)
         (le-leb 4 (m .second) h)) refl
 
     there : m .second < 4 → q .second < 64
@@ -168,30 +193,41 @@ module _ (m : Men) (q : Place) (from : ℕ) (targets : ℕ) (e : targets ≡ set
         go (inl k) = absurd (omega arith)
         go (inr k) = k
 
-    pub byte-of-first : m .second < 4 → q .first ≡ from
-        → (base : ℕ) → base ≡ f .kings * 4096 + bitXor (q .second) (f .flip)
-        → getD table (base + bitXor t (f .flip) * 64) 0 ≡ byte
-    byte-of-first h o base z =
-        let a = eq-eqb (q .first) from o in
+    byte-of-first : m .second < 4 → eqb (q .first) from ≡ true
+        → getD table (f .kings * 4096 + bitXor (q .second) (f .flip) + bitXor t (f .flip) * 64) 0 ≡ byte
+    byte-of-first h a =
         byte-framed m q w first second table from t t (q .second) _ _ f c hf
-        (goes (q .first) first-off a) (stays (q .second) second-off (not-both (eqb (q .first) from) (eqb (q .second) from) (facts .3) a))
+        (goes (q .first) first-off a) (stays (q .second) second-off
+        (ne-eqb (q .second) from (λ z. apart .first-second (eqb-true (q .first) from a ∙ sym z))))
         (framed-two t (q .second) on (there h) h)
-        (moved-base base (f .kings * 4096) (bitXor t (f .flip)) (bitXor (q .second) (f .flip)) z
+        (moved-base (f .kings * 4096) (bitXor t (f .flip)) (bitXor (q .second) (f .flip))
         ∙ number-two f (leb 4 (m .second)) (alike m) t (q .second) unexchanged (facts .1) (lt-leb 4 (m .second) h)) refl
       where
-        moved-base : (base k u v : ℕ) → base ≡ k + v → base + u * 64 ≡ k + (u * 64 + v)
-        moved-base base k u v z = omega arith
+        moved-base : (k u v : ℕ) → k + v + u * 64 ≡ k + (u * 64 + v)
+        moved-base k u v = omega arith
 
-    pub byte-of-second : m .second < 4 → ofMan q from ≡ true → (q .first ≡ from → ⊥)
-        → (base : ℕ) → base ≡ f .kings * 4096 + bitXor (q .first) (f .flip) * 64
-        → getD table (base + bitXor t (f .flip) * 1) 0 ≡ byte
-    byte-of-second h o n base z =
-        let a = ne-eqb (q .first) from n in
+    byte-of-second : m .second < 4 → eqb (q .first) from ≡ false
+        → getD table (f .kings * 4096 + bitXor (q .first) (f .flip) * 64 + bitXor t (f .flip) * 1) 0 ≡ byte
+    byte-of-second h a =
         byte-framed m q w first second table from t (q .first) t _ _ f c hf
         (stays (q .first) first-off a) (goes (q .second) second-off (other-two (eqb (q .first) from) (eqb (q .second) from) o a))
         (framed-two (q .first) t (whole m q w .first) on h)
-        (moved-base base (f .kings * 4096) (bitXor (q .first) (f .flip)) (bitXor t (f .flip)) z
+        (moved-base (f .kings * 4096) (bitXor (q .first) (f .flip)) (bitXor t (f .flip))
         ∙ number-two f (leb 4 (m .second)) (alike m) (q .first) t unexchanged (facts .1) (lt-leb 4 (m .second) h)) refl
       where
-        moved-base : (base k u v : ℕ) → base ≡ k + u * 64 → base + v * 1 ≡ k + (u * 64 + v)
-        moved-base base k u v z = omega arith
+        moved-base : (k u v : ℕ) → k + u * 64 + v * 1 ≡ k + (u * 64 + v)
+        moved-base k u v = omega arith
+
+    -- whichever man it is
+    pub byte-plain : (base scale : ℕ) → base ≡ baseFor m q f from → scale ≡ scaleFor m q from
+        → getD table (base + bitXor t (f .flip) * scale) 0 ≡ byte
+    byte-plain base scale hb hs =
+        ap₂ (λ (b s : ℕ). getD table (b + bitXor t (f .flip) * s) 0) hb hs
+        ∙ go (leb 4 (m .second)) refl (eqb (q .first) from) refl
+      where
+        go : (x : Bool) → leb 4 (m .second) ≡ x → (y : Bool) → eqb (q .first) from ≡ y
+            → getD table (cond x (f .kings * 64) (cond y (f .kings * 4096 + bitXor (q .second) (f .flip))
+            (f .kings * 4096 + bitXor (q .first) (f .flip) * 64)) + bitXor t (f .flip) * cond x 1 (cond y 64 1)) 0 ≡ byte
+        go true e y d = byte-one (leb→le 4 (m .second) (of-true e))
+        go false e true d = byte-of-first (leb-false 4 (m .second) e) d
+        go false e false d = byte-of-second (leb-false 4 (m .second) e) d

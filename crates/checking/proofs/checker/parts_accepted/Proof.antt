@@ -1,5 +1,4 @@
 -- `checking::parts_accepted` meets its contract.
-use borrow.Author.Needs.{needs}
 use Rattle.checking.specs.laws.Parts.{parts-by}
 use Rattle.checking.proofs.checker.parts_accepted.Statement.{statement}
 use Rattle.checking.proofs.checker.parts_accepted.Tie as tie

@@ -10,10 +10,8 @@ legal-at-requires c κs = tt
 enum-known-standing : tie.Need-enum-known-standing
 enum-known-standing c = search needs
 
-is-required-requires : tie.Need-is-required-requires
-is-required-requires c κs =
-    let x = c .before .before .before .before .before .before .before .pre in
-    legal-there _ _ _ _ x (c .before .before .before .legal-at .ensures) (c .before .standing .given .1) .1
+requires-byte-requires : tie.Need-requires-byte-requires
+requires-byte-requires c κs = tt
 
 enum-told : tie.Need-enum-told
 enum-told c = search needs
@@ -23,7 +21,7 @@ returns c =
     let x = c .before .before .before .before .before .before .before .before .pre in
     let s = legal-there _ _ _ _ x (c .before .before .before .before .legal-at .ensures)
     (c .before .before .standing .given .1) in
-    position-right _ _ _ _ _ _ _ (s .2) (s .0) (c .is-required .ensures)
+    position-right _ _ _ _ _ _ _ (s .2) (s .0) (c .requires-byte .ensures (s .1))
 
 returns-2 : tie.Need-returns-2
 returns-2 c =
@@ -32,4 +30,4 @@ returns-2 c =
 
 pub is-right-spec : {M : Type 1} → statement M
 is-right-spec =
-    tie.close (tie.spec legal-at-requires enum-known-standing is-required-requires enum-told returns returns-2)
+    tie.close (tie.spec legal-at-requires enum-known-standing requires-byte-requires enum-told returns returns-2)

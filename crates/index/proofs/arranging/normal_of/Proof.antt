@@ -1,13 +1,12 @@
 -- `index::arranging::normal_of` meets its contract.
-use Rattle.index.specs.Least.{leastOf}
-use Rattle.index.specs.Seats.{leastAt}
-use Rattle.index.specs.Arranging.{normalAs, swapsAt}
+use mathlib.Core.Path.{sym, ap, _∙_}
+use mathlib.Core.Bool.{Bool}
+use Rattle.index.specs.Least.{risingKey}
+use Rattle.index.specs.laws.LeastLaws.{rising-unlike}
+use Rattle.index.specs.laws.NormalPlaceLaws.{normal-keys}
 use borrow.Author.Needs.{needs}
 use Rattle.index.proofs.arranging.normal_of.Statement.{statement}
 use Rattle.index.proofs.arranging.normal_of.Tie as tie
-
-alike-requires : tie.Need-alike-requires
-alike-requires c κs = search needs
 
 turned-key-requires : tie.Need-turned-key-requires
 turned-key-requires c κs = search needs
@@ -15,44 +14,54 @@ turned-key-requires c κs = search needs
 transposed-key-requires : tie.Need-transposed-key-requires
 transposed-key-requires c κs = search needs
 
+alike-requires : tie.Need-alike-requires
+alike-requires c κs = search needs
+
 rising-key-requires : tie.Need-rising-key-requires
 rising-key-requires c κs = search needs
 
 rising-key-requires-2 : tie.Need-rising-key-requires-2
 rising-key-requires-2 c κs = search needs
 
-lesser-requires : tie.Need-lesser-requires
-lesser-requires c κs = search needs
-
-place-from-requires : tie.Need-place-from-requires
-place-from-requires c κs = search needs
+normal-by-requires : tie.Need-normal-by-requires
+normal-by-requires c κs = search needs
 
 returns : tie.Need-returns
-unfolding normalAs leastAt leastOf swapsAt
 returns c =
-    let l = c .before in
-    let s = l .before .before in
-    let t = s .before in
-    let k = t .before in
-    rw (
-      c .place-from .ensures,
-      l .lesser .ensures,
-      s .rising-key2 .ensures,
-      t .rising-key .ensures,
-      k .transposed-key .ensures,
-      k .before .turned-key .ensures,
-      k .before .before .alike .ensures,
-    )
+    let u = c .before in
+    let s = u .before in
+    let i = s .before in
+    let a = i .before in
+    let t = a .before in
+    let like = sym (sym (a .alike .ensures) ∙ i .if1 .taken) in
+    c .normal-by .ensures
+    ∙ normal-keys _ _ _ _ _ _ (t .before .turned-key .ensures) (t .transposed-key .ensures)
+    (s .rising-key .ensures ∙ ap (λ (l : Bool). risingKey l (t .before .turned-key .result)) like)
+    (u .rising-key2 .ensures ∙ ap (λ (l : Bool). risingKey l (t .transposed-key .result)) like)
+
+normal-by-requires-2 : tie.Need-normal-by-requires-2
+normal-by-requires-2 c κs = search needs
+
+returns-2 : tie.Need-returns-2
+returns-2 c =
+    let i = c .before in
+    let a = i .before in
+    let t = a .before in
+    let unlike = sym (a .alike .ensures) ∙ i .if1 .left in
+    c .normal-by2 .ensures
+    ∙ normal-keys _ _ _ _ _ _ (t .before .turned-key .ensures) (t .transposed-key .ensures)
+    (rising-unlike _ _ unlike) (rising-unlike _ _ unlike)
 
 pub normal-of-spec : {M : Type 1} → statement M
 normal-of-spec =
     tie.close
     (tie.spec
-    alike-requires
     turned-key-requires
     transposed-key-requires
+    alike-requires
     rising-key-requires
     rising-key-requires-2
-    lesser-requires
-    place-from-requires
-    returns)
+    normal-by-requires
+    returns
+    normal-by-requires-2
+    returns-2)

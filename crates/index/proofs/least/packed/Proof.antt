@@ -1,5 +1,6 @@
 -- `index::least::packed` meets its contract.
 use mathlib.Core.Path.{refl}
+use native.Mathlib.Omega.{arith}
 use Rattle.index.specs.Least.{packed}
 use borrow.Author.Needs.{needs}
 use Rattle.index.proofs.least.packed.Statement.{statement}
@@ -25,7 +26,7 @@ add-result-3 c = search needs
 
 returns : tie.Need-returns
 unfolding packed
-returns c = refl
+returns c = (refl, omega arith)
 
 pub packed-spec : {M : Type 1} → statement M
 packed-spec =

@@ -14,14 +14,14 @@ packed-requires c κs = search needs
 
 returns : tie.Need-returns
 unfolding turnedKey
-returns c = c .packed .ensures ∙ sym (rw (← c .before .before .flip-of .ensures, le-leb _ _ (c .before .if1 .taken)))
+returns c = c .packed .ensures .0 ∙ sym (rw (← c .before .before .flip-of .ensures, le-leb _ _ (c .before .if1 .taken)))
 
 packed-requires-2 : tie.Need-packed-requires-2
 packed-requires-2 c κs = search needs
 
 returns-2 : tie.Need-returns-2
 unfolding turnedKey
-returns-2 c = c .packed2 .ensures ∙ sym (rw (← c .before .before .flip-of .ensures, lt-leb _ _ (c .before .if1 .left)))
+returns-2 c = c .packed2 .ensures .0 ∙ sym (rw (← c .before .before .flip-of .ensures, lt-leb _ _ (c .before .if1 .left)))
 
 pub turned-key-spec : {M : Type 1} → statement M
 turned-key-spec =

@@ -1,9 +1,11 @@
 -- `movegen::reach_of` meets its contract.
 use Rattle.position.specs.Keyed.{boardOf}
-use Rattle.position.specs.Posed.{posed}
+use Rattle.position.specs.Posed.{posed, Complete}
 use Rattle.position.specs.laws.PosedLaws.{complete-spread}
+use Rattle.movegen.specs.Reach.{View}
 use Rattle.movegen.specs.laws.Alone.{first-man, second-man}
 use Rattle.movegen.specs.laws.Reach.{view-of}
+use Rattle.movegen.specs.laws.Movers.{mover-of, mover-unpinned}
 use borrow.Author.Needs.{needs}
 use Rattle.movegen.proofs.reaching.reach_of.Statement.{statement}
 use Rattle.movegen.proofs.reaching.reach_of.Tie as tie
@@ -14,11 +16,11 @@ occupied-at-requires c κs = search needs
 own-at-requires : tie.Need-own-at-requires
 own-at-requires c κs = search needs
 
-king-at-requires : tie.Need-king-at-requires
-king-at-requires c κs = search needs
+king-set-requires : tie.Need-king-set-requires
+king-set-requires c κs = search needs
 
-without-requires : tie.Need-without-requires
-without-requires c κs = search needs
+minus-requires : tie.Need-minus-requires
+minus-requires c κs = search needs
 
 other-requires : tie.Need-other-requires
 other-requires c κs = search needs
@@ -29,25 +31,68 @@ strike-set-requires c κs = search needs
 king-reach-requires : tie.Need-king-reach-requires
 king-reach-requires c κs = search needs
 
-man-reach-requires : tie.Need-man-reach-requires
-man-reach-requires c κs = search needs
+struck-by-requires : tie.Need-struck-by-requires
+struck-by-requires c κs = search needs
 
-man-reach-requires-2 : tie.Need-man-reach-requires-2
-man-reach-requires-2 c κs = search needs
+minus-requires-2 : tie.Need-minus-requires-2
+minus-requires-2 c κs = search needs
+
+struck-by-requires-2 : tie.Need-struck-by-requires-2
+struck-by-requires-2 c κs = search needs
+
+minus-requires-3 : tie.Need-minus-requires-3
+minus-requires-3 c κs = search needs
+
+-- what is in hand once the foes' attack is known
+view : (s : tie.After-strike-set)
+    → let x = s .before .before .before .before .before .before .args in
+    Complete (x .m) (x .q)
+    → View (x .m) (x .q) (s .before .before .before .before .before .occupied-at .result)
+    (s .before .before .before .before .own-at .result) (s .strike-set .result)
+unfolding boardOf posed
+view s d =
+    let k = s .before .before .before in
+    let w = complete-spread d in
+    view-of w (k .before .before .occupied-at .ensures _) (k .before .own-at .ensures (w .side)) _ _ _
+    (k .king-set .ensures) (s .before .before .minus .ensures) (s .before .other .ensures) (s .strike-set .ensures)
 
 returns : tie.Need-returns
-unfolding boardOf posed
 returns c =
-    let t = c .before .before .before in
-    let k = t .before .before .before in
-    let x = k .before .before .before .args in
+    let f = c .before .before .before in
+    let s = f .before .before .before in
+    let x = s .before .before .before .before .before .before .args in
     λ d.
     let w = complete-spread d in
-    let v = view-of w (k .before .before .occupied-at .ensures (x .m)) (k .before .own-at .ensures (w .side)) _ _ _
-    (k .king-at .ensures) (t .before .before .without .ensures) (t .before .other .ensures) (t .strike-set .ensures) in (
-      c .before .before .king-reach .ensures _ _ v,
-      c .before .man-reach .ensures v (first-man (x .m) (x .q) w),
-      c .man-reach2 .ensures v (second-man (x .m) (x .q) w),
+    let v = view s d in (
+      f .before .before .king-reach .ensures _ _ v,
+      mover-unpinned v
+          (mover-of v _ _ _ _ _ (first-man (x .m) (x .q) w) (f .before .struck-by .ensures) (f .minus2 .ensures))
+          (c .if1 .taken) (f .minus2 .ok),
+      mover-unpinned v
+          (mover-of v _ _ _ _ _ (second-man (x .m) (x .q) w) (c .before .before .struck-by2 .ensures) (c .before .minus3 .ensures))
+          (c .if1 .taken) (c .before .minus3 .ok),
+    )
+
+shielding-requires : tie.Need-shielding-requires
+shielding-requires c κs = search needs
+
+shielding-requires-2 : tie.Need-shielding-requires-2
+shielding-requires-2 c κs = search needs
+
+returns-2 : tie.Need-returns-2
+returns-2 c =
+    let g = c .before .before .before in
+    let f = g .before .before in
+    let s = f .before .before .before in
+    let x = s .before .before .before .before .before .before .args in
+    λ d.
+    let w = complete-spread d in
+    let v = view s d in (
+      f .before .before .king-reach .ensures _ _ v,
+      c .before .shielding .ensures _ _
+          (mover-of v _ _ _ _ _ (first-man (x .m) (x .q) w) (f .before .struck-by .ensures) (f .minus2 .ensures)),
+      c .shielding2 .ensures _ _
+          (mover-of v _ _ _ _ _ (second-man (x .m) (x .q) w) (g .before .struck-by2 .ensures) (g .minus3 .ensures)),
     )
 
 pub reach-of-spec : {M : Type 1} → statement M
@@ -56,11 +101,16 @@ reach-of-spec =
     (tie.spec
     occupied-at-requires
     own-at-requires
-    king-at-requires
-    without-requires
+    king-set-requires
+    minus-requires
     other-requires
     strike-set-requires
     king-reach-requires
-    man-reach-requires
-    man-reach-requires-2
-    returns)
+    struck-by-requires
+    minus-requires-2
+    struck-by-requires-2
+    minus-requires-3
+    returns
+    shielding-requires
+    shielding-requires-2
+    returns-2)

@@ -4,10 +4,13 @@ use native.Mathlib.Omega.{arith}
 use borrow.Author.Tests.{not-true, not-false}
 use Rattle.position.specs.Keyed.{boardOf}
 use Rattle.position.specs.Posed.{posed}
-use Rattle.movegen.specs.laws.Movers.{mover-stays, mover-free, mover-parried}
+use Rattle.movegen.specs.laws.Movers.{mover-none, mover-stays, mover-free, mover-parried}
 use borrow.Author.Needs.{needs}
 use Rattle.movegen.proofs.reaching.shielding.Statement.{statement}
 use Rattle.movegen.proofs.reaching.shielding.Tie as tie
+
+returns : tie.Need-returns
+returns c = λ kind owner v. mover-none v (c .if1 .taken)
 
 other-requires : tie.Need-other-requires
 other-requires c κs = search needs
@@ -24,14 +27,15 @@ king-at-requires c κs = search needs
 has-requires : tie.Need-has-requires
 has-requires c κs = search needs
 
-returns : tie.Need-returns
+returns-2 : tie.Need-returns-2
 unfolding boardOf posed
-returns c =
+returns-2 c =
     let h = c .before in
     let t = h .before .before in
-    λ kind v. mover-free v _ _ _ (t .before .before .other .ensures) (t .before .without .ensures) (t .strike-set .ensures)
-    _ (h .before .king-at .ensures) (sym (h .has .ensures) ∙ not-true _ (c .if1 .taken))
-    (c .before .before .before .before .before .before .fits .free .fits)
+    let o = t .before .before in
+    λ kind owner v. mover-free v (o .before .if1 .left) _ _ _ (o .other .ensures) (t .before .without .ensures)
+    (t .strike-set .ensures) _ (h .before .king-at .ensures) (sym (h .has .ensures) ∙ not-true _ (c .if2 .taken))
+    (o .before .before .fits .free .fits)
 
 own-at-requires : tie.Need-own-at-requires
 own-at-requires c κs = search needs
@@ -39,28 +43,30 @@ own-at-requires c κs = search needs
 tested-requires : tie.Need-tested-requires
 tested-requires c κs = search needs
 
-returns-2 : tie.Need-returns-2
+returns-3 : tie.Need-returns-3
 unfolding boardOf posed
-returns-2 c =
+returns-3 c =
     let o = c .before in
     let h = o .before .before in
     let t = h .before .before in
-    let x = t .before .before .before .args in
     let foe = t .before .before .other .ensures in
-    λ kind v. mover-parried v _ _ _ foe (t .before .without .ensures) (t .strike-set .ensures) _
+    let some = t .before .before .before .if1 .left in
+    λ kind owner v. mover-parried v some _ _ _ foe (t .before .without .ensures) (t .strike-set .ensures) _
     (h .before .king-at .ensures) _ (o .own-at .ensures (omega (arith, foe)))
-    (sym (h .has .ensures) ∙ not-false _ (o .before .if1 .left)) _ (c .tested .ok) (c .tested .ensures (mover-stays v))
+    (sym (h .has .ensures) ∙ not-false _ (o .before .if2 .left)) _ (c .tested .ok)
+    (c .tested .ensures (mover-stays v some))
 
 pub shielding-spec : {M : Type 1} → statement M
 shielding-spec =
     tie.close
     (tie.spec
+    returns
     other-requires
     without-requires
     strike-set-requires
     king-at-requires
     has-requires
-    returns
+    returns-2
     own-at-requires
     tested-requires
-    returns-2)
+    returns-3)

@@ -7,7 +7,7 @@ alike-requires : tie.Need-alike-requires
 alike-requires c κs = search needs
 
 returns : tie.Need-returns
-returns c = rw (c .before .before .before .before .alike .ensures)
+returns c = rw (c .alike .ensures)
 
 pub is-plain-spec : {M : Type 1} → statement M
 is-plain-spec = tie.close (tie.spec alike-requires returns)

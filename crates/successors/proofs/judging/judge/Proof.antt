@@ -1,94 +1,107 @@
 -- `successors::judge` meets its contract: a piece at a time.
 use borrow.Author.Needs.{needs}
-use Rattle.successors.specs.laws.JudgeLaws.{sifted-at, king-refuted, first-refuted, second-refuted, all-suited}
+use mathlib.Core.Path.{_∙_}
+use mathlib.Core.Logic.{⊎-elim}
+use Rattle.successors.specs.laws.QuietLaws.{of-first, of-second}
+use Rattle.successors.specs.laws.JudgeLaws.{no-moves, king-refuted, first-refuted, second-refuted, all-suited}
 use Rattle.successors.proofs.judging.judge.Statement.{statement}
 use Rattle.successors.proofs.judging.judge.Tie as tie
 
-king-at-requires : tie.Need-king-at-requires
-king-at-requires c κs = search needs
+takes-some-requires : tie.Need-takes-some-requires
+takes-some-requires c κs = search needs
 
-sift-some-requires : tie.Need-sift-some-requires
-sift-some-requires c κs = search needs
-
-enum-told : tie.Need-enum-told
-enum-told c = search needs
+sift-steps-requires : tie.Need-sift-steps-requires
+sift-steps-requires c κs = search needs
 
 enum-known-by-king : tie.Need-enum-known-by-king
 enum-known-by-king c = search needs
 
-sift-requires : tie.Need-sift-requires
-sift-requires c κs = search needs
-
-enum-told-2 : tie.Need-enum-told-2
-enum-told-2 c = search needs
-
-enum-known-by-first : tie.Need-enum-known-by-first
-enum-known-by-first c = search needs
-
-sift-requires-2 : tie.Need-sift-requires-2
-sift-requires-2 c κs = search needs
-
-enum-told-3 : tie.Need-enum-told-3
-enum-told-3 c = search needs
-
-enum-known-by-second : tie.Need-enum-known-by-second
-enum-known-by-second c = search needs
+enum-told : tie.Need-enum-told
+enum-told c = search needs
 
 returns : tie.Need-returns
 returns c =
     let k = c .before .before in
     λ w t. king-refuted _ _ _ _ _ _ _
-    (sifted-at _ _ _ _ _ _ _ (k .before .king-at .ensures) (t .king) (k .sift-some .ensures w)) (c .enum-told .given .1)
+    (k .sift-steps .ensures w (t .king) (λ e. k .before .takes-some .ensures e .0)) (c .enum-told .given .1)
+
+sift-moves-requires : tie.Need-sift-moves-requires
+sift-moves-requires c κs = search needs
+
+enum-known-by-first : tie.Need-enum-known-by-first
+enum-known-by-first c = search needs
+
+enum-told-2 : tie.Need-enum-told-2
+enum-told-2 c = search needs
 
 returns-2 : tie.Need-returns-2
 returns-2 c =
-    let f = c .before .before in
-    let o = f .before .before in
+    let j = c .before .before in
+    let o = j .before .before .before in
     let k = o .before .before in
-    λ w t. first-refuted _ _ _ _ _ _ _
-    (sifted-at _ _ _ _ _ _ _ (k .before .king-at .ensures) (t .king) (k .sift-some .ensures w)) _ (o .by-king .given .1) _
-    (f .sift .ensures w (t .first)) (c .enum-told2 .given .1)
+    let s = k .before .takes-some in
+    let q = k .before .before .before .before .before .args .q in
+    λ w t. first-refuted _ _ _ _ _ _ _ (k .sift-steps .ensures w (t .king) (λ e. s .ensures e .0)) _ (o .by-king .given .1) _
+    (⊎-elim (λ l. l .1 ∙ no-moves _ _ _ _ _ (t .first) (l .0 .taken))
+    (λ r. r .2 ∙ r .1 .ensures w (t .first) (λ e. s .ensures e .1) (of-first q)) (j .if1 .came))
+    (c .enum-told2 .given .1)
+
+sift-moves-requires-2 : tie.Need-sift-moves-requires-2
+sift-moves-requires-2 c κs = search needs
+
+enum-known-by-second : tie.Need-enum-known-by-second
+enum-known-by-second c = search needs
+
+enum-told-3 : tie.Need-enum-told-3
+enum-told-3 c = search needs
 
 returns-3 : tie.Need-returns-3
 returns-3 c =
-    let s = c .before .before in
-    let p = s .before .before in
-    let f = p .before .before in
-    let o = f .before .before in
+    let i = c .before .before in
+    let p = i .before .before .before in
+    let j = p .before .before in
+    let o = j .before .before .before in
     let k = o .before .before in
-    λ w t. second-refuted _ _ _ _ _ _ _
-    (sifted-at _ _ _ _ _ _ _ (k .before .king-at .ensures) (t .king) (k .sift-some .ensures w)) _ (o .by-king .given .1) _
-    (f .sift .ensures w (t .first)) _ (p .by-first .given .1) _ (s .sift2 .ensures w (t .second))
+    let s = k .before .takes-some in
+    let q = k .before .before .before .before .before .args .q in
+    λ w t. second-refuted _ _ _ _ _ _ _ (k .sift-steps .ensures w (t .king) (λ e. s .ensures e .0)) _ (o .by-king .given .1) _
+    (⊎-elim (λ l. l .1 ∙ no-moves _ _ _ _ _ (t .first) (l .0 .taken))
+    (λ r. r .2 ∙ r .1 .ensures w (t .first) (λ e. s .ensures e .1) (of-first q)) (j .if1 .came)) _ (p .by-first .given .1) _
+    (⊎-elim (λ l. l .1 ∙ no-moves _ _ _ _ _ (t .second) (l .0 .taken))
+    (λ r. r .2 ∙ r .1 .ensures w (t .second) (λ e. s .ensures e .2) (of-second q)) (i .if2 .came))
     (c .enum-told3 .given .1)
 
 returns-4 : tie.Need-returns-4
 returns-4 c =
-    let r = c .before in
-    let s = r .before .before in
-    let p = s .before .before in
-    let f = p .before .before in
-    let o = f .before .before in
+    let u = c .before in
+    let i = u .before .before in
+    let p = i .before .before .before in
+    let j = p .before .before in
+    let o = j .before .before .before in
     let k = o .before .before in
-    λ w t. all-suited _ _ _ _ _ _ _
-    (sifted-at _ _ _ _ _ _ _ (k .before .king-at .ensures) (t .king) (k .sift-some .ensures w)) _ (o .by-king .given .1) _
-    (f .sift .ensures w (t .first)) _ (p .by-first .given .1) _ (s .sift2 .ensures w (t .second)) _
-    (r .by-second .given .1)
+    let s = k .before .takes-some in
+    let q = k .before .before .before .before .before .args .q in
+    λ w t. all-suited _ _ _ _ _ _ _ (k .sift-steps .ensures w (t .king) (λ e. s .ensures e .0)) _ (o .by-king .given .1) _
+    (⊎-elim (λ l. l .1 ∙ no-moves _ _ _ _ _ (t .first) (l .0 .taken))
+    (λ r. r .2 ∙ r .1 .ensures w (t .first) (λ e. s .ensures e .1) (of-first q)) (j .if1 .came)) _ (p .by-first .given .1) _
+    (⊎-elim (λ l. l .1 ∙ no-moves _ _ _ _ _ (t .second) (l .0 .taken))
+    (λ r. r .2 ∙ r .1 .ensures w (t .second) (λ e. s .ensures e .2) (of-second q)) (i .if2 .came)) _ (u .by-second .given .1)
 
 pub judge-spec : {M : Type 1} → statement M
 judge-spec =
     tie.close
     (tie.spec
-    king-at-requires
-    sift-some-requires
-    enum-told
+    takes-some-requires
+    sift-steps-requires
     enum-known-by-king
-    sift-requires
-    enum-told-2
-    enum-known-by-first
-    sift-requires-2
-    enum-told-3
-    enum-known-by-second
+    enum-told
     returns
+    sift-moves-requires
+    enum-known-by-first
+    enum-told-2
     returns-2
+    sift-moves-requires-2
+    enum-known-by-second
+    enum-told-3
     returns-3
     returns-4)

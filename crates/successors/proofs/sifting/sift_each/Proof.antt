@@ -9,6 +9,7 @@ use Rattle.board.specs.Sets.{has, members, setOf}
 use Rattle.board.specs.laws.LowestLaws.{Lowest, lowest-of}
 use Rattle.rules.specs.Rules.{canMove}
 use Rattle.position.specs.Posed.{boardIn, Complete}
+use Rattle.position.specs.laws.PosedLaws.{complete-spread}
 use Rattle.successors.specs.Successors.{bytesIn}
 use Rattle.successors.specs.laws.FramingLaws.{frame-side}
 use Rattle.successors.specs.laws.SiftLaws.{Sifting, sift-start, sift-refuted, sift-turn, sift-end}
@@ -60,7 +61,7 @@ returns c =
     λ w e. let v = l .inv .2 w e in
     sift-refuted _ _ _ _ _ _ _ _ _ (low d _ refl) v
     (k .byte-after .ensures w (v .legal-rest _ (low d _ refl .square) (low d _ refl .here))
-    (frame-side _ _ _ _ _ (a .before .before .other .ensures) (a .before .frame-for .ensures))) (sym (c .before .refutes .ensures) ∙ c .if1 .taken)
+    (frame-side _ _ _ _ _ (a .before .before .other .ensures) (a .before .frame-for .ensures (complete-spread w .white) (complete-spread w .black)))) (sym (c .before .refutes .ensures) ∙ c .if1 .taken)
 
 suits-requires : tie.Need-suits-requires Inv-loop μ-loop
 suits-requires c κs = tt
@@ -86,7 +87,7 @@ loop-again c =
       λ w e. let v = l .inv .2 w e in
           sift-turn _ _ _ _ _ _ _ _ _ (low d _ (c .without .ensures)) v
           (k .byte-after .ensures w (v .legal-rest _ (low d _ refl .square) (low d _ refl .here))
-          (frame-side _ _ _ _ _ (a .before .before .other .ensures) (a .before .frame-for .ensures))) _
+          (frame-side _ _ _ _ _ (a .before .before .other .ensures) (a .before .frame-for .ensures (complete-spread w .white) (complete-spread w .black)))) _
           (sym (s .before .before .refutes .ensures) ∙ s .before .if1 .left)
           (c .before .with-suited .ensures ∙ rw (s .suits .ensures)),
     )

@@ -1,0 +1,3 @@
+pub mod EmptyBoard
+pub mod Packed
+pub mod laws
