@@ -1,0 +1,4 @@
+pub mod Admitted
+pub mod Trying
+pub mod Back
+pub mod laws
