@@ -9,4 +9,8 @@ pub mod Sources
 pub mod Lines
 pub mod Into
 pub mod Own
+pub mod Saved
+pub mod BareNumber
+pub mod BareMoves
+pub mod BareLost
 pub mod Captures

@@ -23,7 +23,7 @@ fn try_lone(
     second: &[u8],
     table: &mut [u8],
 ) -> u32
-    requires { ⌜ (k < 254) × Admitted m (now first) (now second) (now table) × (m .second < 4) × Which taken × (now small ≡ lentOf m (now first) (now second) taken) × (j < length (now small)) ⌝ }
+    requires { ⌜ (0 < k) × (k < 254) × Admitted m (now first) (now second) (now table) × (m .second < 4) × Which taken × (now small ≡ lentOf m (now first) (now second) taken) × (j < length (now small)) ⌝ }
     ensures { λ r. ⌜ TriesLone m (now (first .entry)) (now (second .entry)) k taken j (now (table .entry)) (now (table .exit)) r ⌝ }
 {
     if small[j] != 1 + k {
@@ -49,7 +49,7 @@ fn pass_lent(
     second: &[u8],
     table: &mut [u8],
 ) -> u32
-    requires { ⌜ (k < 254) × Admitted m (now first) (now second) (now table) × (m .second < 4) × Which taken × (now small ≡ lentOf m (now first) (now second) taken) ⌝ }
+    requires { ⌜ (0 < k) × (k < 254) × Admitted m (now first) (now second) (now table) × (m .second < 4) × Which taken × (now small ≡ lentOf m (now first) (now second) taken) ⌝ }
     ensures { λ r. ⌜ Sweeps m (now (first .entry)) (now (second .entry)) k taken 59136 (now (table .entry)) (now (table .exit)) r ⌝ }
 {
     let size = small.len();
@@ -64,7 +64,7 @@ fn pass_lent(
 
 // Tries back from the tables of both men: of like kinds one table is lent twice, and the first is read.
 pub fn pass_captures(m: Men, k: u8, first: &[u8], second: &[u8], table: &mut [u8]) -> u32
-    requires { ⌜ (k < 254) × Admitted m (now first) (now second) (now table) ⌝ }
+    requires { ⌜ (0 < k) × (k < 254) × Admitted m (now first) (now second) (now table) ⌝ }
     ensures { λ r. ⌜ SweepsAll m (now (first .entry)) (now (second .entry)) k (now (table .entry)) (now (table .exit)) r ⌝ }
 {
     if 4 <= m.second {

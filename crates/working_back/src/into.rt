@@ -1,4 +1,5 @@
 // The positions that have a move to this one, piece by piece.
+use super::bare::lose_bare;
 use super::trying::try_each;
 use super::trying::try_framed;
 use movegen::king_at;
@@ -26,12 +27,15 @@ fn try_king(
     second: &[u8],
     table: &mut [u8],
 ) -> u32
-    requires { ⌜ (k < 254) × Admitted m (now first) (now second) (now table) × LegalLeft m q taken ⌝ }
+    requires { ⌜ (0 < k) × (k < 254) × Admitted m (now first) (now second) (now table) × LegalLeft m q taken ⌝ }
     ensures { λ r. ⌜ TriesTo m (now (first .entry)) (now (second .entry)) k q (cond (eqb (1 - q .side) 0) (q .white) (q .black)) (now (table .entry)) (now (table .exit)) r ⌝ }
 {
     let mover = other(q.side);
     let to = king_at(q, mover);
     let squares = sources(m, q, taken, KING, mover, to);
+    if (k % 2 == 0) & ((q.side == 0) & (m.colour == 0)) {
+        return lose_bare(m, k, q, taken, to, squares, first, second, &mut *table);
+    }
     try_each(m, k, q, taken, to, squares, first, second, &mut *table)
 }
 
@@ -46,7 +50,7 @@ fn try_man(
     second: &[u8],
     table: &mut [u8],
 ) -> u32
-    requires { ⌜ (k < 254) × Admitted m (now first) (now second) (now table) × LegalLeft m q taken ⌝ }
+    requires { ⌜ (0 < k) × (k < 254) × Admitted m (now first) (now second) (now table) × LegalLeft m q taken ⌝ }
     ensures { λ r. ⌜ TriesTo m (now (first .entry)) (now (second .entry)) k q (cond latter (q .second) (q .first)) (now (table .entry)) (now (table .exit)) r ⌝ }
 {
     let kind = again(latter, m.second, m.first);
@@ -69,7 +73,7 @@ pub fn try_into(
     second: &[u8],
     table: &mut [u8],
 ) -> u32
-    requires { ⌜ (k < 254) × Admitted m (now first) (now second) (now table) × LegalLeft m q taken ⌝ }
+    requires { ⌜ (0 < k) × (k < 254) × Admitted m (now first) (now second) (now table) × LegalLeft m q taken ⌝ }
     ensures { λ r. ⌜ TriesInto m (now (first .entry)) (now (second .entry)) k q (now (table .entry)) (now (table .exit)) r ⌝ }
 {
     let a = try_king(m, k, q, taken, first, second, &mut *table);

@@ -1,5 +1,6 @@
 // A pass that works back from the positions just settled, for pieces.
 mod back;
+mod bare;
 mod captures;
 mod into;
 mod lines;

@@ -13,7 +13,7 @@ pub fn spot(base: usize, flip: u8, scale: u8, s: u8) -> usize
 }
 
 // A square with the reversals of a frame.
-fn turned(flip: u8, s: u8) -> u8
+pub fn turned(flip: u8, s: u8) -> u8
     ensures { λ r. ⌜ r ≡ bitXor s flip ⌝ }
 {
     s ^ flip

@@ -28,7 +28,7 @@ ghost use Rattle.working_back.specs.Admitted.{Admitted};
 ghost use Rattle.working_back.specs.Back.{TriesPlace, TriesTo};
 
 // Settles the number, which holds 1, if depth k is required of the position before a move from s; 1 if it did, and else 0.
-fn confirm(
+pub fn confirm(
     m: Men,
     k: u8,
     q: Place,

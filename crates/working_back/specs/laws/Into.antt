@@ -1,11 +1,12 @@
 -- The three pieces that may have moved into a position.
+use Rattle.finite.specs.Truth.{of-true, and-left, and-right}
 use mathlib.Core.Path.{_≡_, sym, ap, subst, subst⁻¹, _∙_}
-use mathlib.Core.Bool.{Bool, true, false, cond}
+use mathlib.Core.Bool.{Bool, true, false, cond, _&&_}
 use mathlib.Core.Logic.{_⊎_, inl, inr, ⊎-elim}
 use mathlib.Core.List.{List}
 use Prim.Native.Nat.{ℕ, zero, suc, _+_, _-_, _<_}
 use native.Mathlib.Omega.{arith}
-use lib.Dec.{eqb}
+use lib.Dec.{eqb, eqb→eq}
 use borrow.Author.Tests.{eq-eqb, ne-eqb}
 use Rattle.rules.specs.Rules.{carried}
 use Rattle.rules.specs.Chess.{chess}
@@ -35,6 +36,21 @@ king-went o from to h e = by (o .side) h e
     by zero h e = sym (rw (eq-eqb (o .white) from (sym e)))
     by (suc zero) h e = sym (rw (eq-eqb (o .black) from (sym e)))
     by (suc (suc s)) h e = absurd (omega arith)
+
+-- what code asks of a king without men
+pub bare-told : (a b c : ℕ) → (eqb a 0 && (eqb b 0 && eqb c 0)) ≡ true → (a ≡ 0) × (b ≡ 0) × (c ≡ 0)
+bare-told a b c e =
+    let f = of-true e in
+    let g = and-right (eqb a 0) (eqb b 0 && eqb c 0) f in (
+      eqb→eq a 0 (and-left (eqb a 0) (eqb b 0 && eqb c 0) f),
+      eqb→eq b 0 (and-left (eqb b 0) (eqb c 0) g),
+      eqb→eq c 0 (and-right (eqb b 0) (eqb c 0) g),
+    )
+
+-- with White to move the king who moved is Black's
+pub black-king : (q : Place) → q .side ≡ 0 → (mover to : ℕ) → mover ≡ 1 - q .side → to ≡ cond (eqb mover 0) (q .white) (q .black) → to ≡ q .black
+black-king q e mover to f g =
+    g ∙ ap (λ (b : Bool). cond b (q .white) (q .black)) (ne-eqb mover 0 (λ z. omega (arith, e, f, z)))
 
 module _ (m : Men) (q : Place) (taken : ℕ) (w : LegalLeft m q taken) where
   -- where a move into q went

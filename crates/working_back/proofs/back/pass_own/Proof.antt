@@ -57,6 +57,7 @@ try-into-requires c κs =
     let l = c .before .before .before .loop .inv in
     let a = admitted-kept _ _ _ _ (p .2) _ (l .2 .0 .long) in
     let h = c .before .before .loop-test .taken in (
+      p .0,
       p .1,
       a,
       place-legal (x .m) (x .first .now) (x .second .now) (x .k) (c .before .before .before .loop .j) _

@@ -11,18 +11,19 @@ use Rattle.working_back.proofs.captures.pass_captures.Tie as tie
 returns : tie.Need-returns
 returns c =
     let s = c .before .before .before .before .before in
-    none-swept (s .args .m) (s .args .first .now) (s .args .second .now) (s .args .k) _ (s .pre .1) (c .if1 .taken)
+    none-swept (s .args .m) (s .args .first .now) (s .args .second .now) (s .args .k) _ (s .pre .2) (c .if1 .taken)
 
 pass-lent-requires : tie.Need-pass-lent-requires
 pass-lent-requires c κs =
     let s = c .before .before .before .before .before .before in
-    (s .pre .0, s .pre .1, c .before .if1 .left, inr refl, lent-second (s .args .m) (s .args .first .now) (s .args .second .now))
+    (s .pre .0, s .pre .1, s .pre .2, c .before .if1 .left, inr refl, lent-second (s .args .m) (s .args .first .now) (s .args .second .now))
 
 pass-lent-requires-2 : tie.Need-pass-lent-requires-2
 pass-lent-requires-2 c κs =
     let s = c .before .before .before .before .before .before .before .before .before .before .before .before in (
       s .pre .0,
-      admitted-kept _ _ _ _ (s .pre .1) _ (c .before .before .before .before .before .pass-lent .ensures .0 .long),
+      s .pre .1,
+      admitted-kept _ _ _ _ (s .pre .2) _ (c .before .before .before .before .before .pass-lent .ensures .0 .long),
       c .before .before .before .before .before .before .before .if1 .left,
       inl refl,
       lent-like (s .args .m) (s .args .first .now) (s .args .second .now) (c .before .if2 .taken),
@@ -37,14 +38,15 @@ same-length c = search needs
 returns-2 : tie.Need-returns-2
 returns-2 c =
     let s = c .before .before .before .before .before .before .before .before .before .before .before .before .before .before .before in
-    all-swept (s .args .m) (s .args .first .now) (s .args .second .now) (s .args .k) _ (s .pre .1) (c .before .before .before .before .before .before .before .before .before .before .if1 .left) _ _ _ _ (c .before .before .before .before .before .before .before .before .pass-lent .ensures)
+    all-swept (s .args .m) (s .args .first .now) (s .args .second .now) (s .args .k) _ (s .pre .2) (c .before .before .before .before .before .before .before .before .before .before .if1 .left) _ _ _ _ (c .before .before .before .before .before .before .before .before .pass-lent .ensures)
     (c .before .before .pass-lent2 .ensures)
 
 pass-lent-requires-3 : tie.Need-pass-lent-requires-3
 pass-lent-requires-3 c κs =
     let s = c .before .before .before .before .before .before .before .before .before .before .before .before in (
       s .pre .0,
-      admitted-kept _ _ _ _ (s .pre .1) _ (c .before .before .before .before .before .pass-lent .ensures .0 .long),
+      s .pre .1,
+      admitted-kept _ _ _ _ (s .pre .2) _ (c .before .before .before .before .before .pass-lent .ensures .0 .long),
       c .before .before .before .before .before .before .before .if1 .left,
       inl refl,
       lent-unlike (s .args .m) (s .args .first .now) (s .args .second .now) (c .before .if2 .left),
@@ -59,7 +61,7 @@ same-length-2 c = search needs
 returns-3 : tie.Need-returns-3
 returns-3 c =
     let s = c .before .before .before .before .before .before .before .before .before .before .before .before .before .before .before in
-    all-swept (s .args .m) (s .args .first .now) (s .args .second .now) (s .args .k) _ (s .pre .1) (c .before .before .before .before .before .before .before .before .before .before .if1 .left) _ _ _ _ (c .before .before .before .before .before .before .before .before .pass-lent .ensures)
+    all-swept (s .args .m) (s .args .first .now) (s .args .second .now) (s .args .k) _ (s .pre .2) (c .before .before .before .before .before .before .before .before .before .before .if1 .left) _ _ _ _ (c .before .before .before .before .before .before .before .before .pass-lent .ensures)
     (c .before .before .pass-lent3 .ensures)
 
 pub pass-captures-spec : {M : Type 1} → statement M

@@ -19,30 +19,31 @@ abbrev μ-loop : tie.MeasureT-loop
 loop-holds : tie.Need-loop-holds Inv-loop μ-loop
 loop-holds c =
     let s = c .before .before .before .before in
-    (omega arith, sweep-start (s .args .m) (s .args .first .now) (s .args .second .now) (s .args .k) _ (s .pre .1) (s .args .taken))
+    (omega arith, sweep-start (s .args .m) (s .args .first .now) (s .args .second .now) (s .args .k) _ (s .pre .2) (s .args .taken))
 
 try-lone-requires : tie.Need-try-lone-requires Inv-loop μ-loop
 try-lone-requires c κs =
     let s = c .before .before .before .before .before .before .before in
     let i = c .before .before .loop .inv in (
       s .pre .0,
-      admitted-kept _ _ _ _ (s .pre .1) _ (i .1 .0 .long),
-      s .pre .2,
+      s .pre .1,
+      admitted-kept _ _ _ _ (s .pre .2) _ (i .1 .0 .long),
       s .pre .3,
       s .pre .4,
+      s .pre .5,
       c .before .loop-test .taken,
     )
 
 add-settled : tie.Need-add-settled Inv-loop μ-loop
 add-settled c =
     let s = c .before .before .before .before .before .before .before .before .before .before in
-    let all = lent-small (s .args .m) (s .args .first .now) (s .args .second .now) _ (s .pre .1) (s .pre .2) (s .args .taken) _ (s .pre .4) in
+    let all = lent-small (s .args .m) (s .args .first .now) (s .args .second .now) _ (s .pre .2) (s .pre .3) (s .args .taken) _ (s .pre .5) in
     omega (arith, all, c .before .before .before .before .before .loop .inv .1 .0 .few, c .before .before .before .before .loop-test .taken, c .before .before .try-lone .ensures .0 .few)
 
 add-j : tie.Need-add-j Inv-loop μ-loop
 add-j c =
     let s = c .before .before .before .before .before .before .before .before .before .before in
-    let all = lent-small (s .args .m) (s .args .first .now) (s .args .second .now) _ (s .pre .1) (s .pre .2) (s .args .taken) _ (s .pre .4) in
+    let all = lent-small (s .args .m) (s .args .first .now) (s .args .second .now) _ (s .pre .2) (s .pre .3) (s .args .taken) _ (s .pre .5) in
     omega (arith, all, c .before .before .before .before .loop-test .taken)
 
 loop-less : tie.Need-loop-less Inv-loop μ-loop
@@ -54,7 +55,7 @@ loop-again c =
     let i = c .before .before .before .before .before .loop .inv in
     let x = s .args in (
       omega (arith, c .before .before .before .before .loop-test .taken),
-      sweep-turn (x .m) (x .first .now) (x .second .now) (x .k) _ (s .pre .1) (x .taken) _ _ _ _ _ (i .1)
+      sweep-turn (x .m) (x .first .now) (x .second .now) (x .k) _ (s .pre .2) (x .taken) _ _ _ _ _ (i .1)
           (c .before .before .try-lone .ensures),
     )
 
@@ -65,7 +66,7 @@ returns : tie.Need-returns Inv-loop μ-loop
 returns c =
     let s = c .before .before .before .before .before .before in
     let i = c .before .loop .inv in
-    let all = lent-small (s .args .m) (s .args .first .now) (s .args .second .now) _ (s .pre .1) (s .pre .2) (s .args .taken) _ (s .pre .4) in
+    let all = lent-small (s .args .m) (s .args .first .now) (s .args .second .now) _ (s .pre .2) (s .pre .3) (s .args .taken) _ (s .pre .5) in
     let e : c .before .loop .j ≡ 59136 = omega (arith, all, i .0, c .loop-test .left) in
     sweeps-at (s .args .m) (s .args .first .now) (s .args .second .now) (s .args .k) (s .args .taken) _ _ _ _ _ e (i .1)
 

@@ -21,19 +21,19 @@ returns : tie.Need-returns
 returns c =
     let p = c .before .before .before .before .before .before .before .before .pre in
     let x = c .before .before .before .before .before .before .before .before .args in
-    let m = man-seat (x .m) (x .q) (x .taken) (p .2) (x .latter) _ _ _ (c .before .before .before .before .again .ensures) (c .before .before .before .again2 .ensures) (c .before .before .again3 .ensures) in
-    tries-at (x .m) (x .q) (x .taken) (p .2) (x .first .now) (x .second .now) (x .k) _ (p .1) _ _ _ _ (c .before .before .again3 .ensures)
-    (taken-end (x .m) (x .first .now) (x .second .now) (x .k) (x .q) (x .taken) (c .before .before .again3 .result) _ (p .1) (c .before .sources .result) _
+    let m = man-seat (x .m) (x .q) (x .taken) (p .3) (x .latter) _ _ _ (c .before .before .before .before .again .ensures) (c .before .before .before .again2 .ensures) (c .before .before .again3 .ensures) in
+    tries-at (x .m) (x .q) (x .taken) (p .3) (x .first .now) (x .second .now) (x .k) _ (p .2) _ _ _ _ (c .before .before .again3 .ensures)
+    (taken-end (x .m) (x .first .now) (x .second .now) (x .k) (x .q) (x .taken) (c .before .before .again3 .result) _ (p .2) (c .before .sources .result) _
     (c .before .sources .result) 0 (c .if1 .taken)
-    (taken-start (x .m) (x .first .now) (x .second .now) (x .k) (x .q) (x .taken) (c .before .before .again3 .result) _ (p .1) (c .before .sources .result))
-    (c .before .sources .ensures (p .2) (m .0)))
+    (taken-start (x .m) (x .first .now) (x .second .now) (x .k) (x .q) (x .taken) (c .before .before .again3 .result) _ (p .2) (c .before .sources .result))
+    (c .before .sources .ensures (p .3) (m .0)))
 
 try-framed-requires : tie.Need-try-framed-requires
 try-framed-requires c κs =
     let p = c .before .before .before .before .before .before .before .before .before .pre in
     let x = c .before .before .before .before .before .before .before .before .before .args in
-    let m = man-seat (x .m) (x .q) (x .taken) (p .2) (x .latter) _ _ _ (c .before .before .before .before .before .again .ensures) (c .before .before .before .before .again2 .ensures) (c .before .before .before .again3 .ensures) in
-    (p .0, p .1, c .before .before .sources .ensures (p .2) (m .0), p .2, m .1)
+    let m = man-seat (x .m) (x .q) (x .taken) (p .3) (x .latter) _ _ _ (c .before .before .before .before .before .again .ensures) (c .before .before .before .before .again2 .ensures) (c .before .before .before .again3 .ensures) in
+    (p .1, p .2, c .before .before .sources .ensures (p .3) (m .0), p .3, m .1)
 
 same-length : tie.Need-same-length
 same-length c = search needs
@@ -42,7 +42,7 @@ returns-2 : tie.Need-returns-2
 returns-2 c =
     let p = c .before .before .before .before .before .before .before .before .before .before .before .before .pre in
     let x = c .before .before .before .before .before .before .before .before .before .before .before .before .args in
-    tries-at (x .m) (x .q) (x .taken) (p .2) (x .first .now) (x .second .now) (x .k) _ (p .1) _ _ _ _ (c .before .before .before .before .before .before .again3 .ensures)
+    tries-at (x .m) (x .q) (x .taken) (p .3) (x .first .now) (x .second .now) (x .k) _ (p .2) _ _ _ _ (c .before .before .before .before .before .before .again3 .ensures)
     (c .before .before .try-framed .ensures)
 
 pub try-man-spec : {M : Type 1} → statement M
