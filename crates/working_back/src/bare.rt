@@ -119,8 +119,8 @@ fn struck(m: Men, white: u8, x: u8, y: u8, to: u8) -> u64
     with(near | far, to)
 }
 
-// Settles the number of the position before his move from s, if the table has it and he is lost there in k; 1 if it did, and else 0. Where he might take a
-// man all is tried forward.
+// Settles the number of the position before his move from s, if the table has it and he is lost there in k; 1 if it did, and else 0. Where he might take
+// one man of two all is tried forward; taking the only one he draws.
 fn lose_one(
     m: Men,
     k: u8,
@@ -149,7 +149,11 @@ fn lose_one(
         return 0;
     }
     let goals = minus(targets(0, KING, s), shut);
-    if has_square(goals, x) | has_square(goals, y) {
+    let takes = has_square(goals, x);
+    if (4 <= m.second) & takes {
+        return 0;
+    }
+    if takes | has_square(goals, y) {
         return confirm(m, k, q, taken, s, to, n, first, second, &mut *table);
     }
     if is_saved(m, k, white, x, y, flip, digits, goals, &*table) {

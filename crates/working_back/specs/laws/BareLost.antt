@@ -31,9 +31,9 @@ use Rattle.movegen.specs.declared.Reach.{Reach}
 use Rattle.movegen.specs.Places.{squareAfter, placeAfter}
 use Rattle.movegen.specs.laws.Places.{place-moved}
 use Rattle.successors.specs.Successors.{bytesIn, kingAt, Remains, noTargets}
-use Rattle.successors.specs.laws.PlaceLaws.{starts, remains-after}
+use Rattle.successors.specs.laws.PlaceLaws.{starts, remains, remains-after}
 use Rattle.successors.specs.laws.PlaceVerdicts.{plain}
-use Rattle.successors.specs.laws.ByteLaws.{AllThere, all-there, own-seated, byte-own, byte-moved}
+use Rattle.successors.specs.laws.ByteLaws.{AllThere, all-there, own-seated, byte-own, byte-bare, byte-moved}
 use Rattle.successors.specs.laws.ChoiceLaws.{suitsTo, suitingSet, zero-fails}
 use Rattle.successors.specs.laws.VerdictLaws.{Sets, depth-refuted, depth-told}
 use Rattle.retracting.specs.Retracting.{Leads, placeBefore}
@@ -45,6 +45,13 @@ use Rattle.working_back.specs.laws.Trying.{settling}
 use Rattle.working_back.specs.laws.Places.{tried-lost, tried-kept}
 use Rattle.working_back.specs.Bare.{bareOn, Bare, struckBy}
 use Rattle.working_back.specs.laws.BareMoves.{p, place-is, complete, on, only-king, goals-are}
+
+even-draw : (k : ℕ) → k % 2 ≡ 0 → refutes (2 + k) 1 ≡ true
+unfolding refutes spoils winning
+even-draw k e = rw (lt-leb (2 + k) 1 (omega arith), back k, eq-eqb (k % 2) 0 e)
+  where
+    back : (k : ℕ) → 2 + k - 2 ≡ k
+    back k = omega arith
 
 module _ (m : Men) (q : Place) (taken to white x y : ℕ) (v : Bare m q taken to white x y) (s : ℕ)
     (l : Leads m (placeBefore q taken s to) s to q) where
@@ -96,6 +103,28 @@ module _ (m : Men) (q : Place) (taken to white x y : ℕ) (v : Bare m q taken to
         sym (depth-refuted bytes b (plain m o whole) k some
         (s, t, c, of-true (ap (refutes (2 + k)) (sym (byte-after t c nx ny first second u)) ∙ e)))
 
+    -- taking the only man he draws
+    pub bare-draws : 4 ≤ m .second → T (canMove b s x) → k % 2 ≡ 0 → eqb (requiredAt chess bytes b) (2 + k) ≡ false
+    bare-draws h c even =
+        sym (depth-refuted bytes b (plain m o whole) k some (s, x, c, of-true (ap (refutes (2 + k)) (sym draw) ∙ even-draw k even)))
+      where
+        off : 64 ≤ y
+        off = remains m o whole .alone h
+
+        next : Place
+        next = record { side = 0; white = white; black = x; first = 64; second = y }
+
+        is : next ≡ placeAfter o s x
+        is =
+            let w = complete-spread whole in
+            unfold placeAfter in
+            place-eq refl (sym (ap (λ (z : Bool). cond z x white) (ne-eqb white s (w .white-black))))
+            (sym (ap (λ (z : Bool). cond z x s) (eq-eqb s s refl))) (sym (ap (λ (z : Bool). cond z 64 (carried s x x)) (eq-eqb x x refl)))
+            (sym (rw (ne-eqb y x (λ e. w .first-second (sym e)), ne-eqb y s (λ e. w .black-second (sym e)))))
+
+        draw : 1 ≡ bytes (moved b s x)
+        draw = byte-moved m o whole first second u s x 1 next c is (λ r. byte-bare m next r first second u (omega arith) off)
+
     -- none, and the one that he went to leads to depth k - 1
     module _ (goals : ℕ) (g : (t : ℕ) → t < 64 → has goals t ≡ (canMove b s t && not (eqb t to)))
         (nx : has goals x ≡ false) (ny : has goals y ≡ false)
@@ -143,6 +172,9 @@ module _ (m : Men) (q : Place) (taken to white x y : ℕ) (v : Bare m q taken to
 
 -- ---- as code has them
 
+pub both-told : (a b : Bool) → (a && b) ≡ true → T a × T b
+both-told a b e = (and-left a b (of-true e), and-right a b (of-true e))
+
 -- his number before the move
 pub bare-at : (m : Men) (q : Place) (taken to white x y : ℕ) → Bare m q taken to white x y → (s : ℕ)
     → Leads m (placeBefore q taken s to) s to q → (n : ℕ)
@@ -184,6 +216,15 @@ module _ (m : Men) (q : Place) (taken to white x y : ℕ) (v : Bare m q taken to
 
   pub goal-can : (t : ℕ) → t < 64 → T (has goals t) → T (canMove (boardIn m (bareOn 1 white s x y)) s t)
   goal-can t i g = and-left (canMove (boardIn m (bareOn 1 white s x y)) s t) (not (eqb t to)) (subst T (goals-hold t i) g)
+
+  pub bare-drawn : 4 ≤ m .second → x < 64 → T (has goals x) → TriesPlace m first second k q (placeBefore q taken s to) u u 0
+  bare-drawn i j g =
+      tried-kept m (placeBefore q taken s to) q s to l first second k u a n z h one
+      (ap (λ (o : Place). eqb (requiredAt chess (bytesIn m first second u) (boardIn m o)) (2 + k)) same
+      ∙ bare-draws m q taken to white x y v s l first second u k (λ e. omega (arith, some, e)) i (goal-can x j g) even)
+
+  pub first-on : x < 64
+  first-on = complete-spread (complete m q taken to white x y v s l) .first
 
   module _ (takes : (has goals x || has goals y) ≡ false) where
     no-first : has goals x ≡ false
