@@ -16,6 +16,7 @@ mod sifting;
 mod verdicts;
 
 pub use after::byte_at;
+pub use framing::frame_for;
 pub use numbers::is_legal_number;
 pub use numbers::legal_at;
 pub use verdicts::requires_byte;

@@ -29,7 +29,10 @@ use Rattle.four_men.specs.Truth.{FillTrueOf, LentBytes}
 use Rattle.four_men.specs.Steps.{nothing}
 use Rattle.four_men.specs.laws.Filling.{filled-1, filled-7, filled-17, fill-with-is, filled-true-with}
 use Rattle.four_men.specs.laws.Alone.{fill-alone}
-use Rattle.filling.specs.Admitted.{over, Deepest}
+use Rattle.working_back.specs.Admitted.{over}
+use Rattle.working_back.specs.Trying.{Ready}
+use Rattle.working_back.specs.laws.Won.{ready-start}
+use Rattle.filling.specs.Deepest.{Deepest}
 use Rattle.filling.specs.Stepping.{deeperThan}
 use Rattle.filling.specs.FillPromise.{Fills, FillPromiseWith, fillBackWith, FillBackPromise}
 use Rattle.filling.specs.laws.Code.{start-any}
@@ -40,6 +43,11 @@ module _ (m : Men) (first second t u : List ℕ)
     (s : u ≡ mapFrom (startByte chess (numbered (materialFor m) nothing)) 0 t) where
   pub start-long : length u ≡ length t
   start-long = ap length s ∙ length-mapFrom (startByte chess (numbered (materialFor m) nothing)) 0 t
+
+  pub started-ready : Ready chess (over m first second) 0 u
+  started-ready =
+      subst⁻¹ (Ready chess (over m first second) 0) (s ∙ start-any (materialFor m) (lent first second) t)
+      (ready-start chess (over m first second) t)
 
   pub filled-so : (deepest k last : ℕ) (v : List ℕ) (f : Filled) (w : List ℕ) → Deepest m first second deepest
       → passesUntil chess (over m first second) (deeperThan deepest) (254 - k) k (ended last) v

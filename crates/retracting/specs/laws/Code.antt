@@ -50,6 +50,10 @@ told-legal m o made r e f a =
 
 -- ---- the set
 
+-- it is empty
+pub sifts-none : (squares i : ℕ) (b : Bool) → squares ≡ 0 → has 0 i ≡ (has squares i && b)
+sifts-none squares i b e = has-none i ∙ sym (ap (λ (s : ℕ). has s i && b) e ∙ ap (λ (x : Bool). x && b) (has-none i))
+
 module _ (m : Men) (q : Place) (taken kind owner to : ℕ) (g : LegalLeft m q taken) (seat : Seat m q kind owner to) where
   owned : owner < 2
   owned = go seat

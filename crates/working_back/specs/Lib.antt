@@ -1,0 +1,5 @@
+pub mod Admitted
+pub mod Trying
+pub mod Back
+pub mod Bare
+pub mod laws
