@@ -87,13 +87,9 @@ impl Filling<'_> {
         let frame = Frame::new(1 - q.side, q.white, q.black);
         let still = |square, who| if taken == who { to } else { square };
         let line = match (self.men.single(), q.first == to) {
-            (true, _) => frame.line(self.men, 64, 0, 1),
-            (_, true) => frame.line(self.men, 4096, 0, 64).map(|line| {
-                line.above(still(q.second, Taken::Second), 1)
-            }),
-            _ => frame.line(self.men, 4096, 0, 1).map(|line| {
-                line.above(still(q.first, Taken::First), 64)
-            }),
+            (true, _) => frame.line(self.men, 0, 1),
+            (_, true) => frame.line(self.men, still(q.second, Taken::Second), 64),
+            _ => frame.line(self.men, still(q.first, Taken::First), 1),
         };
         let Some(line) = line else {
             return self.try_each(q, k, to, taken, from);
@@ -117,12 +113,8 @@ impl Filling<'_> {
     fn lose_bare(&mut self, q: Place, k: u8, to: u8, taken: Taken, from: u64) -> u32 {
         let men = self.men;
         let still = |square, who| if taken == who { to } else { square };
-        let bare = Bare::new(
-            men,
-            q.white,
-            still(q.first, Taken::First),
-            still(q.second, Taken::Second),
-        );
+        let bare =
+            Bare::new(men, q.white, still(q.first, Taken::First), still(q.second, Taken::Second));
         let shut = bare.struck() | one(to);
         let tried = |from| {
             let n = bare.number(1, from);
@@ -130,6 +122,10 @@ impl Filling<'_> {
                 return 0;
             }
             let goals = targets(0, KING, from) & !shut;
+            // Taking the only man he draws.
+            if men.single() && has(goals, bare.first) {
+                return 0;
+            }
             if has(goals, bare.first) || has(goals, bare.second) {
                 return self.try_number(n, k, || before(q, from, to, taken));
             }

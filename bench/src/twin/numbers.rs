@@ -138,21 +138,22 @@ pub struct Line {
 }
 
 impl Line {
-    /// With another man on a square.
-    pub fn above(self, square: u8, scale: usize) -> Line {
-        Line { base: self.base + (square ^ self.flip) as usize * scale, ..self }
-    }
-
     pub fn number(self, square: u8) -> usize {
         self.base + (square ^ self.flip) as usize * self.scale
     }
 }
 
 impl Frame {
-    /// The line of a man, where nothing is exchanged: room for the men, and the man's scale.
-    pub fn line(self, men: Men, room: usize, base: usize, scale: usize) -> Option<Line> {
+    /// The line of a man, where nothing is exchanged: the other man's square, and the man's scale.
+    pub fn line(self, men: Men, still: u8, scale: usize) -> Option<Line> {
+        let other = (still ^ self.flip) as usize;
+        let base = match (men.single(), scale) {
+            (true, _) => self.kings * 64,
+            (_, 64) => self.kings * 4096 + other,
+            _ => self.kings * 4096 + other * 64,
+        };
         let plain = matches!(self.exchange, Exchange::No) && !men.alike();
-        plain.then(|| Line { base: self.kings * room + base, flip: self.flip, scale })
+        plain.then_some(Line { base, flip: self.flip, scale })
     }
 
     pub fn new(side: u8, white: u8, black: u8) -> Frame {
