@@ -9,7 +9,6 @@ use table_theory::Progress;
 ghost use mathlib.Core.Path.{_≡_};
 ghost use Prim.Native.Nat.{_<_, _≤_};
 ghost use Rattle.table_theory.specs.Tables.{ended as endedOf};
-ghost use Rattle.rules.specs.Chess.{chess};
 ghost use Rattle.endings.specs.Answers.{resultOf};
 ghost use Rattle.working_back.specs.Admitted.{over, Admitted};
 ghost use Rattle.working_back.specs.Back.{Backwards};

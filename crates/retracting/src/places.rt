@@ -18,8 +18,8 @@ ghost use Prim.Native.Nat.{ℕ, _-_, _<_};
 ghost use lib.Dec.{T, eqb};
 ghost use Rattle.board.specs.Reach.{reaches};
 ghost use Rattle.board.specs.Sets.{has};
-ghost use Rattle.rules.specs.Rules.{touching, legal};
-ghost use Rattle.position.specs.Posed.{boardIn, Complete};
+ghost use Rattle.rules.specs.Rules.{legal};
+ghost use Rattle.position.specs.Posed.{boardIn};
 ghost use Rattle.retracting.specs.Retracting.{Seat, LegalLeft, loser as loserOf, Retracts, placeBefore, CompleteApart, Steps, othersStrike, loneOf, leftPlace};
 
 const KING: u8 = 5;

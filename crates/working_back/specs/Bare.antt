@@ -2,9 +2,8 @@
 use mathlib.Core.Path.{_≡_}
 use mathlib.Core.Bool.{Bool, true, false, cond, _||_}
 use mathlib.Core.List.{List}
-use Prim.Native.Nat.{ℕ, _+_, _*_, _<_}
-use lib.Bits.{bitXor}
-use lib.Dec.{T, leb, eqb}
+use Prim.Native.Nat.{ℕ, _+_, _<_}
+use lib.Dec.{T, eqb}
 use lib.ListN.{getD}
 use Rattle.theory.specs.Judge.{refutes}
 use Rattle.board.specs.Reach.{reaches}
@@ -37,10 +36,6 @@ stoodOn white x y u = eqb u white || (eqb u x || eqb u y)
 abbrev pub struckBy : Men → ℕ → ℕ → ℕ → ℕ → Bool
 struckBy m white x y t =
     reaches (has 0) 5 white t || (reaches (stoodOn white x y) (m .first) x t || reaches (stoodOn white x y) (m .second) y t)
-
--- the men's digits of a number where nothing is exchanged
-abbrev pub digitsAt : Men → ℕ → ℕ → ℕ → ℕ
-digitsAt m flip x y = cond (leb 4 (m .second)) (bitXor x flip) (bitXor x flip * 64 + bitXor y flip)
 
 -- the byte with the black king on s and White to move
 abbrev pub byteOn : Men → List ℕ → ℕ → ℕ → ℕ → ℕ → ℕ

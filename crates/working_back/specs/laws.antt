@@ -10,7 +10,6 @@ pub mod Lines
 pub mod Into
 pub mod Own
 pub mod Saved
-pub mod BareNumber
 pub mod BareMoves
 pub mod BareLost
 pub mod Captures

@@ -1,6 +1,5 @@
 // A black king without men, k even: the squares that he came from. White's pieces stand still, so that what they attack is told once for all his moves, and
 // his own are read one after the other.
-use super::lines::turned;
 use super::trying::confirm;
 use board::has as has_square;
 use board::lowest;
@@ -10,11 +9,7 @@ use board::targets;
 use board::with;
 use board::without;
 use byte_rule::refutes;
-use index::alike;
-use index::exchange_of;
-use index::flip_of;
 use index::number_at;
-use pairs::pair_of;
 use position::Men;
 use position::Place;
 use retracting::again;
@@ -26,49 +21,26 @@ ghost use lib.ListN.{getD};
 ghost use Rattle.board.specs.Sets.{has};
 ghost use Rattle.numbering.specs.Number.{numberOf};
 ghost use Rattle.position.specs.Posed.{boardIn};
-ghost use Rattle.index.specs.Least.{flipOf};
 ghost use Rattle.index.specs.Seats.{Seated};
 ghost use Rattle.retracting.specs.Retracting.{LegalLeft, Leads, Retracts, placeBefore};
 ghost use Rattle.working_back.specs.Admitted.{Admitted};
 ghost use Rattle.working_back.specs.Back.{TriesPlace, TriesTo};
-ghost use Rattle.working_back.specs.Bare.{bareOn, Bare, struckBy, digitsAt, Saves};
+ghost use Rattle.working_back.specs.Bare.{bareOn, Bare, struckBy, Saves};
 
 const KING: u8 = 5;
 
-// The men's digits of a number where nothing is exchanged.
-fn digits_of(m: Men, flip: u8, x: u8, y: u8) -> u32
-    ensures { λ r. ⌜ r ≡ digitsAt m flip x y ⌝ }
+// The number of squares given one by one.
+fn bare_number(m: Men, side: u8, white: u8, black: u8, x: u8, y: u8) -> usize
+    ensures { λ r. ⌜ (Seated m (bareOn side white black x y) → r ≡ numberOf (boardIn m (bareOn side white black x y))) ⌝ }
 {
-    let a = turned(flip, x) as u32;
-    if 4 <= m.second {
-        return a;
-    }
-    let b = turned(flip, y);
-    a * 64 + b as u32
-}
-
-// The number of squares given one by one, by the reversals for the white king and the men's digits.
-fn bare_number(m: Men, side: u8, white: u8, black: u8, x: u8, y: u8, flip: u8, digits: u32) -> usize
-    ensures { λ r. ⌜ (Seated m (bareOn side white black x y) → flip ≡ flipOf white → digits ≡ digitsAt m flip x y → r ≡ numberOf (boardIn m (bareOn side white black x y))) ⌝ }
-{
-    let w = turned(flip, white);
-    let b = turned(flip, black);
-    let e = exchange_of(w, b);
-    if (e != 0) | alike(m) {
-        let q = Place {
-            side,
-            white,
-            black,
-            first: x,
-            second: y,
-        };
-        return number_at(m, q) as usize;
-    }
-    let kings = side as usize * 462 + pair_of(w, b) as usize;
-    if 4 <= m.second {
-        return kings * 64 + digits as usize;
-    }
-    kings * 4096 + digits as usize
+    let q = Place {
+        side,
+        white,
+        black,
+        first: x,
+        second: y,
+    };
+    number_at(m, q) as usize
 }
 
 // The byte at a number; 0 beyond the table's end.
@@ -82,25 +54,15 @@ fn byte_of(table: &[u8], n: usize) -> u8
 }
 
 // Whether one of these squares saves him.
-fn is_saved(
-    m: Men,
-    k: u8,
-    white: u8,
-    x: u8,
-    y: u8,
-    flip: u8,
-    digits: u32,
-    goals: u64,
-    table: &[u8],
-) -> bool
-    requires { ⌜ (flip ≡ flipOf white) × (digits ≡ digitsAt m flip x y) × ((t : ℕ) → t < 64 → T (has goals t) → Seated m (bareOn 0 white t x y)) ⌝ }
+fn is_saved(m: Men, k: u8, white: u8, x: u8, y: u8, goals: u64, table: &[u8]) -> bool
+    requires { ⌜ ((t : ℕ) → t < 64 → T (has goals t) → Seated m (bareOn 0 white t x y)) ⌝ }
     ensures { λ r. ⌜ Saves m k white x y (now (table .entry)) goals r ⌝ }
 {
     let depth = 2 + k as u16;
     let mut rest = goals;
     while rest != 0 {
         let t = lowest(rest);
-        let c = byte_of(table, bare_number(m, 0, white, t, x, y, flip, digits));
+        let c = byte_of(table, bare_number(m, 0, white, t, x, y));
         if refutes(depth, c) {
             return true;
         }
@@ -131,17 +93,15 @@ fn lose_one(
     white: u8,
     x: u8,
     y: u8,
-    flip: u8,
-    digits: u32,
     shut: u64,
     first: &[u8],
     second: &[u8],
     table: &mut [u8],
 ) -> u32
-    requires { ⌜ (0 < k) × (k < 254) × (k % 2 ≡ 0) × Admitted m (now first) (now second) (now table) × Bare m q taken to white x y × (flip ≡ flipOf white) × (digits ≡ digitsAt m flip x y) × ((t : ℕ) → t < 64 → has shut t ≡ (struckBy m white x y t || eqb t to)) × Leads m (placeBefore q taken s to) s to q ⌝ }
+    requires { ⌜ (0 < k) × (k < 254) × (k % 2 ≡ 0) × Admitted m (now first) (now second) (now table) × Bare m q taken to white x y × ((t : ℕ) → t < 64 → has shut t ≡ (struckBy m white x y t || eqb t to)) × Leads m (placeBefore q taken s to) s to q ⌝ }
     ensures { λ r. ⌜ TriesPlace m (now (first .entry)) (now (second .entry)) k q (placeBefore q taken s to) (now (table .entry)) (now (table .exit)) r ⌝ }
 {
-    let n = bare_number(m, 1, white, s, x, y, flip, digits);
+    let n = bare_number(m, 1, white, s, x, y);
     if table.len() <= n {
         return 0;
     }
@@ -156,7 +116,7 @@ fn lose_one(
     if takes | has_square(goals, y) {
         return confirm(m, k, q, taken, s, to, n, first, second, &mut *table);
     }
-    if is_saved(m, k, white, x, y, flip, digits, goals, &*table) {
+    if is_saved(m, k, white, x, y, goals, &*table) {
         return 0;
     }
     table[n] = 2 + k;
@@ -182,8 +142,6 @@ pub fn lose_bare(
     let x = again(taken == 1, to, q.first);
     let y = again(taken == 2, to, q.second);
     let shut = struck(m, white, x, y, to);
-    let flip = flip_of(white);
-    let digits = digits_of(m, flip, x, y);
     let mut settled: u32 = 0;
     let mut rest = squares;
     while rest != 0 {
@@ -198,8 +156,6 @@ pub fn lose_bare(
             white,
             x,
             y,
-            flip,
-            digits,
             shut,
             first,
             second,

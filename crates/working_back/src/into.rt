@@ -8,7 +8,7 @@ use position::Place;
 use position::other;
 use retracting::again;
 use retracting::sources;
-ghost use mathlib.Core.Bool.{Bool, cond};
+ghost use mathlib.Core.Bool.{cond};
 ghost use Prim.Native.Nat.{_-_, _<_};
 ghost use lib.Dec.{eqb};
 ghost use Rattle.retracting.specs.Retracting.{LegalLeft};

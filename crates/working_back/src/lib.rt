@@ -3,7 +3,6 @@ mod back;
 mod bare;
 mod captures;
 mod into;
-mod lines;
 mod trying;
 
 pub use back::pass_back;

@@ -1,8 +1,4 @@
 // The positions before the moves of one piece, tried: a number is settled if it holds 1 and depth k is required of its position.
-use super::lines::base_of_first;
-use super::lines::base_of_one;
-use super::lines::base_of_second;
-use super::lines::spot;
 use board::lowest;
 use board::without;
 use index::alike;
@@ -12,8 +8,12 @@ use position::Place;
 use position::other;
 use retracting::again;
 use retracting::place_before;
+use successors::base_of_first;
+use successors::base_of_one;
+use successors::base_of_second;
 use successors::frame_for;
 use successors::requires_depth;
+use successors::spot;
 ghost use mathlib.Core.Path.{_≡_};
 ghost use mathlib.Core.Logic.{_⊎_};
 ghost use Prim.Native.Nat.{ℕ, _+_, _*_, _^_, _<_};

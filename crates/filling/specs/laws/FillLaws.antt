@@ -7,7 +7,7 @@ use Prim.Native.Nat.{ℕ, _+_, _*_, _-_, _<_, _≤_}
 use native.Mathlib.Omega.{arith}
 use lib.ListN.{length, take, drop, getD, length-take, List·getD-eq-default}
 use lib.Seq.{getD-take, getD-drop}
-use Rattle.finite.specs.Truth.{of-true, true-of, le-or-lt, refuted}
+use Rattle.finite.specs.Truth.{of-true, le-or-lt, refuted}
 use Rattle.finite.specs.Members.{none-in}
 use Rattle.finite.specs.Mapped.{mapFrom, length-mapFrom}
 use Rattle.table_theory.specs.Tables.{Outcome, undecided, ended, startByte}
@@ -19,7 +19,6 @@ use Rattle.endings.specs.FilledTrue.{FillPromise}
 use Rattle.endings.specs.laws.FilledTrue.{fill-promised}
 use Rattle.numbering.specs.declared.Material.{Material}
 use Rattle.numbering.specs.Material.{known, given}
-use Rattle.numbering.specs.laws.MaterialLaws.{known-given}
 use Rattle.position.specs.declared.Men.{Men}
 use Rattle.position.specs.Posed.{materialFor}
 use Rattle.four_men.specs.Lending.{Lent, lent, partOf, borrowed}

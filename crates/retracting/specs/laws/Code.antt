@@ -5,7 +5,7 @@ use Prim.Native.Nat.{ℕ, _-_, _<_}
 use native.Mathlib.Omega.{arith}
 use lib.Dec.{T, eqb}
 use borrow.Author.Tests.{eq-eqb, ne-eqb, eqb-true, eqb-false}
-use Rattle.finite.specs.Truth.{and-left, and-right, and-both, true-of, of-true, false-of, fails, refuted}
+use Rattle.finite.specs.Truth.{and-left, and-right, and-both, of-true, false-of, fails, refuted}
 use Rattle.board.specs.Reach.{reaches}
 use Rattle.board.specs.Sets.{has, setOf}
 use Rattle.board.specs.laws.ReachLaws.{reaches-squares, reaches-same, king-reaches}

@@ -1,14 +1,14 @@
 -- A black king without men is lost in k, k even, where all his other targets lead to wins no deeper; a target that does not saves him.
-use mathlib.Core.Path.{_≡_, refl, sym, ap, ap₂, subst, subst⁻¹, _∙_}
+use mathlib.Core.Path.{_≡_, refl, sym, ap, subst, subst⁻¹, _∙_}
 use mathlib.Core.Bool.{Bool, true, false, cond, not, _&&_, _||_}
 use mathlib.Core.Logic.{_⊎_, inl, inr}
 use mathlib.Core.List.{List}
 use Prim.Native.Nat.{ℕ, _+_, _-_, _<_, _≤_, _%_}
 use native.Mathlib.Omega.{arith}
-use lib.Dec.{T, leb, eqb, eqb→eq}
+use lib.Dec.{T, eqb, eqb→eq}
 use lib.ListN.{getD, length, set}
-use borrow.Author.Tests.{eq-eqb, ne-eqb, eqb-false, le-leb, lt-leb}
-use Rattle.finite.specs.Truth.{decided, refuted, false-of, of-true, true-of, and-both, and-left, and-right}
+use borrow.Author.Tests.{eq-eqb, ne-eqb, le-leb, lt-leb}
+use Rattle.finite.specs.Truth.{decided, refuted, of-true, and-both, and-left, and-right}
 use Rattle.theory.specs.Required.{winning, requiredAt}
 use Rattle.theory.specs.Verdict.{spoils}
 use Rattle.theory.specs.laws.InPlace.{Settling}
@@ -30,10 +30,10 @@ use Rattle.index.specs.laws.CompleteLaws.{complete-seated}
 use Rattle.movegen.specs.declared.Reach.{Reach}
 use Rattle.movegen.specs.Places.{squareAfter, placeAfter}
 use Rattle.movegen.specs.laws.Places.{place-moved}
-use Rattle.successors.specs.Successors.{bytesIn, kingAt, Remains, noTargets}
+use Rattle.successors.specs.Successors.{bytesIn, kingAt, Remains}
 use Rattle.successors.specs.laws.PlaceLaws.{starts, remains, remains-after}
 use Rattle.successors.specs.laws.PlaceVerdicts.{plain}
-use Rattle.successors.specs.laws.ByteLaws.{AllThere, all-there, own-seated, byte-own, byte-bare, byte-moved}
+use Rattle.successors.specs.laws.ByteLaws.{all-there, own-seated, byte-own, byte-bare, byte-moved}
 use Rattle.successors.specs.laws.ChoiceLaws.{suitsTo, suitingSet, zero-fails}
 use Rattle.successors.specs.laws.VerdictLaws.{Sets, depth-refuted, depth-told}
 use Rattle.retracting.specs.Retracting.{Leads, placeBefore}
@@ -44,7 +44,7 @@ use Rattle.working_back.specs.Back.{Ripe, TriesPlace}
 use Rattle.working_back.specs.laws.Trying.{settling}
 use Rattle.working_back.specs.laws.Places.{tried-lost, tried-kept}
 use Rattle.working_back.specs.Bare.{bareOn, Bare, struckBy}
-use Rattle.working_back.specs.laws.BareMoves.{p, place-is, complete, on, only-king, goals-are}
+use Rattle.working_back.specs.laws.BareMoves.{place-is, complete, only-king, goals-are}
 
 even-draw : (k : ℕ) → k % 2 ≡ 0 → refutes (2 + k) 1 ≡ true
 unfolding refutes spoils winning

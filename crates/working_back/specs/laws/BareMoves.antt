@@ -2,17 +2,17 @@
 use mathlib.Core.Path.{_≡_, refl, sym, ap, ap₂, subst, subst⁻¹, _∙_}
 use mathlib.Core.Bool.{Bool, true, false, cond, not, _&&_, _||_}
 use mathlib.Core.Logic.{_⊎_, inl, inr}
-use Prim.Native.Nat.{ℕ, _-_, _<_, _≤_}
+use Prim.Native.Nat.{ℕ, _-_, _<_}
 use native.Mathlib.Omega.{arith}
 use lib.Bits.{bitOr}
 use lib.Dec.{T, eqb}
-use borrow.Author.Tests.{eq-eqb, ne-eqb, eqb-true, eqb-false}
-use Rattle.finite.specs.Truth.{refuted, fails, false-of, and-left}
+use borrow.Author.Tests.{eq-eqb, ne-eqb, eqb-true}
+use Rattle.finite.specs.Truth.{refuted}
 use Rattle.board.specs.Reach.{reaches}
 use Rattle.board.specs.Sets.{has, setOf}
 use Rattle.board.specs.laws.ReachLaws.{reaches-same, king-reaches}
 use Rattle.board.specs.laws.Blocking.{reaches-own}
-use Rattle.board.specs.laws.SetLaws.{has-none, set-has, has-or}
+use Rattle.board.specs.laws.SetLaws.{has-none, set-is, set-has, has-or}
 use Rattle.rules.specs.Rules.{Board, occupied, king, stands, goes, carried, canMove}
 use Rattle.rules.specs.laws.CanMove.{can-on}
 use Rattle.position.specs.declared.Men.{Men}
@@ -22,18 +22,27 @@ use Rattle.position.specs.Over.{attackedOver, goesOver, lifted}
 use Rattle.position.specs.Posed.{posed, boardIn, Complete}
 use Rattle.position.specs.Spread.{Spread}
 use Rattle.position.specs.laws.PosedLaws.{complete-spread}
-use Rattle.movegen.specs.Places.{menStrike, squareAfter, placeAfter}
+use Rattle.movegen.specs.Places.{squareAfter, placeAfter}
+use Rattle.movegen.specs.Reach.{Alone}
 use Rattle.movegen.specs.laws.Places.{occupied-men, stands-men}
 use Rattle.movegen.specs.laws.Alone.{king-alone, first-man, second-man}
-use Rattle.movegen.specs.laws.Reach.{man-none}
 use Rattle.movegen.specs.laws.Lifted.{king-moves}
 use Rattle.movegen.specs.laws.Struck.{attacked-split}
 use Rattle.successors.specs.Successors.{kingAt}
 use Rattle.successors.specs.laws.PlaceLaws.{starts}
-use Rattle.retracting.specs.Retracting.{Leads, LegalLeft, putAgain, placeBefore}
+use Rattle.retracting.specs.Retracting.{Leads, putAgain, placeBefore}
 use Rattle.retracting.specs.laws.Causes.{place-eq}
 use Rattle.retracting.specs.laws.Sources.{was-free}
 use Rattle.working_back.specs.Bare.{bareOn, Bare, stoodOn, struckBy}
+
+-- a man of the other side, or one who is not there
+man-none : (m : Men) (q : Place) (kind owner square : ℕ) → Alone m q kind owner square
+    → ((t : ℕ) → (eqb owner (q .side) && reaches (occupied (boardIn m q)) kind square t) ≡ false)
+    → 0 ≡ setOf (canMove (boardIn m q) square)
+unfolding canMove goes goesOver boardOf posed
+man-none m q kind owner square a none =
+    set-is _ 0 (omega arith)
+    (λ t l. has-none t ∙ sym (rw (a .goes (occupied (boardIn m q)) t ∙ none t)))
 
 -- a step that is not shut: the king's target but for one square
 shut-or-not : (a o x e : Bool) → (a ≡ true → o ≡ false) → (a && not (x || e)) ≡ ((a && not o && not x) && not e)

@@ -21,7 +21,7 @@ use Rattle.successors.specs.declared.Frame.{Frame}
 use Rattle.successors.specs.Framing.{frameFor, chosenDigits, numberOn}
 use Rattle.successors.specs.laws.FramingLaws.{number-framed, number-single, number-double, chosen-plain}
 use Rattle.retracting.specs.Retracting.{Leads, LegalLeft, Missing, putAgain, placeBefore}
-use Rattle.retracting.specs.laws.Sources.{moves-on, was-free}
+use Rattle.retracting.specs.laws.Sources.{was-free}
 
 plain-digits : (x y : ℕ) → x * 64 + y ≡ menDigits false x y
 plain-digits x y = go (ltb y x)

@@ -1,7 +1,6 @@
 -- `retracting::others_strike` meets its contract.
 use Rattle.board.specs.Sets.{has}
 use Rattle.movegen.specs.laws.Places.{or-first, or-next}
-use borrow.Author.Needs.{needs}
 use Rattle.retracting.specs.laws.Code.{still-strikes}
 use Rattle.retracting.proofs.places.others_strike.Statement.{statement}
 use Rattle.retracting.proofs.places.others_strike.Tie as tie

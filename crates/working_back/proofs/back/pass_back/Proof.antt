@@ -1,5 +1,4 @@
 -- `working_back::pass_back` meets its contract.
-use mathlib.Core.Path.{_≡_}
 use native.Mathlib.Omega.{arith}
 use borrow.Author.Needs.{needs}
 use Rattle.working_back.specs.laws.Admitted.{most, admitted-kept}

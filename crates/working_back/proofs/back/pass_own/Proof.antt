@@ -1,6 +1,6 @@
 -- `working_back::pass_own` meets its contract. The loop's invariant: all have been tried that lead to a number below j with the depth before, and j is the
 -- next such number or the table's end.
-use mathlib.Core.Path.{_≡_, _∙_}
+use mathlib.Core.Path.{_≡_}
 use Prim.Native.Nat.{_+_, _≤_, _<_, _-_}
 use native.Mathlib.Omega.{arith}
 use lib.ListN.{length, getD}
@@ -9,7 +9,7 @@ use Rattle.rules.specs.Chess.{chess}
 use Rattle.working_back.specs.Admitted.{over}
 use Rattle.working_back.specs.Trying.{Alive}
 use Rattle.working_back.specs.Back.{SweepsOwn}
-use Rattle.working_back.specs.laws.Admitted.{most, in-size, small-number, admitted-kept}
+use Rattle.working_back.specs.laws.Admitted.{most, in-size, admitted-kept}
 use Rattle.working_back.specs.laws.Few.{alive-kept}
 use Rattle.working_back.specs.laws.Own.{own-start, own-turn, own-skip, own-end, place-legal, standing-live, alive-number, at-legal, within, not-last}
 use Rattle.working_back.proofs.back.pass_own.Statement.{statement}

@@ -1,5 +1,5 @@
 -- `working_back::is_saved` meets its contract. The loop's invariant: the squares that are no longer in the rest do not save him.
-use mathlib.Core.Path.{_≡_, refl, sym, ap, subst⁻¹, _∙_}
+use mathlib.Core.Path.{refl, sym, ap, subst⁻¹, _∙_}
 use mathlib.Core.Logic.{inl}
 use Prim.Native.Nat.{ℕ, _+_, _^_, _<_}
 use lib.Dec.{T, eqb}
@@ -16,12 +16,12 @@ use Rattle.working_back.proofs.bare.is_saved.Statement.{statement}
 use Rattle.working_back.proofs.bare.is_saved.Tie as tie
 
 abbrev Inv-loop : tie.InvT-loop
-Inv-loop m k white x y flip digits goals table depth rest₀ rest = (rest < 2 ^ 64)
+Inv-loop m k white x y goals table depth rest₀ rest = (rest < 2 ^ 64)
     × ((s : ℕ) → s < 64 → T (has rest s) → T (has goals s))
     × Unpassed (λ (s : ℕ). refutes (2 + k) (byteOn m table white x y s)) goals rest
 
 abbrev μ-loop : tie.MeasureT-loop
-μ-loop m k white x y flip digits goals table depth rest₀ rest = length (members rest)
+μ-loop m k white x y goals table depth rest₀ rest = length (members rest)
 
 add-depth : tie.Need-add-depth Inv-loop μ-loop
 add-depth c = search needs
@@ -49,7 +49,7 @@ returns c =
     let t = c .before .before .before .before .lowest .result in
     let z = lowest-in (l .rest) t (l .inv .0) (c .before .before .before .before .before .loop-test .taken) (c .before .before .before .before .lowest .ensures) in
     let g = l .inv .1 t (z .0) (z .1) in
-    let e = c .before .before .byte-of .ensures ∙ ap (λ (n : ℕ). getD (x .table .now) n 0) (c .before .before .before .bare-number .ensures (p .2 t (z .0) g) (p .0) (p .1)) in
+    let e = c .before .before .byte-of .ensures ∙ ap (λ (n : ℕ). getD (x .table .now) n 0) (c .before .before .before .bare-number .ensures (p t (z .0) g)) in
     record {
       one = λ y. (t, z .0, g, sym (c .before .refutes .ensures ∙ ap (refutes (2 + x .k)) e) ∙ c .if1 .taken);
       none = λ y. absurd (true-not-false refl y);
@@ -71,7 +71,7 @@ loop-again c =
     let t = c .before .before .before .before .before .lowest .result in
     let w = lowest-of (l .rest) t (c .without .result) (l .inv .0) (c .before .before .before .before .before .before .loop-test .taken) (c .before .before .before .before .before .lowest .ensures) (c .without .ensures) in
     let g = l .inv .1 t (w .square) (w .here) in
-    let e = c .before .before .before .byte-of .ensures ∙ ap (λ (n : ℕ). getD (x .table .now) n 0) (c .before .before .before .before .bare-number .ensures (p .2 t (w .square) g) (p .0) (p .1)) in (
+    let e = c .before .before .before .byte-of .ensures ∙ ap (λ (n : ℕ). getD (x .table .now) n 0) (c .before .before .before .before .bare-number .ensures (p t (w .square) g)) in (
       c .without .ok,
       (λ j h u. l .inv .1 j h (subst⁻¹ T (w .others j h) (or-right (eqb j t) (has (c .without .result) j) u))),
       unpassed-turn (λ (s : ℕ). refutes (2 + x .k) (byteOn (x .m) (x .table .now) (x .white) (x .x) (x .y) s)) (x .goals) (l .rest)

@@ -1,24 +1,24 @@
 -- `working_back::lose_bare` meets its contract. The loop's invariant: the squares that are no longer in the rest have been tried.
-use mathlib.Core.Path.{_≡_, refl, subst⁻¹}
+use mathlib.Core.Path.{refl, subst⁻¹}
 use Prim.Native.Nat.{ℕ, _^_, _<_}
 use native.Mathlib.Omega.{arith}
 use lib.Dec.{T, eqb}
 use lib.ListN.{length}
 use Rattle.finite.specs.Truth.{or-right}
 use Rattle.board.specs.Sets.{has, members}
-use Rattle.board.specs.laws.LowestLaws.{Lowest, lowest-of}
+use Rattle.board.specs.laws.LowestLaws.{lowest-of}
 use Rattle.working_back.specs.laws.Admitted.{admitted-kept}
 use Rattle.working_back.specs.laws.Sources.{Taken, taken-start, taken-turn, taken-end, lowest-in}
 use Rattle.working_back.proofs.bare.lose_bare.Statement.{statement}
 use Rattle.working_back.proofs.bare.lose_bare.Tie as tie
 
 abbrev Inv-loop : tie.InvT-loop
-Inv-loop m k q taken to squares first second table₀ white x y shut flip digits settled₀ rest₀ table settled rest = (rest < 2 ^ 64)
+Inv-loop m k q taken to squares first second table₀ white x y shut settled₀ rest₀ table settled rest = (rest < 2 ^ 64)
     × ((s : ℕ) → s < 64 → T (has rest s) → T (has squares s))
     × Taken m first second k q taken to squares table₀ table rest settled
 
 abbrev μ-loop : tie.MeasureT-loop
-μ-loop m k q taken to squares first second table₀ white x y shut flip digits settled₀ rest₀ table settled rest = length (members rest)
+μ-loop m k q taken to squares first second table₀ white x y shut settled₀ rest₀ table settled rest = length (members rest)
 
 again-requires : tie.Need-again-requires Inv-loop μ-loop
 again-requires c κs = tt
@@ -29,18 +29,12 @@ again-requires-2 c κs = tt
 struck-requires : tie.Need-struck-requires Inv-loop μ-loop
 struck-requires c κs = tt
 
-flip-of-requires : tie.Need-flip-of-requires Inv-loop μ-loop
-flip-of-requires c κs = tt
-
-digits-of-requires : tie.Need-digits-of-requires Inv-loop μ-loop
-digits-of-requires c κs = tt
-
 loop-holds : tie.Need-loop-holds Inv-loop μ-loop
 loop-holds c =
-    let x = c .before .before .before .before .before .before .before .before .args in (
-      c .before .before .before .before .before .before .before .before .fits .squares .fits,
+    let x = c .before .before .before .before .before .before .args in (
+      c .before .before .before .before .before .before .fits .squares .fits,
       (λ i h t. t),
-      taken-start (x .m) (x .first .now) (x .second .now) (x .k) (x .q) (x .taken) (x .to) _ (c .before .before .before .before .before .before .before .before .pre .3) _,
+      taken-start (x .m) (x .first .now) (x .second .now) (x .k) (x .q) (x .taken) (x .to) _ (c .before .before .before .before .before .before .pre .3) _,
     )
 
 lowest-requires : tie.Need-lowest-requires Inv-loop μ-loop
@@ -48,8 +42,8 @@ lowest-requires c κs = tt
 
 lose-one-requires : tie.Need-lose-one-requires Inv-loop μ-loop
 lose-one-requires c κs =
-    let p = c .before .before .before .before .before .before .before .before .before .before .before .before .pre in
-    let x = c .before .before .before .before .before .before .before .before .before .before .before .before .args in
+    let p = c .before .before .before .before .before .before .before .before .before .before .pre in
+    let x = c .before .before .before .before .before .before .before .before .before .before .args in
     let l = c .before .before .before .loop in
     let z = lowest-in (l .rest) (c .before .lowest .result) (l .inv .0) (c .before .before .loop-test .taken) (c .before .lowest .ensures) in (
       p .0,
@@ -62,12 +56,10 @@ lose-one-requires c κs =
         colour = p .7;
         king = p .8;
         at-white = refl;
-        at-first = c .before .before .before .before .before .before .before .before .again .ensures;
-        at-second = c .before .before .before .before .before .before .before .again2 .ensures;
+        at-first = c .before .before .before .before .before .before .again .ensures;
+        at-second = c .before .before .before .before .before .again2 .ensures;
       },
-      c .before .before .before .before .before .flip-of .ensures,
-      c .before .before .before .before .digits-of .ensures,
-      c .before .before .before .before .before .before .struck .ensures,
+      c .before .before .before .before .struck .ensures,
       p .4 .sound (c .before .lowest .result) (z .0) (l .inv .1 (c .before .lowest .result) (z .0) (z .1)),
     )
 
@@ -84,13 +76,13 @@ loop-less c =
 
 loop-again : tie.Need-loop-again Inv-loop μ-loop
 loop-again c =
-    let x = c .before .before .before .before .before .before .before .before .before .before .before .before .before .before .before .before .args in
+    let x = c .before .before .before .before .before .before .before .before .before .before .before .before .before .before .args in
     let l = c .before .before .before .before .before .before .before .loop in
     let w = lowest-of (l .rest) (c .before .before .before .before .before .lowest .result) (c .without .result) (l .inv .0) (c .before .before .before .before .before .before .loop-test .taken) (c .before .before .before .before .before .lowest .ensures)
     (c .without .ensures) in (
       c .without .ok,
       (λ j h u. l .inv .1 j h (subst⁻¹ T (w .others j h) (or-right (eqb j (c .before .before .before .before .before .lowest .result)) (has (c .without .result) j) u))),
-      taken-turn (x .m) (x .first .now) (x .second .now) (x .k) (x .q) (x .taken) (x .to) _ (c .before .before .before .before .before .before .before .before .before .before .before .before .before .before .before .before .pre .3) _ _ _ (l .rest)
+      taken-turn (x .m) (x .first .now) (x .second .now) (x .k) (x .q) (x .taken) (x .to) _ (c .before .before .before .before .before .before .before .before .before .before .before .before .before .before .pre .3) _ _ _ (l .rest)
           (c .without .result) (c .before .before .before .before .before .lowest .result) (l .settled) _ (l .inv .2) w (c .before .before .before .lose-one .ensures),
     )
 
@@ -99,13 +91,13 @@ same-length c = c .before .loop .inv .2 .0 .long
 
 returns : tie.Need-returns Inv-loop μ-loop
 returns c =
-    let x = c .before .before .before .before .before .before .before .before .before .before .args in
+    let x = c .before .before .before .before .before .before .before .before .args in
     let l = c .before .loop in
-    taken-end (x .m) (x .first .now) (x .second .now) (x .k) (x .q) (x .taken) (x .to) _ (c .before .before .before .before .before .before .before .before .before .before .pre .3) _ _ (l .rest) (l .settled)
-    (c .loop-test .left) (l .inv .2) (c .before .before .before .before .before .before .before .before .before .before .pre .4)
+    taken-end (x .m) (x .first .now) (x .second .now) (x .k) (x .q) (x .taken) (x .to) _ (c .before .before .before .before .before .before .before .before .pre .3) _ _ (l .rest) (l .settled)
+    (c .loop-test .left) (l .inv .2) (c .before .before .before .before .before .before .before .before .pre .4)
 
 pub lose-bare-spec : {M : Type 1} → statement M
 lose-bare-spec =
     tie.close
-    (tie.spec Inv-loop μ-loop again-requires again-requires-2 struck-requires flip-of-requires digits-of-requires loop-holds
+    (tie.spec Inv-loop μ-loop again-requires again-requires-2 struck-requires loop-holds
     lowest-requires lose-one-requires add-settled without-requires loop-less loop-again same-length returns)

@@ -17,9 +17,9 @@ returns c =
     let p = c .before .before .before .before .before .pre in
     let x = c .before .before .before .before .before .args in
     let o = placeBefore (x .q) (x .taken) (x .s) (x .to) in
-    let z = bare-at (x .m) (x .q) (x .taken) (x .to) (x .white) (x .x) (x .y) (p .4) (x .s) (p .8) (c .before .bare-number .result)
-    (λ w. c .before .bare-number .ensures w (p .5) (p .6)) in
-    tried-out (x .m) o (x .q) (x .s) (x .to) (p .8) (x .first .now) (x .second .now) (x .k) _ (p .3) (c .before .bare-number .result) z (c .if1 .taken)
+    let z = bare-at (x .m) (x .q) (x .taken) (x .to) (x .white) (x .x) (x .y) (p .4) (x .s) (p .6) (c .before .bare-number .result)
+    (c .before .bare-number .ensures) in
+    tried-out (x .m) o (x .q) (x .s) (x .to) (p .6) (x .first .now) (x .second .now) (x .k) _ (p .3) (c .before .bare-number .result) z (c .if1 .taken)
 
 slice-read-if2 : tie.Need-slice-read-if2
 slice-read-if2 c = search needs
@@ -29,9 +29,9 @@ returns-2 c =
     let p = c .before .before .before .before .before .before .before .pre in
     let x = c .before .before .before .before .before .before .before .args in
     let o = placeBefore (x .q) (x .taken) (x .s) (x .to) in
-    let z = bare-at (x .m) (x .q) (x .taken) (x .to) (x .white) (x .x) (x .y) (p .4) (x .s) (p .8) (c .before .before .before .bare-number .result)
-    (λ w. c .before .before .before .bare-number .ensures w (p .5) (p .6)) in
-    tried-other (x .m) o (x .q) (x .s) (x .to) (p .8) (x .first .now) (x .second .now) (x .k) _ (p .3) (c .before .before .before .bare-number .result) z (c .if2 .taken)
+    let z = bare-at (x .m) (x .q) (x .taken) (x .to) (x .white) (x .x) (x .y) (p .4) (x .s) (p .6) (c .before .before .before .bare-number .result)
+    (c .before .before .before .bare-number .ensures) in
+    tried-other (x .m) o (x .q) (x .s) (x .to) (p .6) (x .first .now) (x .second .now) (x .k) _ (p .3) (c .before .before .before .bare-number .result) z (c .if2 .taken)
 
 targets-requires : tie.Need-targets-requires
 targets-requires c κs = tt
@@ -47,16 +47,16 @@ returns-3 c =
     let p = c .before .before .before .before .before .before .before .before .before .before .before .before .pre in
     let x = c .before .before .before .before .before .before .before .before .before .before .before .before .args in
     let o = placeBefore (x .q) (x .taken) (x .s) (x .to) in
-    let z = bare-at (x .m) (x .q) (x .taken) (x .to) (x .white) (x .x) (x .y) (p .4) (x .s) (p .8) (c .before .before .before .before .before .before .before .before .bare-number .result)
-    (λ w. c .before .before .before .before .before .before .before .before .bare-number .ensures w (p .5) (p .6)) in
+    let z = bare-at (x .m) (x .q) (x .taken) (x .to) (x .white) (x .x) (x .y) (p .4) (x .s) (p .6) (c .before .before .before .before .before .before .before .before .bare-number .result)
+    (c .before .before .before .before .before .before .before .before .bare-number .ensures) in
     let d = both-told (leb 4 (x .m .second)) (c .before .before .has .result) (c .if3 .taken) in
-    let e = bare-drawn (x .m) (x .q) (x .taken) (x .to) (x .white) (x .x) (x .y) (p .4) (x .s) (p .8) (x .first .now) (x .second .now) (x .k) _ (p .3)
+    let e = bare-drawn (x .m) (x .q) (x .taken) (x .to) (x .white) (x .x) (x .y) (p .4) (x .s) (p .6) (x .first .now) (x .second .now) (x .k) _ (p .3)
     (p .0) (p .2) (c .before .before .before .before .before .before .before .before .bare-number .result) z (c .before .before .before .before .before .before .before .if1 .left) (c .before .before .before .before .before .if2 .left) (c .before .before .before .before .targets .result) (x .shut) (c .before .before .before .minus .result)
-    (c .before .before .before .before .targets .ensures) (p .7) (c .before .before .before .minus .ensures) in
+    (c .before .before .before .before .targets .ensures) (p .5) (c .before .before .before .minus .ensures) in
     e (leb→le 4 (x .m .second) (d .0))
-    (first-on (x .m) (x .q) (x .taken) (x .to) (x .white) (x .x) (x .y) (p .4) (x .s) (p .8) (x .first .now) (x .second .now) (x .k) _ (p .3)
+    (first-on (x .m) (x .q) (x .taken) (x .to) (x .white) (x .x) (x .y) (p .4) (x .s) (p .6) (x .first .now) (x .second .now) (x .k) _ (p .3)
     (p .0) (p .2) (c .before .before .before .before .before .before .before .before .bare-number .result) z (c .before .before .before .before .before .before .before .if1 .left) (c .before .before .before .before .before .if2 .left) (c .before .before .before .before .targets .result) (x .shut) (c .before .before .before .minus .result)
-    (c .before .before .before .before .targets .ensures) (p .7) (c .before .before .before .minus .ensures))
+    (c .before .before .before .before .targets .ensures) (p .5) (c .before .before .before .minus .ensures))
     (subst T (c .before .before .has .ensures) (d .1))
 
 has-requires-2 : tie.Need-has-requires-2
@@ -67,9 +67,9 @@ confirm-requires c κs =
     let p = c .before .before .before .before .before .before .before .before .before .before .before .before .before .before .before .pre in
     let x = c .before .before .before .before .before .before .before .before .before .before .before .before .before .before .before .args in
     let o = placeBefore (x .q) (x .taken) (x .s) (x .to) in
-    let z = bare-at (x .m) (x .q) (x .taken) (x .to) (x .white) (x .x) (x .y) (p .4) (x .s) (p .8) (c .before .before .before .before .before .before .before .before .before .before .before .bare-number .result)
-    (λ w. c .before .before .before .before .before .before .before .before .before .before .before .bare-number .ensures w (p .5) (p .6)) in
-    (p .1, p .3, p .8, z, c .before .before .before .before .before .before .before .before .before .before .if1 .left, c .before .before .before .before .before .before .before .before .if2 .left)
+    let z = bare-at (x .m) (x .q) (x .taken) (x .to) (x .white) (x .x) (x .y) (p .4) (x .s) (p .6) (c .before .before .before .before .before .before .before .before .before .before .before .bare-number .result)
+    (c .before .before .before .before .before .before .before .before .before .before .before .bare-number .ensures) in
+    (p .1, p .3, p .6, z, c .before .before .before .before .before .before .before .before .before .before .if1 .left, c .before .before .before .before .before .before .before .before .if2 .left)
 
 same-length : tie.Need-same-length
 same-length c = search needs
@@ -82,14 +82,11 @@ is-saved-requires c κs =
     let p = c .before .before .before .before .before .before .before .before .before .before .before .before .before .before .before .pre in
     let x = c .before .before .before .before .before .before .before .before .before .before .before .before .before .before .before .args in
     let o = placeBefore (x .q) (x .taken) (x .s) (x .to) in
-    let z = bare-at (x .m) (x .q) (x .taken) (x .to) (x .white) (x .x) (x .y) (p .4) (x .s) (p .8) (c .before .before .before .before .before .before .before .before .before .before .before .bare-number .result)
-    (λ w. c .before .before .before .before .before .before .before .before .before .before .before .bare-number .ensures w (p .5) (p .6)) in (
-      p .5,
-      p .6,
-      goal-seated (x .m) (x .q) (x .taken) (x .to) (x .white) (x .x) (x .y) (p .4) (x .s) (p .8) (x .first .now) (x .second .now) (x .k) _ (p .3)
-          (p .0) (p .2) (c .before .before .before .before .before .before .before .before .before .before .before .bare-number .result) z (c .before .before .before .before .before .before .before .before .before .before .if1 .left) (c .before .before .before .before .before .before .before .before .if2 .left) (c .before .before .before .before .before .before .before .targets .result) (x .shut) (c .before .before .before .before .before .before .minus .result)
-          (c .before .before .before .before .before .before .before .targets .ensures) (p .7) (c .before .before .before .before .before .before .minus .ensures) (sym (ap₂ _||_ (c .before .before .before .before .before .has .ensures) (c .before .before .has2 .ensures)) ∙ c .before .if4 .left),
-    )
+    let z = bare-at (x .m) (x .q) (x .taken) (x .to) (x .white) (x .x) (x .y) (p .4) (x .s) (p .6) (c .before .before .before .before .before .before .before .before .before .before .before .bare-number .result)
+    (c .before .before .before .before .before .before .before .before .before .before .before .bare-number .ensures) in
+    goal-seated (x .m) (x .q) (x .taken) (x .to) (x .white) (x .x) (x .y) (p .4) (x .s) (p .6) (x .first .now) (x .second .now) (x .k) _ (p .3)
+    (p .0) (p .2) (c .before .before .before .before .before .before .before .before .before .before .before .bare-number .result) z (c .before .before .before .before .before .before .before .before .before .before .if1 .left) (c .before .before .before .before .before .before .before .before .if2 .left) (c .before .before .before .before .before .before .before .targets .result) (x .shut) (c .before .before .before .before .before .before .minus .result)
+    (c .before .before .before .before .before .before .before .targets .ensures) (p .5) (c .before .before .before .before .before .before .minus .ensures) (sym (ap₂ _||_ (c .before .before .before .before .before .has .ensures) (c .before .before .has2 .ensures)) ∙ c .before .if4 .left)
 
 same-length-2 : tie.Need-same-length-2
 same-length-2 c = search needs
@@ -99,11 +96,11 @@ returns-5 c =
     let p = c .before .before .before .before .before .before .before .before .before .before .before .before .before .before .before .before .before .pre in
     let x = c .before .before .before .before .before .before .before .before .before .before .before .before .before .before .before .before .before .args in
     let o = placeBefore (x .q) (x .taken) (x .s) (x .to) in
-    let z = bare-at (x .m) (x .q) (x .taken) (x .to) (x .white) (x .x) (x .y) (p .4) (x .s) (p .8) (c .before .before .before .before .before .before .before .before .before .before .before .before .before .bare-number .result)
-    (λ w. c .before .before .before .before .before .before .before .before .before .before .before .before .before .bare-number .ensures w (p .5) (p .6)) in
-    bare-saved (x .m) (x .q) (x .taken) (x .to) (x .white) (x .x) (x .y) (p .4) (x .s) (p .8) (x .first .now) (x .second .now) (x .k) _ (p .3)
+    let z = bare-at (x .m) (x .q) (x .taken) (x .to) (x .white) (x .x) (x .y) (p .4) (x .s) (p .6) (c .before .before .before .before .before .before .before .before .before .before .before .before .before .bare-number .result)
+    (c .before .before .before .before .before .before .before .before .before .before .before .before .before .bare-number .ensures) in
+    bare-saved (x .m) (x .q) (x .taken) (x .to) (x .white) (x .x) (x .y) (p .4) (x .s) (p .6) (x .first .now) (x .second .now) (x .k) _ (p .3)
     (p .0) (p .2) (c .before .before .before .before .before .before .before .before .before .before .before .before .before .bare-number .result) z (c .before .before .before .before .before .before .before .before .before .before .before .before .if1 .left) (c .before .before .before .before .before .before .before .before .before .before .if2 .left) (c .before .before .before .before .before .before .before .before .before .targets .result) (x .shut) (c .before .before .before .before .before .before .before .before .minus .result)
-    (c .before .before .before .before .before .before .before .before .before .targets .ensures) (p .7) (c .before .before .before .before .before .before .before .before .minus .ensures) (sym (ap₂ _||_ (c .before .before .before .before .before .before .before .has .ensures) (c .before .before .before .before .has2 .ensures)) ∙ c .before .before .before .if4 .left) (c .before .is-saved .ensures .one (c .if5 .taken))
+    (c .before .before .before .before .before .before .before .before .before .targets .ensures) (p .5) (c .before .before .before .before .before .before .before .before .minus .ensures) (sym (ap₂ _||_ (c .before .before .before .before .before .before .before .has .ensures) (c .before .before .before .before .has2 .ensures)) ∙ c .before .before .before .if4 .left) (c .before .is-saved .ensures .one (c .if5 .taken))
 
 add-table : tie.Need-add-table
 add-table c = search needs
@@ -119,11 +116,11 @@ returns-6 c =
     let p = c .before .before .before .before .before .before .before .before .before .before .before .before .before .before .before .before .before .pre in
     let x = c .before .before .before .before .before .before .before .before .before .before .before .before .before .before .before .before .before .args in
     let o = placeBefore (x .q) (x .taken) (x .s) (x .to) in
-    let z = bare-at (x .m) (x .q) (x .taken) (x .to) (x .white) (x .x) (x .y) (p .4) (x .s) (p .8) (c .before .before .before .before .before .before .before .before .before .before .before .before .before .bare-number .result)
-    (λ w. c .before .before .before .before .before .before .before .before .before .before .before .before .before .bare-number .ensures w (p .5) (p .6)) in
-    bare-settled (x .m) (x .q) (x .taken) (x .to) (x .white) (x .x) (x .y) (p .4) (x .s) (p .8) (x .first .now) (x .second .now) (x .k) _ (p .3)
+    let z = bare-at (x .m) (x .q) (x .taken) (x .to) (x .white) (x .x) (x .y) (p .4) (x .s) (p .6) (c .before .before .before .before .before .before .before .before .before .before .before .before .before .bare-number .result)
+    (c .before .before .before .before .before .before .before .before .before .before .before .before .before .bare-number .ensures) in
+    bare-settled (x .m) (x .q) (x .taken) (x .to) (x .white) (x .x) (x .y) (p .4) (x .s) (p .6) (x .first .now) (x .second .now) (x .k) _ (p .3)
     (p .0) (p .2) (c .before .before .before .before .before .before .before .before .before .before .before .before .before .bare-number .result) z (c .before .before .before .before .before .before .before .before .before .before .before .before .if1 .left) (c .before .before .before .before .before .before .before .before .before .before .if2 .left) (c .before .before .before .before .before .before .before .before .before .targets .result) (x .shut) (c .before .before .before .before .before .before .before .before .minus .result)
-    (c .before .before .before .before .before .before .before .before .before .targets .ensures) (p .7) (c .before .before .before .before .before .before .before .before .minus .ensures) (sym (ap₂ _||_ (c .before .before .before .before .before .before .before .has .ensures) (c .before .before .before .before .has2 .ensures)) ∙ c .before .before .before .if4 .left) (c .before .is-saved .ensures .none (c .if5 .left))
+    (c .before .before .before .before .before .before .before .before .before .targets .ensures) (p .5) (c .before .before .before .before .before .before .before .before .minus .ensures) (sym (ap₂ _||_ (c .before .before .before .before .before .before .before .has .ensures) (c .before .before .before .before .has2 .ensures)) ∙ c .before .before .before .if4 .left) (c .before .is-saved .ensures .none (c .if5 .left))
 
 pub lose-one-spec : {M : Type 1} → statement M
 lose-one-spec =

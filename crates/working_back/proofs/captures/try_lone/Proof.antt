@@ -1,5 +1,5 @@
 -- `working_back::try_lone` meets its contract.
-use mathlib.Core.Path.{_≡_, subst⁻¹}
+use mathlib.Core.Path.{subst⁻¹}
 use native.Mathlib.Omega.{arith}
 use borrow.Author.Needs.{needs}
 use Rattle.position.specs.declared.Place.{Place}

@@ -1,12 +1,12 @@
 -- `working_back::try_each` meets its contract. The loop's invariant: the squares that are no longer in the rest have been tried.
-use mathlib.Core.Path.{_≡_, subst⁻¹}
+use mathlib.Core.Path.{subst⁻¹}
 use Prim.Native.Nat.{ℕ, _^_, _<_}
 use native.Mathlib.Omega.{arith}
 use lib.Dec.{T, eqb}
 use lib.ListN.{length}
 use Rattle.finite.specs.Truth.{or-right}
 use Rattle.board.specs.Sets.{has, members}
-use Rattle.board.specs.laws.LowestLaws.{Lowest, lowest-of}
+use Rattle.board.specs.laws.LowestLaws.{lowest-of}
 use Rattle.working_back.specs.laws.Admitted.{admitted-kept}
 use Rattle.working_back.specs.laws.Sources.{Taken, taken-start, taken-turn, taken-end, lowest-in, number-of-source}
 use borrow.Author.Needs.{needs}

@@ -34,7 +34,7 @@ try-along-requires c κs =
     let p = c .before .before .before .before .before .before .before .before .before .before .before .before .pre in
     let x = c .before .before .before .before .before .before .before .before .before .before .before .before .args in
     let f = c .before .before .before .before .before .before .before .frame-for in
-    let hf = frame-side (f .result) _ (1 - x .q .side) (x .q .white) (x .q .black) (c .before .before .before .before .before .before .before .before .other .ensures) (f .ensures) in
+    let hf = frame-side (f .result) _ (1 - x .q .side) (x .q .white) (x .q .black) (c .before .before .before .before .before .before .before .before .other .ensures) (f .ensures (p .3 .white) (p .3 .black)) in
     let n = unexchanged (f .result .exchange) (c .before .before .before .before .before .alike .result) (c .before .before .before .before .if1 .left) in (
       p .0,
       p .1,
@@ -60,7 +60,7 @@ try-along-requires-2 c κs =
     let p = c .before .before .before .before .before .before .before .before .before .before .before .before .before .before .before .pre in
     let x = c .before .before .before .before .before .before .before .before .before .before .before .before .before .before .before .args in
     let f = c .before .before .before .before .before .before .before .before .before .before .frame-for in
-    let hf = frame-side (f .result) _ (1 - x .q .side) (x .q .white) (x .q .black) (c .before .before .before .before .before .before .before .before .before .before .before .other .ensures) (f .ensures) in
+    let hf = frame-side (f .result) _ (1 - x .q .side) (x .q .white) (x .q .black) (c .before .before .before .before .before .before .before .before .before .before .before .other .ensures) (f .ensures (p .3 .white) (p .3 .black)) in
     let n = unexchanged (f .result .exchange) (c .before .before .before .before .before .before .before .before .alike .result) (c .before .before .before .before .before .before .before .if1 .left) in (
       p .0,
       p .1,
@@ -86,7 +86,7 @@ try-along-requires-3 c κs =
     let p = c .before .before .before .before .before .before .before .before .before .before .before .before .before .before .before .pre in
     let x = c .before .before .before .before .before .before .before .before .before .before .before .before .before .before .before .args in
     let f = c .before .before .before .before .before .before .before .before .before .before .frame-for in
-    let hf = frame-side (f .result) _ (1 - x .q .side) (x .q .white) (x .q .black) (c .before .before .before .before .before .before .before .before .before .before .before .other .ensures) (f .ensures) in
+    let hf = frame-side (f .result) _ (1 - x .q .side) (x .q .white) (x .q .black) (c .before .before .before .before .before .before .before .before .before .before .before .other .ensures) (f .ensures (p .3 .white) (p .3 .black)) in
     let n = unexchanged (f .result .exchange) (c .before .before .before .before .before .before .before .before .alike .result) (c .before .before .before .before .before .before .before .if1 .left) in (
       p .0,
       p .1,

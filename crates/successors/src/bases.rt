@@ -1,5 +1,5 @@
 // The numbers of a man's squares where nothing is exchanged: at equal steps from a base.
-use successors::Frame;
+use super::Frame;
 ghost use mathlib.Core.Path.{_≡_};
 ghost use Prim.Native.Nat.{_+_, _*_, _^_, _<_};
 ghost use lib.Bits.{bitXor};
@@ -13,13 +13,14 @@ pub fn spot(base: usize, flip: u8, scale: u8, s: u8) -> usize
 }
 
 // A square with the reversals of a frame.
-pub fn turned(flip: u8, s: u8) -> u8
+fn turned(flip: u8, s: u8) -> u8
     ensures { λ r. ⌜ r ≡ bitXor s flip ⌝ }
 {
     s ^ flip
 }
 
-// Where the numbers of a frame begin: of one man; of the first of two, by the second's square; of the second, by the first's.
+// Where the numbers of a frame begin: of one man; of the first of two, by the second's square; of the second, by the
+// first's.
 pub fn base_of_one(f: Frame) -> usize
     ensures { λ r. ⌜ (r ≡ f .kings * 64) × (r < 2 ^ 48) ⌝ }
 {

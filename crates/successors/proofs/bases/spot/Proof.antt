@@ -1,11 +1,11 @@
--- `working_back::spot` meets its contract.
+-- `successors::spot` meets its contract.
 use borrow.Author.Needs.{needs}
 use Prim.Native.Nat.{ℕ, _*_, _^_, _<_, _≤_}
 use native.Mathlib.Nat.{mul-le-mul}
 use native.Mathlib.Omega.{arith}
 use lib.Bits.{bitXor, xor-lt}
-use Rattle.working_back.proofs.lines.spot.Statement.{statement}
-use Rattle.working_back.proofs.lines.spot.Tie as tie
+use Rattle.successors.proofs.bases.spot.Statement.{statement}
+use Rattle.successors.proofs.bases.spot.Tie as tie
 
 least : (a b : ℕ) → a < 2 ^ 8 → b < 2 ^ 8 → bitXor a b ≤ 255
 least a b h k = omega (arith, xor-lt 8 a b h k)

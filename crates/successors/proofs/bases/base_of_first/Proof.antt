@@ -1,8 +1,8 @@
 -- `successors::base_of_first` meets its contract.
 use borrow.Author.Needs.{needs}
 use native.Mathlib.Omega.{arith}
-use Rattle.successors.proofs.along.base_of_first.Statement.{statement}
-use Rattle.successors.proofs.along.base_of_first.Tie as tie
+use Rattle.successors.proofs.bases.base_of_first.Statement.{statement}
+use Rattle.successors.proofs.bases.base_of_first.Tie as tie
 
 turned-requires : tie.Need-turned-requires
 turned-requires c κs = search needs
