@@ -3,6 +3,7 @@ mod back;
 mod bare;
 mod captures;
 mod into;
+mod lines;
 mod trying;
 
 pub use back::pass_back;

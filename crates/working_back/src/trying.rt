@@ -1,4 +1,6 @@
 // The positions before the moves of one piece, tried: a number is settled if it holds 1 and depth k is required of its position.
+use super::lines::base_of;
+use super::lines::scale_of;
 use board::lowest;
 use board::without;
 use index::alike;
@@ -6,11 +8,7 @@ use index::number_at;
 use position::Men;
 use position::Place;
 use position::other;
-use retracting::again;
 use retracting::place_before;
-use successors::base_of_first;
-use successors::base_of_one;
-use successors::base_of_second;
 use successors::frame_for;
 use successors::requires_depth;
 use successors::spot;
@@ -155,41 +153,8 @@ pub fn try_framed(
     if (f.exchange != 0) | alike(m) {
         return try_each(m, k, q, taken, to, squares, first, second, &mut *table);
     }
-    if 4 <= m.second {
-        let base = base_of_one(f);
-        return try_along(
-            m,
-            k,
-            q,
-            taken,
-            to,
-            base,
-            flip,
-            1,
-            squares,
-            first,
-            second,
-            &mut *table,
-        );
-    }
-    if q.first == to {
-        let base = base_of_first(f, again(taken == 2, to, q.second));
-        return try_along(
-            m,
-            k,
-            q,
-            taken,
-            to,
-            base,
-            flip,
-            64,
-            squares,
-            first,
-            second,
-            &mut *table,
-        );
-    }
-    let base = base_of_second(f, again(taken == 1, to, q.first));
+    let base = base_of(m, q, taken, to, f);
+    let scale = scale_of(m, q, to);
     try_along(
         m,
         k,
@@ -198,7 +163,7 @@ pub fn try_framed(
         to,
         base,
         flip,
-        1,
+        scale,
         squares,
         first,
         second,

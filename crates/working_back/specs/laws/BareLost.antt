@@ -35,7 +35,7 @@ use Rattle.successors.specs.laws.PlaceLaws.{starts, remains, remains-after}
 use Rattle.successors.specs.laws.PlaceVerdicts.{plain}
 use Rattle.successors.specs.laws.ByteLaws.{all-there, own-seated, byte-own, byte-bare, byte-moved}
 use Rattle.successors.specs.laws.ChoiceLaws.{suitsTo, suitingSet, zero-fails}
-use Rattle.successors.specs.laws.VerdictLaws.{Sets, depth-refuted, depth-told}
+use Rattle.successors.specs.laws.VerdictLaws.{depth-refuted, depth-told}
 use Rattle.retracting.specs.Retracting.{Leads, placeBefore}
 use Rattle.retracting.specs.laws.Causes.{place-eq}
 use Rattle.working_back.specs.Admitted.{over, Admitted}

@@ -6,7 +6,8 @@ use Prim.Native.Nat.{ℕ, _+_, _-_, _*_, _/_, _<_, _≤_}
 use native.Mathlib.Omega.{arith}
 use lib.Bits.{bitXor}
 use lib.Dec.{T, leb, ltb, eqb, leb→le}
-use borrow.Author.Tests.{le-leb, lt-leb, eq-eqb, ne-eqb, eqb-true}
+use borrow.Author.Tests.{le-leb, lt-leb, eq-eqb, ne-eqb, eqb-true, eqb-false}
+use Rattle.finite.specs.Truth.{decided, le-or-lt, true-of, false-of}
 use Rattle.rules.specs.Rules.{carried}
 use Rattle.rules.specs.laws.CanMove.{can-on}
 use Rattle.numbering.specs.Number.{numberOf}
@@ -22,6 +23,7 @@ use Rattle.successors.specs.Framing.{frameFor, chosenDigits, numberOn}
 use Rattle.successors.specs.laws.FramingLaws.{number-framed, number-single, number-double, chosen-plain}
 use Rattle.retracting.specs.Retracting.{Leads, LegalLeft, Missing, putAgain, placeBefore}
 use Rattle.retracting.specs.laws.Sources.{was-free}
+use Rattle.working_back.specs.Lines.{baseOf, scaleOf}
 
 plain-digits : (x y : ℕ) → x * 64 + y ≡ menDigits false x y
 plain-digits x y = go (ltb y x)
@@ -113,7 +115,7 @@ module _ (m : Men) (q : Place) (taken to s : ℕ) (g : LegalLeft m q taken) (l :
         (ap (λ (b : Bool). cond b to (squareAfter to s (q .second))) (missed taken (g .missing) .1 z) ∙ man-goes (q .second) (w .second) (sym z)) refl
 
     -- as code has them
-    pub line-one : 4 ≤ m .second → (to ≡ q .first) ⊎ (to ≡ q .second) → (base : ℕ) → base ≡ f .kings * 64
+    line-one : 4 ≤ m .second → (to ≡ q .first) ⊎ (to ≡ q .second) → (base : ℕ) → base ≡ f .kings * 64
         → base + bitXor s (f .flip) * 1 ≡ numberOf (boardIn m o)
     line-one h (inl z) base b =
         one base (f .kings * 64) (bitXor s (f .flip)) b
@@ -128,7 +130,7 @@ module _ (m : Men) (q : Place) (taken to s : ℕ) (g : LegalLeft m q taken) (l :
         none (Missing.first a c d) = omega (arith, h, d)
         none (Missing.second a c d) = omega (arith, h, d)
 
-    pub line-first : m .second < 4 → q .first ≡ to → (base y : ℕ) → y ≡ cond (eqb taken 2) to (q .second)
+    line-first : m .second < 4 → q .first ≡ to → (base y : ℕ) → y ≡ cond (eqb taken 2) to (q .second)
         → base ≡ f .kings * 4096 + bitXor y (f .flip) → base + bitXor s (f .flip) * 64 ≡ numberOf (boardIn m o)
     line-first h z base y hy b =
         first base (f .kings * 4096) (bitXor s (f .flip)) (bitXor y (f .flip)) b
@@ -138,7 +140,7 @@ module _ (m : Men) (q : Place) (taken to s : ℕ) (g : LegalLeft m q taken) (l :
         first : (base k u v : ℕ) → base ≡ k + v → base + u * 64 ≡ k + (u * 64 + v)
         first base k u v b = omega arith
 
-    pub line-second : m .second < 4 → (q .first ≡ to → ⊥) → (to ≡ q .first) ⊎ (to ≡ q .second) → (base x : ℕ)
+    line-second : m .second < 4 → (q .first ≡ to → ⊥) → (to ≡ q .first) ⊎ (to ≡ q .second) → (base x : ℕ)
         → x ≡ cond (eqb taken 1) to (q .first) → base ≡ f .kings * 4096 + bitXor x (f .flip) * 64
         → base + bitXor s (f .flip) * 1 ≡ numberOf (boardIn m o)
     line-second h z (inl w) base x hx b = absurd (z (sym w))
@@ -149,3 +151,25 @@ module _ (m : Men) (q : Place) (taken to s : ℕ) (g : LegalLeft m q taken) (l :
       where
         second : (base k u v : ℕ) → base ≡ k + u * 64 → base + v * 1 ≡ k + (u * 64 + v)
         second base k u v b = omega arith
+
+    -- whichever man it is
+    pub line-of : (to ≡ q .first) ⊎ (to ≡ q .second) → (base scale : ℕ) → base ≡ baseOf m q taken to f → scale ≡ scaleOf m q to
+        → base + bitXor s (f .flip) * scale ≡ numberOf (boardIn m o)
+    line-of w base scale hb hs = go (le-or-lt 4 (m .second))
+      where
+        at : (r : ℕ) → scale ≡ r → base + bitXor s (f .flip) * r ≡ numberOf (boardIn m o) → base + bitXor s (f .flip) * scale ≡ numberOf (boardIn m o)
+        at r e z = ap (λ (c : ℕ). base + bitXor s (f .flip) * c) e ∙ z
+
+        two : m .second < 4 → T (eqb (q .first) to) ⊎ T (not (eqb (q .first) to)) → base + bitXor s (f .flip) * scale ≡ numberOf (boardIn m o)
+        two h (inl e) =
+            let z = true-of e in
+            let y = lt-leb 4 (m .second) h in
+            at 64 (hs ∙ rw (y, z)) (line-first h (eqb-true (q .first) to z) base (cond (eqb taken 2) to (q .second)) refl (hb ∙ rw (y, z)))
+        two h (inr e) =
+            let z : eqb (q .first) to ≡ false = false-of e in
+            let y = lt-leb 4 (m .second) h in
+            at 1 (hs ∙ rw (y, z)) (line-second h (eqb-false (q .first) to z) w base (cond (eqb taken 1) to (q .first)) refl (hb ∙ rw (y, z)))
+
+        go : (4 ≤ m .second) ⊎ (m .second < 4) → base + bitXor s (f .flip) * scale ≡ numberOf (boardIn m o)
+        go (inl h) = let y = le-leb 4 (m .second) h in at 1 (hs ∙ rw y) (line-one h w base (hb ∙ rw y))
+        go (inr h) = two h (decided (eqb (q .first) to))
