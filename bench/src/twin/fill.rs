@@ -1,8 +1,9 @@
 //! The fill: mates first, then back from the positions just settled; losses are confirmed forward.
 
-use super::board::squares;
-use super::moves::{checked, mated, required, requires, Tables};
-use super::numbers::{is_used, number, place, LARGE, SMALL};
+use super::bare::Bare;
+use super::board::{has, one, squares, targets};
+use super::moves::{checked, mated, required, requires, spoils, Tables};
+use super::numbers::{is_used, number, place, Frame, LARGE, SMALL};
 use super::retract::{before, sources, Taken};
 use super::{Men, Place, KING, OFF};
 
@@ -53,30 +54,98 @@ impl Filling<'_> {
         settled
     }
 
-    /// A place with a move to one of depth k - 1: it is won in k, or lost if the others say so.
-    fn try_place(&mut self, q: Place, k: u8) -> u32 {
-        let n = number(self.men, q);
-        if self.table[n] != 1 || k % 2 == 0 && !requires(self.men, q, k, self.tables()) {
-            return 0;
-        }
+    fn settle(&mut self, n: usize, k: u8) -> u32 {
         self.table[n] = 2 + k;
         1
     }
 
-    fn try_piece(&mut self, q: Place, k: u8, kind: u8, to: u8, taken: Taken) -> u32 {
+    /// A place with a move to one of depth k - 1, at its number: it is won in k, or lost if the
+    /// others say so.
+    fn try_number(&mut self, n: usize, k: u8, place: impl Fn() -> Place) -> u32 {
+        if self.table[n] != 1 || k % 2 == 0 && !requires(self.men, place(), k, self.tables()) {
+            return 0;
+        }
+        self.settle(n, k)
+    }
+
+    fn try_each(&mut self, q: Place, k: u8, to: u8, taken: Taken, from: u64) -> u32 {
+        let men = self.men;
+        let tried = |from| {
+            let place = before(q, from, to, taken);
+            self.try_number(number(men, place), k, || place)
+        };
+        squares(from).map(tried).sum()
+    }
+
+    /// A man's squares: the kings stand still, and where nothing is exchanged the numbers lie at
+    /// equal steps.
+    fn try_man(&mut self, q: Place, k: u8, kind: u8, to: u8, taken: Taken) -> u32 {
         let from = sources(self.men, q, kind, to, taken);
-        squares(from).map(|from| self.try_place(before(q, from, to, taken), k)).sum()
+        if from == 0 {
+            return 0;
+        }
+        let frame = Frame::new(1 - q.side, q.white, q.black);
+        let still = |square, who| if taken == who { to } else { square };
+        let line = match (self.men.single(), q.first == to) {
+            (true, _) => frame.line(self.men, 0, 1),
+            (_, true) => frame.line(self.men, still(q.second, Taken::Second), 64),
+            _ => frame.line(self.men, still(q.first, Taken::First), 1),
+        };
+        let Some(line) = line else {
+            return self.try_each(q, k, to, taken, from);
+        };
+        squares(from)
+            .map(|from| self.try_number(line.number(from), k, || before(q, from, to, taken)))
+            .sum()
+    }
+
+    fn try_king(&mut self, q: Place, k: u8, taken: Taken) -> u32 {
+        let to = q.king(1 - q.side);
+        let from = sources(self.men, q, KING, to, taken);
+        if k % 2 == 0 && q.side == 0 && self.men.colour == 0 {
+            self.lose_bare(q, k, to, taken, from)
+        } else {
+            self.try_each(q, k, to, taken, from)
+        }
+    }
+
+    /// A black king without men: White's pieces stand still, and what they attack is told once.
+    fn lose_bare(&mut self, q: Place, k: u8, to: u8, taken: Taken, from: u64) -> u32 {
+        let men = self.men;
+        let still = |square, who| if taken == who { to } else { square };
+        let bare =
+            Bare::new(men, q.white, still(q.first, Taken::First), still(q.second, Taken::Second));
+        let shut = bare.struck() | one(to);
+        let tried = |from| {
+            let n = bare.number(1, from);
+            if self.table[n] != 1 {
+                return 0;
+            }
+            let goals = targets(0, KING, from) & !shut;
+            // Taking the only man he draws.
+            if men.single() && has(goals, bare.first) {
+                return 0;
+            }
+            if has(goals, bare.first) || has(goals, bare.second) {
+                return self.try_number(n, k, || before(q, from, to, taken));
+            }
+            if squares(goals).any(|to| spoils(k, self.table[bare.number(0, to)])) {
+                return 0;
+            }
+            self.settle(n, k)
+        };
+        squares(from).map(tried).sum()
     }
 
     /// The places with a move to this one that takes nothing, or the man named.
     fn try_into(&mut self, q: Place, k: u8, taken: Taken) -> u32 {
         let (men, mover) = (self.men, 1 - q.side);
-        let mut settled = self.try_piece(q, k, KING, q.king(mover), taken);
+        let mut settled = self.try_king(q, k, taken);
         if mover == 0 && q.first != OFF {
-            settled += self.try_piece(q, k, men.first, q.first, taken);
+            settled += self.try_man(q, k, men.first, q.first, taken);
         }
         if mover == men.colour && q.second != OFF {
-            settled += self.try_piece(q, k, men.second, q.second, taken);
+            settled += self.try_man(q, k, men.second, q.second, taken);
         }
         settled
     }

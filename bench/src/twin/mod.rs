@@ -1,6 +1,7 @@
 //! The library's second fill written again in Rust, to be measured beside it: the same steps over the
 //! same numbers, with nothing unsafe.
 
+mod bare;
 mod board;
 mod fill;
 mod moves;

@@ -106,7 +106,7 @@ fn is_win(byte: u8) -> bool {
 }
 
 /// Does a successor's byte show that depth k is not required?
-fn spoils(k: u8, byte: u8) -> bool {
+pub fn spoils(k: u8, byte: u8) -> bool {
     let next = 1 + k as u16;
     if k % 2 == 0 {
         !(is_win(byte) && byte as u16 <= next)

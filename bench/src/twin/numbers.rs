@@ -29,14 +29,14 @@ const fn pairs() -> ([u16; 4096], [u16; PAIRS]) {
     (forth, back)
 }
 
-static PAIR_OF: [u16; 4096] = pairs().0;
+pub static PAIR_OF: [u16; 4096] = pairs().0;
 static KINGS_OF: [u16; PAIRS] = pairs().1;
 
 /// The files of all four squares of a key.
 const FILES: u32 = 0o07_07_07_07;
 
 /// The bits that bring this white king to the files a to d and the ranks 1 to 4.
-fn flip_of(white: u8) -> u8 {
+pub fn flip_of(white: u8) -> u8 {
     let files = if white % 8 > 3 { 7 } else { 0 };
     let ranks = if white / 8 > 3 { 56 } else { 0 };
     files | ranks
@@ -107,7 +107,7 @@ pub struct Frame {
 
 /// Are file and rank exchanged?
 #[derive(Clone, Copy)]
-enum Exchange {
+pub enum Exchange {
     No,
     Yes,
     WhereLess,
@@ -117,7 +117,7 @@ fn transposed(square: u8) -> u8 {
     square % 8 * 8 + square / 8
 }
 
-fn exchange(white: u8, black: u8) -> Exchange {
+pub fn exchange(white: u8, black: u8) -> Exchange {
     for king in [white, black] {
         if king % 8 < king / 8 {
             return Exchange::Yes;
@@ -129,7 +129,33 @@ fn exchange(white: u8, black: u8) -> Exchange {
     Exchange::WhereLess
 }
 
+/// Numbers at equal steps from a base: one for each square of a man.
+#[derive(Clone, Copy)]
+pub struct Line {
+    base: usize,
+    flip: u8,
+    scale: usize,
+}
+
+impl Line {
+    pub fn number(self, square: u8) -> usize {
+        self.base + (square ^ self.flip) as usize * self.scale
+    }
+}
+
 impl Frame {
+    /// The line of a man, where nothing is exchanged: the other man's square, and the man's scale.
+    pub fn line(self, men: Men, still: u8, scale: usize) -> Option<Line> {
+        let other = (still ^ self.flip) as usize;
+        let base = match (men.single(), scale) {
+            (true, _) => self.kings * 64,
+            (_, 64) => self.kings * 4096 + other,
+            _ => self.kings * 4096 + other * 64,
+        };
+        let plain = matches!(self.exchange, Exchange::No) && !men.alike();
+        plain.then_some(Line { base, flip: self.flip, scale })
+    }
+
     pub fn new(side: u8, white: u8, black: u8) -> Frame {
         let flip = flip_of(white);
         let (white, black) = (white ^ flip, black ^ flip);

@@ -40,6 +40,9 @@ fn others_strike(men: Men, q: Place, occupied: u64, to: u8, square: u8) -> bool 
 pub fn sources(men: Men, q: Place, kind: u8, to: u8, taken: Taken) -> u64 {
     let occupied = q.occupied();
     let free = targets(occupied, kind, to) & !occupied;
+    if free == 0 {
+        return 0;
+    }
     let king = q.king(q.side);
     let stood = match taken {
         Taken::Nothing => occupied & !one(to),

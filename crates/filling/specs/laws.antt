@@ -2,9 +2,6 @@ pub mod Laws
 pub mod Greatest
 pub mod Halves
 pub mod Quiet
-pub mod Trying
-pub mod Won
-pub mod Back
 pub mod StepLaws
 pub mod StepsTrue
 pub mod Handed

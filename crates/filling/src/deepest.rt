@@ -8,7 +8,7 @@ ghost use lib.ListN.{length};
 ghost use Rattle.numbering.specs.declared.Material.{Material};
 ghost use Rattle.numbering.specs.Material.{given};
 ghost use Rattle.position.specs.Posed.{materialFor};
-ghost use Rattle.filling.specs.Admitted.{Deepest};
+ghost use Rattle.filling.specs.Deepest.{Deepest};
 ghost use Rattle.filling.specs.Greatest.{Greatest};
 
 fn greater(a: u8, b: u8) -> u8

@@ -26,7 +26,7 @@ ghost use Rattle.position.specs.Posed.{materialFor};
 ghost use Rattle.endings.specs.FilledTrue.{FillPromise};
 ghost use Rattle.four_men.specs.Lending.{lent, borrowed};
 ghost use Rattle.four_men.specs.Reading.{holdsDepth};
-ghost use Rattle.filling.specs.Admitted.{over, Admitted};
+ghost use Rattle.working_back.specs.Admitted.{over, Admitted};
 ghost use Rattle.filling.specs.FillPromise.{Fills, FillPromiseWith, FillBackPromise};
 
 fn fill_men(way: u8, m: Men, first: &[u8], second: &[u8], table: &mut [u8]) -> Filled

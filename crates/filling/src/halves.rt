@@ -9,7 +9,7 @@ ghost use Prim.Native.Nat.{_<_, _≤_, _/_};
 ghost use lib.ListN.{length};
 ghost use Rattle.position.specs.Posed.{materialFor};
 ghost use Rattle.four_men.specs.Lending.{lent};
-ghost use Rattle.filling.specs.Admitted.{Admitted};
+ghost use Rattle.working_back.specs.Admitted.{Admitted};
 ghost use Rattle.filling.specs.Quiet.{Absent, Quiet, lowOf, highOf};
 
 // Whether the byte stands from `from` on, below `to`.

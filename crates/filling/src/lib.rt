@@ -1,8 +1,6 @@
 // Filling a table by passes over the numbers that are not settled yet, at once or in steps; one man or two, captures
 // read in lent tables.
-mod back;
 mod bytes;
-mod captures;
 mod deepest;
 mod fill_table;
 mod halves;

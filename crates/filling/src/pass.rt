@@ -11,7 +11,7 @@ ghost use lib.ListN.{length};
 ghost use Rattle.table_theory.specs.Tables.{settles as settlesOf, someSettles, passed};
 ghost use Rattle.table_theory.specs.Steps.{settledBy};
 ghost use Rattle.rules.specs.Chess.{chess};
-ghost use Rattle.filling.specs.Admitted.{over, Admitted};
+ghost use Rattle.working_back.specs.Admitted.{over, Admitted};
 ghost use Rattle.filling.specs.Settling.{Settle};
 ghost use Rattle.filling.specs.Quiet.{QuietHalves};
 

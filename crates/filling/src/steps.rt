@@ -9,10 +9,9 @@ use table_theory::Progress;
 ghost use mathlib.Core.Path.{_≡_};
 ghost use Prim.Native.Nat.{_<_, _≤_};
 ghost use Rattle.table_theory.specs.Tables.{ended as endedOf};
-ghost use Rattle.rules.specs.Chess.{chess};
 ghost use Rattle.endings.specs.Answers.{resultOf};
-ghost use Rattle.filling.specs.Admitted.{over, Admitted};
-ghost use Rattle.filling.specs.Back.{Backwards};
+ghost use Rattle.working_back.specs.Admitted.{over, Admitted};
+ghost use Rattle.working_back.specs.Back.{Backwards};
 ghost use Rattle.filling.specs.Steps.{Hands};
 ghost use Rattle.filling.specs.Stepping.{lastOf, stepOver};
 

@@ -29,7 +29,7 @@ ghost use Rattle.position.specs.Posed.{materialFor};
 ghost use Rattle.four_men.specs.Lending.{lent, borrowed};
 ghost use Rattle.four_men.specs.Reading.{holdsDepth};
 ghost use Rattle.four_men.specs.Steps.{startWith, stepWith};
-ghost use Rattle.filling.specs.Admitted.{over, Admitted};
+ghost use Rattle.working_back.specs.Admitted.{over, Admitted};
 ghost use Rattle.filling.specs.Steps.{Hands, takenOf, refusing, startOf, stepOf};
 ghost use Rattle.filling.specs.Handed.{handed};
 

@@ -1,14 +1,15 @@
 // The ways of a pass: over the halves that may settle a number, back from the numbers just settled, or over every number.
-use super::back::pass_by;
+use super::pass::pass;
 use super::pass::pass_halves;
 use position::Men;
+use working_back::pass_back;
 ghost use mathlib.Core.Path.{_≡_};
 ghost use Prim.Native.Nat.{_<_};
 ghost use Rattle.table_theory.specs.Tables.{passed};
 ghost use Rattle.table_theory.specs.Steps.{settledBy};
 ghost use Rattle.rules.specs.Chess.{chess};
-ghost use Rattle.filling.specs.Admitted.{over, Admitted};
-ghost use Rattle.filling.specs.Back.{Backwards};
+ghost use Rattle.working_back.specs.Admitted.{over, Admitted};
+ghost use Rattle.working_back.specs.Back.{Backwards};
 
 pub const PASSES: u8 = 0;
 
@@ -24,5 +25,12 @@ pub fn pass_in(way: u8, m: Men, k: u8, first: &[u8], second: &[u8], table: &mut 
     if way == EVERY {
         return pass_halves(true, true, m, k, first, second, &mut *table);
     }
-    pass_by(way == BACK, m, k, first, second, &mut *table)
+    if way != BACK {
+        return pass(m, k, first, second, &mut *table);
+    }
+    // Mates have no depth before theirs.
+    if k == 0 {
+        return pass(m, k, first, second, &mut *table);
+    }
+    pass_back(m, k, first, second, &mut *table)
 }

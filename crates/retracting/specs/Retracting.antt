@@ -2,7 +2,7 @@
 -- Definitions only.
 use mathlib.Core.Path.{_≡_}
 use mathlib.Core.Bool.{Bool, false, cond, not, _&&_, _||_}
-use Prim.Native.Nat.{ℕ, _-_, _<_, _≤_}
+use Prim.Native.Nat.{ℕ, _-_, _<_}
 use lib.Dec.{T, leb, eqb}
 use Rattle.board.specs.Sets.{has, setOf}
 use Rattle.board.specs.Reach.{reaches}

@@ -1,6 +1,7 @@
 // Moves taken back: the legal positions of an ending that have a legal move into a position.
 mod places;
 
+pub use places::again;
 pub use places::left_place;
 pub use places::lone_men;
 pub use places::place_before;

@@ -16,9 +16,10 @@ ghost use mathlib.Core.Path.{_≡_};
 ghost use mathlib.Core.Bool.{false, cond, not, _&&_};
 ghost use Prim.Native.Nat.{ℕ, _-_, _<_};
 ghost use lib.Dec.{T, eqb};
+ghost use Rattle.board.specs.Reach.{reaches};
 ghost use Rattle.board.specs.Sets.{has};
-ghost use Rattle.rules.specs.Rules.{touching, legal};
-ghost use Rattle.position.specs.Posed.{boardIn, Complete};
+ghost use Rattle.rules.specs.Rules.{legal};
+ghost use Rattle.position.specs.Posed.{boardIn};
 ghost use Rattle.retracting.specs.Retracting.{Seat, LegalLeft, loser as loserOf, Retracts, placeBefore, CompleteApart, Steps, othersStrike, loneOf, leftPlace};
 
 const KING: u8 = 5;
@@ -34,7 +35,7 @@ fn is_legal(m: Men, q: Place) -> bool
 }
 
 // Where a man stands: on the target if he was taken there.
-fn again(here: bool, to: u8, s: u8) -> u8
+pub fn again(here: bool, to: u8, s: u8) -> u8
     ensures { λ r. ⌜ r ≡ cond here to s ⌝ }
 {
     if here { to } else { s }
@@ -83,14 +84,24 @@ fn still(colour: u8, owner: u8, to: u8, square: u8) -> u8
     square
 }
 
+// Whether a man on s attacks t: told before anything is handed over where he is not on the board.
+fn strikes(occ: u64, kind: u8, s: u8, t: u8) -> bool
+    ensures { λ r. ⌜ r ≡ reaches (has occ) kind s t ⌝ }
+{
+    if 64 <= s {
+        return false;
+    }
+    attacks(occ, kind, s, t)
+}
+
 // Whether a man of the mover's, apart from the piece on `to`, attacks t.
 fn others_strike(m: Men, q: Place, occ: u64, owner: u8, to: u8, t: u8) -> bool
     ensures { λ r. ⌜ r ≡ othersStrike m q (has occ) owner to t ⌝ }
 {
-    if attacks(occ, m.first, still(0, owner, to, q.first), t) {
+    if strikes(occ, m.first, still(0, owner, to, q.first), t) {
         return true;
     }
-    attacks(occ, m.second, still(m.colour, owner, to, q.second), t)
+    strikes(occ, m.second, still(m.colour, owner, to, q.second), t)
 }
 
 // What stood there before the move, but for the piece that moved: where it took a man, he stood on its target.
@@ -144,6 +155,9 @@ pub fn sources(m: Men, q: Place, taken: u8, kind: u8, owner: u8, to: u8) -> u64
     }
     let occ = occupied_at(q);
     let free = minus(targets(occ, kind, to), occ);
+    if free == 0 {
+        return 0;
+    }
     unchecking(m, q, taken, kind, owner, to, occ, free)
 }
 

@@ -3,6 +3,10 @@
 use super::Frame;
 use super::Sifted;
 use super::after::read_at;
+use super::bases::base_of_first;
+use super::bases::base_of_one;
+use super::bases::base_of_second;
+use super::bases::spot;
 use super::framing::frame_for;
 use super::sifting::sift_each;
 use super::sifting::with_suited;
@@ -25,14 +29,6 @@ ghost use Rattle.rules.specs.Rules.{Board, moved, canMove};
 ghost use Rattle.position.specs.Posed.{boardIn, Complete};
 ghost use Rattle.successors.specs.Successors.{bytesIn, siftedFrom};
 ghost use Rattle.successors.specs.Quiet.{takesMan, ofMan, plainFor, baseFor, scaleFor};
-
-// A target's place in the table.
-fn spot(base: usize, flip: u8, scale: u8, to: u8) -> usize
-    requires { ⌜ base < 2 ^ 48 ⌝ }
-    ensures { λ r. ⌜ r ≡ base + bitXor to flip * scale ⌝ }
-{
-    base + (to ^ flip) as usize * scale as usize
-}
 
 // The byte there.
 fn byte_on(base: usize, flip: u8, scale: u8, to: u8, table: &[u8]) -> u8
@@ -66,35 +62,6 @@ fn is_plain(m: Men, f: Frame) -> bool
     ensures { λ r. ⌜ r ≡ plainFor m f ⌝ }
 {
     (f.exchange == 0) & !alike(m)
-}
-
-// A square with the reversals of a frame.
-fn turned(flip: u8, s: u8) -> u8
-    ensures { λ r. ⌜ r ≡ bitXor s flip ⌝ }
-{
-    s ^ flip
-}
-
-// Where the bytes of a frame begin: of one man; of the first of two, by the second's square; of the second, by the
-// first's.
-fn base_of_one(f: Frame) -> usize
-    ensures { λ r. ⌜ (r ≡ f .kings * 64) × (r < 2 ^ 48) ⌝ }
-{
-    f.kings as usize * 64
-}
-
-fn base_of_first(f: Frame, second: u8) -> usize
-    ensures { λ r. ⌜ (r ≡ f .kings * 4096 + bitXor second (f .flip)) × (r < 2 ^ 48) ⌝ }
-{
-    let s = turned(f.flip, second);
-    f.kings as usize * 4096 + s as usize
-}
-
-fn base_of_second(f: Frame, first: u8) -> usize
-    ensures { λ r. ⌜ (r ≡ f .kings * 4096 + bitXor first (f .flip) * 64) × (r < 2 ^ 48) ⌝ }
-{
-    let s = turned(f.flip, first);
-    f.kings as usize * 4096 + s as usize * 64
 }
 
 // Where the bytes of the man on a square begin, and how far apart they lie.

@@ -6,6 +6,7 @@ use position::Place;
 
 mod after;
 mod along;
+mod bases;
 mod by_king;
 mod choosing;
 mod framing;
@@ -16,6 +17,11 @@ mod sifting;
 mod verdicts;
 
 pub use after::byte_at;
+pub use bases::base_of_first;
+pub use bases::base_of_one;
+pub use bases::base_of_second;
+pub use bases::spot;
+pub use framing::frame_for;
 pub use numbers::is_legal_number;
 pub use numbers::legal_at;
 pub use verdicts::requires_byte;

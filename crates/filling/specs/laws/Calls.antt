@@ -25,8 +25,8 @@ use Rattle.filling.specs.declared.steps.Stepped.{Stepped}
 use Rattle.filling.specs.declared.steps.Step.{Step}
 use Rattle.filling.specs.Steps.{Hands, takenOf, refusing}
 use Rattle.filling.specs.Handed.{handed}
-use Rattle.filling.specs.Admitted.{over, Admitted}
-use Rattle.filling.specs.laws.Code.{admitted-of}
+use Rattle.working_back.specs.Admitted.{over, Admitted}
+use Rattle.working_back.specs.laws.Admitted.{admitted-of}
 
 -- a refusal hands the progress back, and leaves the table
 refused-call : (k : ℕ) (t : List ℕ) (p : Progress) (a : Call) (q : Progress) (r : Step) → a ≡ Call.refused k → q ≡ p

@@ -19,7 +19,7 @@ use Rattle.numbering.specs.Material.{known}
 use Rattle.index.specs.laws.PlaceLaws.{piece-by}
 use Rattle.four_men.specs.Lending.{lent, partOf, borrowed}
 use Rattle.four_men.specs.Reading.{holdsDepth}
-use Rattle.filling.specs.Admitted.{Deepest}
+use Rattle.filling.specs.Deepest.{Deepest}
 use Rattle.filling.specs.Greatest.{GreatestBelow, Greatest}
 
 module _ (t : List ℕ) where

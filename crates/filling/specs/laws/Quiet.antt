@@ -38,9 +38,9 @@ use Rattle.four_men.specs.Lending.{Lent, lent, borrowed}
 use Rattle.four_men.specs.Reading.{Fewer, Within, full, lentFor, lentTo, lentByte, legalNumberOf, numbered}
 use Rattle.four_men.specs.laws.Captures.{within-closed, fewer-of}
 use Rattle.four_men.specs.laws.Numbered.{numbers, number-live, live-at}
-use Rattle.filling.specs.Admitted.{over, Admitted}
+use Rattle.working_back.specs.Admitted.{over, Admitted}
 use Rattle.filling.specs.Quiet.{Absent, Quiet, lowOf, highOf}
-use Rattle.filling.specs.laws.Code.{long}
+use Rattle.working_back.specs.laws.Admitted.{long}
 use Rattle.filling.specs.laws.Halves.{side-below, side-above, below-side, above-side, number-side-with, standard-next, white-left}
 
 -- the men of one side: what is left of them is White's

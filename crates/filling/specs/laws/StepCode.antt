@@ -24,9 +24,9 @@ use Rattle.filling.specs.declared.steps.Stepped.{Stepped}
 use Rattle.filling.specs.declared.steps.Step.{Step}
 use Rattle.filling.specs.Steps.{Taken, Hands, takenOf, refusing}
 use Rattle.filling.specs.Stepping.{deeperThan, lastOf, stepOver}
-use Rattle.filling.specs.Trying.{Ready}
+use Rattle.working_back.specs.Trying.{Ready}
 use Rattle.filling.specs.laws.Laws.{passed-none}
-use Rattle.filling.specs.laws.Won.{ready-next}
+use Rattle.working_back.specs.laws.Won.{ready-next}
 
 abbrev says : Stepped → Progress → List ℕ → Taken
 says a p t = record { step = record { said = a; progress = p }; bytes = t }

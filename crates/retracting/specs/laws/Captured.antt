@@ -1,14 +1,13 @@
 -- A capture is taken back on every board that goes alike: if one leads from the board at a number of two men to a man left alone, then a place of that
 -- number leads to what the place at his number in his own ending leaves of the two.
 use mathlib.Core.Path.{_≡_, refl, sym, ap, ap₂, subst, subst⁻¹, _∙_}
-use mathlib.Core.Bool.{Bool, true, false, cond, not, _&&_}
+use mathlib.Core.Bool.{Bool, true, false, cond, not}
 use mathlib.Core.Logic.{_⊎_, inl, inr}
 use mathlib.Core.List.{List, [], _∷_, map, _++_}
 use Prim.Native.Nat.{ℕ, zero, suc, _-_, _/_, _%_, _<_, _≤_}
 use native.Mathlib.Omega.{arith}
-use lib.Dec.{T, leb, ltb, eqb}
-use lib.ListN.{length}
-use borrow.Author.Tests.{lt-leb, le-leb, lt-ltb, leb-true, leb-false}
+use lib.Dec.{T, leb, eqb}
+use borrow.Author.Tests.{lt-leb, le-leb, lt-ltb, leb-false}
 use Rattle.finite.specs.Truth.{le-or-lt, refuted}
 use Rattle.finite.specs.Members.{_∈_, map-out}
 use Rattle.theory.specs.Game.{next}
@@ -22,7 +21,6 @@ use Rattle.rules.specs.Chess.{chess, played, of-moves, plain-played}
 use Rattle.rules.specs.laws.Legal.{legal-facts}
 use Rattle.rules.specs.laws.CanMove.{can-on}
 use Rattle.rules.specs.laws.ChangedRules.{legal-changed, legal-fits, canMove-changed}
-use Rattle.rules.specs.laws.ReorderedLaws.{LegalFew}
 use Rattle.numbering.specs.declared.Material.{Material}
 use Rattle.numbering.specs.Change.{Change}
 use Rattle.numbering.specs.Keys.{boardAt}
@@ -33,7 +31,7 @@ use Rattle.position.specs.declared.Men.{Men}
 use Rattle.position.specs.declared.Place.{Place}
 use Rattle.position.specs.declared.Slot.the-variants.{Absent, Present}
 use Rattle.position.specs.Keyed.{boardOf, slotMen}
-use Rattle.position.specs.Posed.{slotAt, posed, boardIn, materialFor, Complete}
+use Rattle.position.specs.Posed.{posed, boardIn, materialFor, Complete}
 use Rattle.position.specs.laws.PlacedLaws.{kings-separate}
 use Rattle.index.specs.Seats.{Seated, StandsAt, seatOf, alone}
 use Rattle.index.specs.laws.NormalKey.{oneBoard}

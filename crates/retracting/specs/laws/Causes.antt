@@ -1,22 +1,21 @@
 -- A move is taken back on every board that goes alike: if a move leads from the board at a number to one of this class, then a place of that number
 -- leads to the place at the class's number.
 use mathlib.Core.Path.{_≡_, refl, sym, ap, ap₂, subst, subst⁻¹, _∙_}
-use mathlib.Core.Bool.{Bool, true, false, cond, not, _&&_}
-use mathlib.Core.Logic.{_⊎_, inl, inr}
+use mathlib.Core.Bool.{Bool, true, false, not, _&&_}
 use mathlib.Core.List.{List, [], _∷_, map}
-use Prim.Native.Nat.{ℕ, _-_, _<_, _≤_}
+use Prim.Native.Nat.{ℕ, _<_, _≤_}
 use native.Mathlib.Omega.{arith}
 use lib.Dec.{T, leb, ltb, eqb, ltb→lt}
 use lib.ListN.{length}
-use borrow.Author.Tests.{lt-leb, leb-true, eqb-true, eqb-false, ne-eqb}
-use Rattle.finite.specs.Truth.{and-left, and-right, and-both}
+use borrow.Author.Tests.{lt-leb, leb-true, eqb-false, ne-eqb}
+use Rattle.finite.specs.Truth.{and-left, and-right}
 use Rattle.finite.specs.Members.{_∈_, all, map-out}
 use Rattle.finite.specs.Filter.{filter, keep}
 use Rattle.theory.specs.Game.{next}
 use Rattle.rules.specs.declared.Piece.{Piece}
-use Rattle.rules.specs.Rules.{Board, pieceOf, pieces, legal, carried, carriedPiece, left, moved, moves, canMove}
+use Rattle.rules.specs.Rules.{Board, pieceOf, legal, carried, carriedPiece, left, moved, moves, canMove}
 use Rattle.rules.specs.Changed.{changed, changedPiece}
-use Rattle.rules.specs.Reordered.{crossed, reordered, Few}
+use Rattle.rules.specs.Reordered.{crossed, reordered}
 use Rattle.rules.specs.Chess.{chess, played, of-moves, plain-played, automorphism}
 use Rattle.rules.specs.laws.Legal.{legal-facts}
 use Rattle.rules.specs.laws.CanMove.{can-on}
@@ -31,14 +30,14 @@ use Rattle.position.specs.declared.Men.{Men}
 use Rattle.position.specs.declared.Place.{Place}
 use Rattle.position.specs.Keyed.{boardOf}
 use Rattle.position.specs.Posed.{posed, boardIn, materialFor, Complete}
-use Rattle.index.specs.Seats.{Seated, alone}
+use Rattle.index.specs.Seats.{Seated}
 use Rattle.index.specs.laws.SeatLaws.{board-one, board-two}
 use Rattle.index.specs.laws.PlaceLaws.{material-by, piece-by}
 use Rattle.index.specs.laws.CompleteLaws.{complete-seated, seated-complete}
 use Rattle.position.specs.laws.PlacedLaws.{kings-separate}
 use Rattle.movegen.specs.Places.{squareAfter, placeAfter}
 use Rattle.four_men.specs.Same.{free, changedAs, Same}
-use Rattle.four_men.specs.Reading.{Within, full, legalNumberOf, numbered}
+use Rattle.four_men.specs.Reading.{Within, full, legalNumberOf}
 use Rattle.four_men.specs.laws.Materials.{one-of, two-of}
 use Rattle.four_men.specs.laws.Captures.{within-few, within-closed, own-of}
 use Rattle.four_men.specs.laws.Numbered.{live-at, same-number, same-at}

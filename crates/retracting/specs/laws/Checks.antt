@@ -1,23 +1,20 @@
 -- Whether the place before a move is legal, by lines to the king of the side that did not move: of the other men of the mover, and of the piece that moved.
-use mathlib.Core.Path.{_≡_, refl, sym, ap, ap₂, subst, subst⁻¹, _∙_}
-use mathlib.Core.Bool.{Bool, true, false, cond, not, _&&_, _||_, or-false}
-use mathlib.Core.Logic.{_⊎_, inl, inr, ⊎-elim}
-use Prim.Native.Nat.{ℕ, zero, suc, _-_, _<_}
+use mathlib.Core.Path.{_≡_, refl, sym, ap, subst, subst⁻¹, _∙_}
+use mathlib.Core.Bool.{Bool, true, false, not, _&&_}
+use Prim.Native.Nat.{ℕ, _-_, _<_}
 use native.Mathlib.Omega.{arith}
-use lib.Dec.{T, ltb, eqb, eqb→eq, ltb→lt}
-use borrow.Author.Tests.{lt-ltb, eq-eqb, ne-eqb, eqb-true, eqb-false}
-use Rattle.finite.specs.Truth.{decided, and-left, and-right, and-both, or-left, or-right, false-of, fails, refuted, same-test}
+use lib.Dec.{T, ltb, eqb, ltb→lt}
+use borrow.Author.Tests.{lt-ltb}
+use Rattle.finite.specs.Truth.{and-left, and-right, fails, refuted, same-test}
 use Rattle.board.specs.Reach.{reaches}
-use Rattle.board.specs.laws.ReachLaws.{reaches-same, king-reaches}
+use Rattle.board.specs.laws.ReachLaws.{reaches-same}
 use Rattle.board.specs.laws.Blocking.{reaches-fewer}
-use Rattle.symmetry.specs.laws.Opposite.{reaches-sym}
-use Rattle.rules.specs.Rules.{occupied, touching, inCheck, attacked, attacks, legal, king, carried}
+use Rattle.rules.specs.Rules.{occupied, touching, inCheck, attacked, legal, king}
 use Rattle.rules.specs.laws.Legal.{legal-facts}
 use Rattle.position.specs.declared.Men.{Men}
 use Rattle.position.specs.declared.Place.{Place}
-use Rattle.position.specs.Keyed.{boardOf}
 use Rattle.position.specs.Over.{attackedOver}
-use Rattle.position.specs.Posed.{posed, boardIn, Complete}
+use Rattle.position.specs.Posed.{boardIn}
 use Rattle.position.specs.laws.PosedLaws.{complete-spread}
 use Rattle.movegen.specs.Places.{menStrike}
 use Rattle.movegen.specs.laws.Struck.{attacked-king}

@@ -5,7 +5,7 @@ use Prim.Native.Nat.{ℕ, _-_, _<_}
 use native.Mathlib.Omega.{arith}
 use lib.Dec.{T, eqb}
 use borrow.Author.Tests.{eq-eqb, ne-eqb, eqb-true, eqb-false}
-use Rattle.finite.specs.Truth.{and-left, and-right, and-both, true-of, of-true, false-of, fails, refuted}
+use Rattle.finite.specs.Truth.{and-left, and-right, and-both, of-true, false-of, fails, refuted}
 use Rattle.board.specs.Reach.{reaches}
 use Rattle.board.specs.Sets.{has, setOf}
 use Rattle.board.specs.laws.ReachLaws.{reaches-squares, reaches-same, king-reaches}
@@ -49,6 +49,10 @@ told-legal m o made r e f a =
     sym (f (subst⁻¹ (CompleteApart m) e a) ∙ ap (λ (p : Place). legal (boardIn m p)) e)
 
 -- ---- the set
+
+-- it is empty
+pub sifts-none : (squares i : ℕ) (b : Bool) → squares ≡ 0 → has 0 i ≡ (has squares i && b)
+sifts-none squares i b e = has-none i ∙ sym (ap (λ (s : ℕ). has s i && b) e ∙ ap (λ (x : Bool). x && b) (has-none i))
 
 module _ (m : Men) (q : Place) (taken kind owner to : ℕ) (g : LegalLeft m q taken) (seat : Seat m q kind owner to) where
   owned : owner < 2

@@ -1,12 +1,12 @@
 -- What a capture leaves of two men, from the place of the man left alone: it is legal, and has his number.
-use mathlib.Core.Path.{_≡_, refl, sym, ap, ap₂, subst, subst⁻¹, _∙_}
+use mathlib.Core.Path.{_≡_, refl, sym, ap, subst, subst⁻¹, _∙_}
 use mathlib.Core.Bool.{Bool, true, false, cond, not}
 use mathlib.Core.Logic.{_⊎_, inl, inr}
 use mathlib.Core.List.{List, [], _∷_}
-use Prim.Native.Nat.{ℕ, zero, suc, _+_, _*_, _-_, _/_, _%_, _<_, _≤_}
+use Prim.Native.Nat.{ℕ, zero, suc, _+_, _*_, _-_, _/_, _%_, _<_}
 use native.Mathlib.Omega.{arith}
-use lib.Dec.{T, leb, ltb, eqb}
-use borrow.Author.Tests.{lt-leb, le-leb, lt-ltb, eqb-true, eqb-false}
+use lib.Dec.{T, ltb, eqb}
+use borrow.Author.Tests.{lt-leb, eqb-true, eqb-false}
 use Rattle.symmetry.specs.Symmetry.{Symmetry, mapped}
 use Rattle.rules.specs.declared.Piece.{Piece}
 use Rattle.rules.specs.Rules.{Board, pieceOf, empty, legal}
@@ -14,7 +14,7 @@ use Rattle.rules.specs.Changed.{other, swapped, changed}
 use Rattle.rules.specs.Reordered.{crossed}
 use Rattle.rules.specs.laws.ChangedRules.{legal-changed}
 use Rattle.numbering.specs.declared.Material.{Material}
-use Rattle.numbering.specs.Men.{exchangeable, materialOf}
+use Rattle.numbering.specs.Men.{exchangeable}
 use Rattle.numbering.specs.Number.{numberOf}
 use Rattle.numbering.specs.Material.{known, OfMaterial}
 use Rattle.position.specs.declared.Men.{Men}
@@ -27,8 +27,8 @@ use Rattle.index.specs.laws.NormalKey.{oneBoard}
 use Rattle.index.specs.laws.SeatLaws.{board-one}
 use Rattle.index.specs.laws.CompleteLaws.{complete-seated}
 use Rattle.index.specs.laws.PlaceLaws.{piece-by}
-use Rattle.four_men.specs.Same.{Same, free}
-use Rattle.four_men.specs.Reading.{Within, full}
+use Rattle.four_men.specs.Same.{free}
+use Rattle.four_men.specs.Reading.{Within}
 use Rattle.four_men.specs.laws.Captures.{within-few}
 use Rattle.four_men.specs.laws.Numbered.{same-number}
 use Rattle.retracting.specs.Retracting.{Missing, LegalLeft, loneOf, leftPlace}

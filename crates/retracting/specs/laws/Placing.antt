@@ -1,21 +1,19 @@
 -- A piece put on a free square: the ending's men are still all there, no two on one square.
 use mathlib.Core.Path.{_≡_, refl, sym, ap, subst, subst⁻¹, _∙_}
-use mathlib.Core.Bool.{Bool, true, false, cond, not, _&&_, _||_}
-use Prim.Native.Nat.{ℕ, _-_, _<_, _≤_}
+use mathlib.Core.Bool.{Bool, true, false, cond, not}
+use Prim.Native.Nat.{ℕ, _<_}
 use native.Mathlib.Omega.{arith}
-use lib.Dec.{T, leb, ltb, eqb}
-use borrow.Author.Tests.{lt-ltb, lt-leb, leb-true, leb-false, eq-eqb, ne-eqb, eqb-true, eqb-false}
-use Rattle.rules.specs.Rules.{pieces, apart, touching, carried}
+use lib.Dec.{T, leb, eqb}
+use borrow.Author.Tests.{lt-ltb, lt-leb, ne-eqb, eqb-true}
+use Rattle.rules.specs.Rules.{apart, touching, carried}
 use Rattle.numbering.specs.Kings.{separate}
 use Rattle.position.specs.declared.Men.{Men}
 use Rattle.position.specs.declared.Place.{Place}
 use Rattle.position.specs.Keyed.{boardOf}
 use Rattle.position.specs.Posed.{posed, boardIn, Complete}
-use Rattle.position.specs.Spread.{Spread}
-use Rattle.position.specs.laws.PosedLaws.{complete-spread}
 use Rattle.index.specs.Seats.{Seated, shares}
 use Rattle.index.specs.laws.PlaceLaws.{apart-shares}
-use Rattle.index.specs.laws.CompleteLaws.{seated-complete, complete-seated}
+use Rattle.index.specs.laws.CompleteLaws.{seated-complete}
 use Rattle.movegen.specs.Places.{squareAfter, placeAfter}
 use Rattle.retracting.specs.Retracting.{Missing, LegalLeft, putAgain, placeBefore}
 use Rattle.retracting.specs.laws.Back.{Free, gone-king}

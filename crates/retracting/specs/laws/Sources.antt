@@ -2,15 +2,15 @@
 use mathlib.Core.Path.{_≡_, refl, sym, ap, subst, subst⁻¹, _∙_}
 use mathlib.Core.Bool.{Bool, true, false, cond, not, _&&_, _||_, and-false}
 use mathlib.Core.Logic.{_⊎_, inl, inr}
-use Prim.Native.Nat.{ℕ, _-_, _<_, _≤_}
+use Prim.Native.Nat.{ℕ, _-_, _<_}
 use native.Mathlib.Omega.{arith}
 use lib.Dec.{T, leb, eqb, eqb→eq}
-use borrow.Author.Tests.{lt-leb, le-leb, leb-true, leb-false, eq-eqb, ne-eqb, eqb-true, eqb-false}
+use borrow.Author.Tests.{lt-leb, leb-true, leb-false, eq-eqb, ne-eqb, eqb-true, eqb-false}
 use Rattle.finite.specs.Truth.{decided, and-left, and-right, and-both, or-left, or-right, false-of, refuted}
 use Rattle.board.specs.Reach.{reaches}
 use Rattle.board.specs.laws.ReachLaws.{reaches-squares}
 use Rattle.board.specs.laws.Blocking.{reaches-own}
-use Rattle.rules.specs.Rules.{Board, pieceOf, occupied, inCheck, legal, stands, goes, carried, moved, canMove}
+use Rattle.rules.specs.Rules.{Board, occupied, inCheck, legal, stands, goes, carried, moved, canMove}
 use Rattle.rules.specs.laws.Legal.{legal-facts}
 use Rattle.rules.specs.laws.CanMove.{can-facts, can-on, reach-piece}
 use Rattle.rules.specs.laws.Closed.{takes-no-king}
@@ -23,7 +23,7 @@ use Rattle.position.specs.Spread.{Spread}
 use Rattle.position.specs.laws.PosedLaws.{complete-spread}
 use Rattle.index.specs.Seats.{Seated}
 use Rattle.index.specs.laws.CompleteLaws.{complete-seated}
-use Rattle.movegen.specs.Places.{firstOf, secondOf, squareAfter, placeAfter}
+use Rattle.movegen.specs.Places.{squareAfter, placeAfter}
 use Rattle.movegen.specs.laws.Places.{occupied-men, stands-men, place-moved}
 use Rattle.movegen.specs.Reach.{Alone}
 use Rattle.movegen.specs.laws.Alone.{white-alone, black-alone, first-alone, second-alone}

@@ -1,6 +1,6 @@
 -- From what the three pieces' moves tell to the verdict on a byte, and whether a depth is required.
 use mathlib.Core.Path.{_≡_, refl, sym, ap, subst, _∙_}
-use mathlib.Core.Bool.{Bool, true, false, cond, _&&_}
+use mathlib.Core.Bool.{Bool, true, false, cond, _&&_, not}
 use mathlib.Core.Logic.{_⊎_, inl, inr, ⊎-elim}
 use mathlib.Core.List.{List, [], _∷_, map, List·Memᴰ·head}
 use mathlib.Core.Option.{some}
@@ -8,7 +8,7 @@ use Prim.Native.Nat.{ℕ, _+_, _≤_, _<_}
 use native.Mathlib.Omega.{arith}
 use lib.Dec.{T, eqb, eqb→eq}
 use borrow.Author.Tests.{eq-eqb, ne-eqb, eqb-true, eqb-false}
-use Rattle.finite.specs.Truth.{and-left, and-right, true-of, of-true, fails, refuted, eqb-sym, same-test}
+use Rattle.finite.specs.Truth.{and-left, and-right, true-of, of-true, fails, refuted, eqb-sym, same-test, and-both, true-not-false}
 use Rattle.finite.specs.Members.{_∈_, any-in, any-out, map-in, map-out, first, none-in}
 use Rattle.theory.specs.Required.{Rule, best, required, requiredAt}
 use Rattle.theory.specs.Play.{suits}
@@ -16,7 +16,7 @@ use Rattle.theory.specs.Judge.{refutes}
 use Rattle.theory.specs.laws.RuleLaws.{required-rule, required-pos}
 use Rattle.theory.specs.laws.Step.{required-moves}
 use Rattle.theory.specs.laws.Judge as judging
-use Rattle.board.specs.Sets.{setOf}
+use Rattle.board.specs.Sets.{setOf, lowestSquare}
 use Rattle.rules.specs.declared.Move.{Move}
 use Rattle.rules.specs.Rules.{Board, empty, king, inCheck, moved, canMove, moveOn, moves, mated}
 use Rattle.rules.specs.laws.CanMove.{can-on}
@@ -31,7 +31,7 @@ use Rattle.successors.specs.Successors.{siftedFrom, joined, judgedFrom, 
 use Rattle.successors.specs.laws.Plain.{Plain, listed, leaves}
 use Rattle.successors.specs.laws.PlaceLaws.{StartsAt, starts}
 use Rattle.successors.specs.laws.SiftLaws.{told-refuted, told-suited}
-use Rattle.successors.specs.laws.ChoiceLaws.{zero-fails, fails-zero, suitingSet}
+use Rattle.successors.specs.laws.ChoiceLaws.{zero-fails, fails-zero, suitingSet, suitsTo, shown}
 
 -- ---- three together
 
@@ -97,6 +97,9 @@ module _ (byte : Board → ℕ) (b : Board) where
 
   abbrev Clear : ℕ → ℕ → Type 0
   Clear c s = (t : ℕ) → T (canMove b s t) → T (refutes c (byte (moved b s t))) → ⊥
+
+  abbrev Or : ℕ → ℕ → Type 0
+  Or c from = (suitingSet byte c b from ≡ 0) ⊎ Suiting c
 
   module _ (m : Plain b) (c : ℕ) (h : 1 ≤ c) where
     -- what a listed move leaves, by its squares
@@ -216,6 +219,23 @@ module _ (byte : Board → ℕ) (b : Board) where
       → x ≡ eqb (requiredAt chess byte b) (2 + k)
   depth-byte k x e = e ∙ eqb-sym (2 + k) (requiredAt chess byte b)
 
+  module _ (m : Plain b) (k : ℕ) (n : k ≡ 0 → ⊥) where
+    pub depth-refuted : Refuting (2 + k) → false ≡ eqb (requiredAt chess byte b) (2 + k)
+    depth-refuted r = sym (ne-eqb (requiredAt chess byte b) (2 + k) (refuted-other m (2 + k) (omega arith) r))
+
+    depth-met : (Refuting (2 + k) → ⊥) → Suiting (2 + k) → true ≡ eqb (requiredAt chess byte b) (2 + k)
+    depth-met clear s = sym (eq-eqb (requiredAt chess byte b) (2 + k) (met-required m (2 + k) (omega arith) clear s))
+
+    depth-unmet : (Suiting (2 + k) → ⊥) → false ≡ eqb (requiredAt chess byte b) (2 + k)
+    depth-unmet none-suits =
+        sym (ne-eqb (requiredAt chess byte b) (2 + k)
+        (λ q. small (inCheck b (b .side))
+        (sym (required-over (unmet-over m (2 + k) (omega arith) none-suits q)) ∙ q)))
+      where
+        small : (check : Bool) → cond check 2 1 ≡ 2 + k → ⊥
+        small true z = n (omega arith)
+        small false z = omega arith
+
   -- ---- of three pieces from whose squares all moves start
 
   module _ (x y z : ℕ) (starts : (from to : ℕ) → T (canMove b from to) → StartsAt x y z from) where
@@ -252,6 +272,11 @@ module _ (byte : Board → ℕ) (b : Board) where
         at from to u v (inl e) f g h = subst (Clear c) (sym e) f to u v
         at from to u v (inr (inl e)) f g h = subst (Clear c) (sym e) g to u v
         at from to u v (inr (inr e)) f g h = subst (Clear c) (sym e) h to u v
+
+    suiting-or : Plain b → (c from : ℕ) → Or c from
+    suiting-or m c from =
+        ⊎-elim (λ o. inl (o .0)) (λ o. inr (from, lowestSquare (suitingSet byte c b from), o .1 .can, o .1 .suiting))
+        (shown byte c b m from)
 
     -- three sets are empty exactly where nothing passes
     module _ (p : ℕ → ℕ → Bool) (can : (from to : ℕ) → T (p from to) → T (canMove b from to)) (sets : Reach)
@@ -299,3 +324,28 @@ module _ (byte : Board → ℕ) (b : Board) where
         gone : (l : List Move) (v : Move) → T (empty l) → v ∈ l → ⊥
         gone [] v t i = none-in refl i
         gone (w ∷ l) v t i = t
+
+    pub depth-told : (m : Plain b) (k : ℕ) (n : k ≡ 0 → ⊥) (sets : Reach) → Sets (2 + k) sets
+        → not (noTargets sets) ≡ eqb (requiredAt chess byte b) (2 + k)
+    depth-told m k n sets w = go (noTargets sets) refl
+      where
+        go : (e : Bool) → noTargets sets ≡ e → not e ≡ eqb (requiredAt chess byte b) (2 + k)
+        go true e =
+            depth-unmet m k n
+            (λ s. none-pass (suitsTo byte (2 + k) b)
+            (λ f g t. and-left (canMove b f g) (suits (2 + k) (byte (moved b f g))) t) sets (w .of-king) (w .of-first)
+            (w .of-second) e (s .0) (s .1)
+            (and-both (canMove b (s .0) (s .1)) (suits (2 + k) (byte (moved b (s .0) (s .1)))) (s .2) (s .3)))
+        go false e = at (suiting-or m (2 + k) x) (suiting-or m (2 + k) y) (suiting-or m (2 + k) z)
+          where
+            at : Or (2 + k) x → Or (2 + k) y → Or (2 + k) z → true ≡ eqb (requiredAt chess byte b) (2 + k)
+            at (inr s) v r = depth-met m k n (w .clear) s
+            at (inl i) (inr s) r = depth-met m k n (w .clear) s
+            at (inl i) (inl j) (inr s) = depth-met m k n (w .clear) s
+            at (inl i) (inl j) (inl l) =
+                absurd (true-not-false {b = noTargets sets}
+                (rw (
+                  eq-eqb (sets .king) 0 (w .of-king ∙ i),
+                  eq-eqb (sets .first) 0 (w .of-first ∙ j),
+                  eq-eqb (sets .second) 0 (w .of-second ∙ l),
+                )) e)

@@ -9,7 +9,7 @@ use Rattle.rules.specs.Chess.{chess}
 use Rattle.position.specs.Posed.{materialFor}
 use Rattle.four_men.specs.Reading.{numbered}
 use Rattle.four_men.specs.Steps.{nothing}
-use Rattle.filling.specs.laws.Code.{size-most}
+use Rattle.working_back.specs.laws.Admitted.{size-most}
 use Rattle.filling.proofs.bytes.start.Statement.{statement}
 use Rattle.filling.proofs.bytes.start.Tie as tie
 

@@ -8,13 +8,12 @@ use borrow.Author.Needs.{needs}
 use Rattle.table_theory.specs.Tables.{undecided, ended}
 use Rattle.table_theory.specs.Lending.{passesUntil}
 use Rattle.rules.specs.Chess.{chess}
-use Rattle.filling.specs.Admitted.{over}
+use Rattle.working_back.specs.Admitted.{over}
 use Rattle.filling.specs.Stepping.{deeperThan, lastOf}
-use Rattle.filling.specs.laws.Code.{long, run-long, admitted-kept}
-use Rattle.filling.specs.Trying.{Ready}
-use Rattle.filling.specs.laws.Won.{ready-start}
+use Rattle.working_back.specs.laws.Admitted.{long, run-long, admitted-kept}
+use Rattle.working_back.specs.Trying.{Ready}
 use Rattle.filling.specs.laws.StepCode.{step-went, step-ended, ready-after}
-use Rattle.filling.specs.laws.FillLaws.{start-long, filled-so}
+use Rattle.filling.specs.laws.FillLaws.{start-long, started-ready, filled-so}
 use Rattle.filling.proofs.fill_table.fill_men.Statement.{statement}
 use Rattle.filling.proofs.fill_table.fill_men.Tie as tie
 
@@ -39,7 +38,7 @@ start-requires c κs = let s = c .before .before .before .before .before in (s .
 loop-holds : tie.Need-loop-holds Inv-loop μ-loop
 loop-holds c =
     let s = c .before .before .before .before .before .before .before .before in
-    (omega arith, refl, refl, refl, ready-start chess (over (s .args .m) (s .args .first .now) (s .args .second .now)) _)
+    (omega arith, refl, refl, refl, started-ready (s .args .m) (s .args .first .now) (s .args .second .now) _ _ (c .before .before .start .ensures))
 
 step-at-requires : tie.Need-step-at-requires Inv-loop μ-loop
 step-at-requires c κs =

@@ -4,7 +4,7 @@ use native.Mathlib.Omega.{arith}
 use borrow.Author.Needs.{needs}
 use Rattle.finite.specs.Truth.{true-not-false}
 use Rattle.deciding.specs.laws.PawnLaws.{given-known}
-use Rattle.filling.specs.laws.Code.{lent-long}
+use Rattle.working_back.specs.laws.Admitted.{lent-long}
 use Rattle.filling.specs.laws.Quiet.{quiet-one, quiet-two}
 use Rattle.filling.proofs.halves.may_settle.Statement.{statement}
 use Rattle.filling.proofs.halves.may_settle.Tie as tie

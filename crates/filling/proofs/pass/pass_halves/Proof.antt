@@ -7,9 +7,9 @@ use lib.ListN.{length}
 use Rattle.finite.specs.Mapped.{Upto, upto-none}
 use Rattle.table_theory.specs.Tables.{passByte}
 use Rattle.rules.specs.Chess.{chess}
-use Rattle.filling.specs.Admitted.{over}
+use Rattle.working_back.specs.Admitted.{over}
 use Rattle.filling.specs.laws.Laws.{settledBelow, settled-none, settled-low, settle-one, pass-turn, pass-done}
-use Rattle.filling.specs.laws.Code.{most, sized, admitted-kept}
+use Rattle.working_back.specs.laws.Admitted.{most, sized, admitted-kept}
 use Rattle.filling.specs.laws.Quiet.{quiet-here}
 use Rattle.filling.proofs.pass.pass_halves.Statement.{statement}
 use Rattle.filling.proofs.pass.pass_halves.Tie as tie

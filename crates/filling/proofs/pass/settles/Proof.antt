@@ -1,7 +1,8 @@
 -- `filling::settles` meets its contract.
 use native.Mathlib.Omega.{arith}
 use borrow.Author.Needs.{needs}
-use Rattle.filling.specs.laws.Code.{in-size, small-number, verdict-settled, verdict-required}
+use Rattle.working_back.specs.laws.Admitted.{in-size, small-number}
+use Rattle.filling.specs.laws.Code.{verdict-settled, verdict-required}
 use Rattle.filling.proofs.pass.settles.Statement.{statement}
 use Rattle.filling.proofs.pass.settles.Tie as tie
 

@@ -5,9 +5,9 @@ use Prim.Native.Nat.{ℕ, _<_, _≤_, _-_}
 use native.Mathlib.Omega.{arith}
 use lib.ListN.{length}
 use Rattle.rules.specs.Chess.{chess}
-use Rattle.filling.specs.Admitted.{over}
+use Rattle.working_back.specs.Admitted.{over}
 use Rattle.filling.specs.laws.Laws.{someBelow, none-below, none-yet, some-now, none-at-all}
-use Rattle.filling.specs.laws.Code.{sized, most}
+use Rattle.working_back.specs.laws.Admitted.{sized, most}
 use Rattle.filling.proofs.pass.some_settles.Statement.{statement}
 use Rattle.filling.proofs.pass.some_settles.Tie as tie
 

@@ -1,5 +1,5 @@
 -- `filling::step_below` meets its contract.
-use Rattle.filling.specs.laws.Code.{sized}
+use Rattle.working_back.specs.laws.Admitted.{sized}
 use Rattle.filling.specs.laws.StepCode.{code-more, code-done, code-skip}
 use borrow.Author.Needs.{needs}
 use Rattle.filling.proofs.steps.step_below.Statement.{statement}

@@ -1,6 +1,6 @@
 -- `filling::step_from` meets its contract.
 use native.Mathlib.Omega.{arith}
-use Rattle.filling.specs.laws.Code.{run-long}
+use Rattle.working_back.specs.laws.Admitted.{run-long}
 use Rattle.filling.specs.laws.StepCode.{from-going-code, from-done-code, from-ten-code}
 use borrow.Author.Needs.{needs}
 use Rattle.filling.proofs.taking.step_from.Statement.{statement}

@@ -1,7 +1,7 @@
 -- `filling::pass_in` meets its contract.
 use mathlib.Core.Path.{refl}
+use native.Mathlib.Omega.{arith}
 use borrow.Author.Needs.{needs}
-use borrow.Author.Tests.{eqb-true}
 use Rattle.finite.specs.Truth.{true-not-false}
 use Rattle.filling.proofs.ways.pass_in.Statement.{statement}
 use Rattle.filling.proofs.ways.pass_in.Tie as tie
@@ -17,9 +17,8 @@ same-length c = search needs
 returns : tie.Need-returns
 returns c = search needs
 
-pass-by-requires : tie.Need-pass-by-requires
-pass-by-requires c κs =
-    let p = c .before .before .before .before .before .pre in (p .0, p .1, λ e. p .2 (eqb-true _ _ e))
+pass-requires : tie.Need-pass-requires
+pass-requires c κs = search needs
 
 same-length-2 : tie.Need-same-length-2
 same-length-2 c = search needs
@@ -27,7 +26,28 @@ same-length-2 c = search needs
 returns-2 : tie.Need-returns-2
 returns-2 c = search needs
 
+pass-requires-2 : tie.Need-pass-requires-2
+pass-requires-2 c κs = search needs
+
+same-length-3 : tie.Need-same-length-3
+same-length-3 c = search needs
+
+returns-3 : tie.Need-returns-3
+returns-3 c = search needs
+
+pass-back-requires : tie.Need-pass-back-requires
+pass-back-requires c κs =
+    let p = c .before .before .before .before .before .before .before .pre in
+    (omega (arith, c .before .if3 .left), p .0, p .1, p .2 (c .before .before .if2 .left))
+
+same-length-4 : tie.Need-same-length-4
+same-length-4 c = search needs
+
+returns-4 : tie.Need-returns-4
+returns-4 c = search needs
+
 pub pass-in-spec : {M : Type 1} → statement M
 pass-in-spec =
     tie.close
-    (tie.spec pass-halves-requires same-length returns pass-by-requires same-length-2 returns-2)
+    (tie.spec pass-halves-requires same-length returns pass-requires same-length-2 returns-2 pass-requires-2 same-length-3 returns-3
+    pass-back-requires same-length-4 returns-4)

@@ -1,11 +1,11 @@
 -- `retracting::legal_from` meets its contract: the squares kept so far, and those of the rest that pass, are all that pass.
-use mathlib.Core.Path.{_≡_, sym, ap, subst⁻¹, _∙_}
-use mathlib.Core.Bool.{Bool, not, _&&_, _||_, or-false}
+use mathlib.Core.Path.{_≡_, sym, subst⁻¹, _∙_}
+use mathlib.Core.Bool.{Bool, _&&_, _||_, or-false}
 use mathlib.Core.Logic.{⊎-elim}
 use Prim.Native.Nat.{ℕ, _^_, _<_}
-use lib.Dec.{T, eqb, eqb-refl}
+use lib.Dec.{T, eqb}
 use lib.ListN.{length}
-use Rattle.finite.specs.Truth.{or-left, or-right}
+use Rattle.finite.specs.Truth.{or-right}
 use Rattle.board.specs.Sets.{has, members}
 use Rattle.board.specs.laws.SetLaws.{has-none, set-has}
 use Rattle.board.specs.laws.LowestLaws.{Lowest, lowest-of}

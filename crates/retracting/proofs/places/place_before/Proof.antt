@@ -1,5 +1,4 @@
 -- `retracting::place_before` meets its contract.
-use mathlib.Core.Path.{_≡_}
 use Rattle.retracting.specs.laws.Code.{before-by}
 use Rattle.retracting.proofs.places.place_before.Statement.{statement}
 use Rattle.retracting.proofs.places.place_before.Tie as tie

@@ -1,5 +1,4 @@
 -- `retracting::unchecking` meets its contract.
-use mathlib.Core.Path.{_≡_}
 use Rattle.retracting.specs.laws.Code.{apart-there, unstruck}
 use Rattle.retracting.proofs.places.unchecking.Statement.{statement}
 use Rattle.retracting.proofs.places.unchecking.Tie as tie

@@ -1,0 +1,6 @@
+pub mod Admitted
+pub mod Trying
+pub mod Back
+pub mod Lines
+pub mod Bare
+pub mod laws

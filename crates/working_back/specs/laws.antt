@@ -1,0 +1,15 @@
+pub mod Admitted
+pub mod Few
+pub mod Trying
+pub mod Won
+pub mod Lone
+pub mod Found
+pub mod Places
+pub mod Sources
+pub mod Lines
+pub mod Into
+pub mod Own
+pub mod Saved
+pub mod BareMoves
+pub mod BareLost
+pub mod Captures

@@ -1,0 +1,190 @@
+-- A position that has a move to one of depth k - 1: what trying its number comes to.
+use mathlib.Core.Path.{_≡_, sym, ap, subst, subst⁻¹, _∙_}
+use mathlib.Core.Bool.{true, false, Bool}
+use mathlib.Core.Logic.{_⊎_, inl, inr}
+use mathlib.Core.List.{List, Memᴰ·cast}
+use Prim.Native.Nat.{ℕ, _+_, _-_, _%_, _<_, _≤_}
+use native.Mathlib.Omega.{arith}
+use lib.Dec.{T, eqb}
+use lib.ListN.{length, getD, set, List·getD-eq-default}
+use Rattle.finite.specs.Truth.{of-true, refuted}
+use Rattle.finite.specs.Members.{_∈_, map-in}
+use Rattle.theory.specs.Game.{next}
+use Rattle.theory.specs.Required.{requiredAt}
+use Rattle.table_theory.specs.Tables.{Numbering, settles, reads}
+use Rattle.rules.specs.declared.Piece.{Piece}
+use Rattle.rules.specs.Rules.{Board, empty}
+use Rattle.rules.specs.Chess.{chess, played, in-moves}
+use Rattle.rules.specs.laws.Legal.{legal-pawnless}
+use Rattle.rules.specs.laws.CanMove.{can-on}
+use Rattle.rules.specs.laws.MoveLists.{none-promotes}
+use Rattle.numbering.specs.declared.Material.{Material}
+use Rattle.numbering.specs.Number.{numberOf}
+use Rattle.numbering.specs.Material.{known, OfMaterial}
+use Rattle.position.specs.declared.Men.{Men}
+use Rattle.position.specs.declared.Place.{Place}
+use Rattle.position.specs.Posed.{boardIn, materialFor, Complete}
+use Rattle.index.specs.Endings.{numberIn}
+use Rattle.index.specs.laws.EndingsLaws.{of-legal, pieces-number}
+use Rattle.movegen.specs.laws.Places.{place-moved}
+use Rattle.four_men.specs.Lending.{lent}
+use Rattle.four_men.specs.Reading.{full, numbered}
+use Rattle.four_men.specs.laws.Materials.{one-of, two-of}
+use Rattle.four_men.specs.laws.Numbered.{lawfulWith}
+use Rattle.retracting.specs.Retracting.{Leads}
+use Rattle.working_back.specs.Admitted.{over, Admitted}
+use Rattle.working_back.specs.Trying.{Midway}
+use Rattle.working_back.specs.Back.{Ripe, TriesPlace}
+use Rattle.working_back.specs.laws.Admitted.{sized}
+use Rattle.working_back.specs.laws.Few.{few-none, few-one}
+use Rattle.working_back.specs.laws.Trying.{settles-midway, went-none, went-one, now-there}
+use Rattle.working_back.specs.laws.Won.{settles-at, won-from}
+
+full-own : (m : Material) → T (known m) → (b : Board) → OfMaterial m b → T (full m (b .men))
+full-own Material.Pawn w b o = absurd w
+full-own (Material.One kind) w b o = subst⁻¹ (λ (l : List Piece). T (full (Material.One kind) l)) (one-of kind (b .men) o .1) tt
+full-own (Material.Two j k r) w b o = subst⁻¹ (λ (l : List Piece). T (full (Material.Two j k r) l)) (two-of j k r (b .men) o .2) tt
+
+manned : (m : Material) → T (known m) → (b : Board) → OfMaterial m b → empty (b .men) ≡ false
+manned Material.Pawn w b o = absurd w
+manned (Material.One kind) w b o = ap (λ (l : List Piece). empty l) (one-of kind (b .men) o .1)
+manned (Material.Two j k r) w b o = ap (λ (l : List Piece). empty l) (two-of j k r (b .men) o .2)
+
+module _ (m : Men) (o q : Place) (from to : ℕ) (l : Leads m o from to q) where
+  next-in : boardIn m q ∈ next chess (boardIn m o)
+  next-in =
+      let on = can-on (boardIn m o) from to (l .can) in
+      Memᴰ·cast
+      (ap (λ (p : Place). boardIn m p) (sym (l .arrives)) ∙ place-moved from to (on .0) (on .1) m o)
+      (map-in (played (boardIn m o))
+      (in-moves (boardIn m o) from to (manned (materialFor m) (l .complete .ending) (boardIn m o) (l .complete .men)) (l .can)
+      (none-promotes (boardIn m o) from to (legal-pawnless (boardIn m o) (l .legality)))))
+
+  abbrev M : Material
+  M = materialFor m
+
+  abbrev b : Board
+  b = boardIn m o
+
+  module _ (first second : List ℕ) (k : ℕ) where
+    abbrev N : Numbering chess
+    N = over m first second
+
+    settles-in : (t : List ℕ) → getD t (numberIn M b) 0 ≡ 1
+        → settles chess N k t (numberIn M b) ≡ eqb (requiredAt chess (reads chess N t) b) (2 + k)
+    unfolding lawfulWith numbered
+    settles-in t e =
+        settles-at chess N (lawfulWith M (l .complete .ending) (lent first second)) k t b
+        (record { legality = of-legal M (l .complete .ending) b (l .legality); men = inl (l .complete .men) })
+        (full-own M (l .complete .ending) b (l .complete .men)) e
+
+    -- its number is settled exactly where the depth is required of it
+    place-settles : (t : List ℕ) → getD t (numberOf b) 0 ≡ 1
+        → settles chess N k t (numberOf b) ≡ eqb (requiredAt chess (reads chess N t) b) (2 + k)
+    place-settles t =
+        subst (λ (f : Board → ℕ). getD t (f b) 0 ≡ 1
+        → settles chess N k t (f b) ≡ eqb (requiredAt chess (reads chess N t) b) (2 + k))
+        (pieces-number M (l .complete .ending)) (settles-in t)
+
+    won-in : (t : List ℕ) → k % 2 ≡ 1 → Ripe m first second k t q → getD t (numberIn M b) 0 ≡ 1
+        → T (settles chess N k t (numberIn M b))
+    unfolding lawfulWith numbered
+    won-in t odd r e =
+        won-from chess N k t odd (r .ready) (lawfulWith M (l .complete .ending) (lent first second)) b (boardIn m q)
+        (record { legality = of-legal M (l .complete .ending) b (l .legality); men = inl (l .complete .men) })
+        (full-own M (l .complete .ending) b (l .complete .men)) next-in (r .byte) e
+
+    -- k odd: if it holds 1, it is settled
+    place-won : (t : List ℕ) → k % 2 ≡ 1 → Ripe m first second k t q → getD t (numberOf b) 0 ≡ 1
+        → T (settles chess N k t (numberOf b))
+    place-won t odd r =
+        subst (λ (f : Board → ℕ). getD t (f b) 0 ≡ 1 → T (settles chess N k t (f b)))
+        (pieces-number M (l .complete .ending)) (won-in t odd r)
+
+    -- ---- what trying it comes to
+
+    module _ (u : List ℕ) (a : Admitted m first second u) where
+      long-t : (t : List ℕ) → Midway chess N k t u → length t ≡ N .size
+      long-t t w = sym (w .long) ∙ sized m first second u a
+
+      -- it does not hold 1
+      pub place-other : (getD u (numberOf b) 0 ≡ 1 → ⊥) → TriesPlace m first second k q o u u 0
+      place-other e = (few-none k 1 u, λ t w r. (went-none chess N k t (long-t t w) u w, λ s z. e z))
+
+      pub place-out : length u ≤ numberOf b → TriesPlace m first second k q o u u 0
+      place-out h =
+          place-other (λ z. let y : getD u (numberOf b) 0 ≡ 0 = List·getD-eq-default u 0 h in omega (arith, y, z))
+
+      module _ (h : numberOf b < length u) (e : getD u (numberOf b) 0 ≡ 1) where
+        settled : ((t : List ℕ) → Midway chess N k t u → Ripe m first second k t q → T (settles chess N k t (numberOf b)))
+            → TriesPlace m first second k q o u (set u (numberOf b) (2 + k)) 1
+        settled f = (
+          few-one k u (numberOf b) h e,
+          λ t w r. (
+            went-one chess N k t (long-t t w) u w (numberOf b) h (f t w r) e,
+            λ s z. omega (arith, z, now-there chess N k t (long-t t w) u w (numberOf b) h),
+          ),
+        )
+
+        was : (t : List ℕ) → Midway chess N k t u
+            → (getD u (numberOf b) 0 ≡ getD t (numberOf b) 0) ⊎ (T (settles chess N k t (numberOf b)) × (getD u (numberOf b) 0 ≡ 2 + k))
+            → getD t (numberOf b) 0 ≡ 1
+        was t w (inl x) = sym x ∙ e
+        was t w (inr x) = absurd (omega (arith, e, x .1))
+
+        pub place-odd : k % 2 ≡ 1 → TriesPlace m first second k q o u (set u (numberOf b) (2 + k)) 1
+        place-odd odd = settled (λ t w r. place-won t odd r (was t w (w .byte (numberOf b))))
+
+        pub place-lost : ((t : List ℕ) → Midway chess N k t u → Ripe m first second k t q → eqb (requiredAt chess (reads chess N u) b) (2 + k) ≡ true)
+            → TriesPlace m first second k q o u (set u (numberOf b) (2 + k)) 1
+        place-lost f =
+            settled (λ t w r. subst T (settles-midway chess N k t u w (numberOf b) e) (subst⁻¹ T (place-settles u e) (of-true (f t w r))))
+
+        pub place-kept : eqb (requiredAt chess (reads chess N u) b) (2 + k) ≡ false → TriesPlace m first second k q o u u 0
+        place-kept f = (
+          few-none k 1 u,
+          λ t w r. (
+            went-none chess N k t (long-t t w) u w,
+            λ s z. refuted (sym (settles-midway chess N k t u w (numberOf b) e) ∙ place-settles u e ∙ f) s,
+          ),
+        )
+
+-- as code has the number
+module _ (m : Men) (o q : Place) (from to : ℕ) (l : Leads m o from to q) (first second : List ℕ) (k : ℕ) (u : List ℕ)
+    (a : Admitted m first second u) (n : ℕ) (z : n ≡ numberOf (boardIn m o)) where
+  pub tried-out : length u ≤ n → TriesPlace m first second k q o u u 0
+  tried-out h = place-out m o q from to l first second k u a (subst (λ (i : ℕ). length u ≤ i) z h)
+
+  pub tried-other : (getD u n 0 ≡ 1 → ⊥) → TriesPlace m first second k q o u u 0
+  tried-other d = place-other m o q from to l first second k u a (subst (λ (i : ℕ). getD u i 0 ≡ 1 → ⊥) z d)
+
+  module _ (h : n < length u) (e : getD u n 0 ≡ 1) where
+    here : numberOf (boardIn m o) < length u
+    here = subst (λ (i : ℕ). i < length u) z h
+
+    one : getD u (numberOf (boardIn m o)) 0 ≡ 1
+    one = subst (λ (i : ℕ). getD u i 0 ≡ 1) z e
+
+    written : {did : ℕ} → TriesPlace m first second k q o u (set u (numberOf (boardIn m o)) (2 + k)) did
+        → TriesPlace m first second k q o u (set u n (2 + k)) did
+    written {did} x = subst⁻¹ (λ (i : ℕ). TriesPlace m first second k q o u (set u i (2 + k)) did) z x
+
+    pub tried-odd : k % 2 ≡ 1 → TriesPlace m first second k q o u (set u n (2 + k)) 1
+    tried-odd odd = written (place-odd m o q from to l first second k u a here one odd)
+
+    pub tried-lost : ((t : List ℕ) → Midway chess (over m first second) k t u → Ripe m first second k t q
+        → eqb (requiredAt chess (reads chess (over m first second) u) (boardIn m o)) (2 + k) ≡ true)
+        → TriesPlace m first second k q o u (set u n (2 + k)) 1
+    tried-lost f = written (place-lost m o q from to l first second k u a here one f)
+
+    pub tried-kept : eqb (requiredAt chess (reads chess (over m first second) u) (boardIn m o)) (2 + k) ≡ false
+        → TriesPlace m first second k q o u u 0
+    tried-kept f = place-kept m o q from to l first second k u a here one f
+
+    -- what the look forward tells
+    pub told-required : (made : Place) (r : Bool) → made ≡ o
+        → (Complete m made → r ≡ eqb (requiredAt chess (reads chess (over m first second) u) (boardIn m made)) (2 + k))
+        → eqb (requiredAt chess (reads chess (over m first second) u) (boardIn m o)) (2 + k) ≡ r
+    told-required made r y f =
+        sym (f (subst⁻¹ (Complete m) y (l .complete))
+        ∙ ap (λ (p : Place). eqb (requiredAt chess (reads chess (over m first second) u) (boardIn m p)) (2 + k)) y)

@@ -1,0 +1,9 @@
+// A pass that works back from the positions just settled, for pieces.
+mod back;
+mod bare;
+mod captures;
+mod into;
+mod lines;
+mod trying;
+
+pub use back::pass_back;
