@@ -1,5 +1,5 @@
-//! What the hostile programs share: the sequence, the lines, the calls, the pockets, and
-//! running a desk.
+//! What the hostile programs share: the sequence, the lines, the calls, the pockets, how they begin and
+//! end, and running a desk.
 
 pub mod calls;
 pub mod exchange;
@@ -12,6 +12,7 @@ pub mod pawn_due;
 pub mod pawn_steps;
 pub mod pawn_tables;
 pub mod pocket;
+pub mod running;
 pub mod sequence;
 pub mod steps;
 pub mod turns;

@@ -24,10 +24,12 @@ const LENGTHS: [usize; 7] =
 /// Words given that are no ending's.
 const WORDS: usize = 2_000;
 
-pub(crate) fn code<T>(answer: Result<T, Refused>, said: impl FnOnce(T) -> u64) -> u64 {
+/// An answer's word: the refusal, or what is said of the rest.
+pub fn code<T>(answer: Result<T, Refused>, said: impl FnOnce(T) -> u64) -> u64 {
     answer.map_or_else(|Refused(code)| code as u64, said)
 }
 
+/// The word of a check that is not refused: bit 8 a byte is wrong, 32 on its number.
 pub fn checked_word(checked: Checked) -> u64 {
     match checked {
         Checked::Accepted => 0,
@@ -35,7 +37,8 @@ pub fn checked_word(checked: Checked) -> u64 {
     }
 }
 
-pub(crate) fn filled_word(greatest: Option<u8>) -> u64 {
+/// The word of a fill that is not refused: bit 8 some position is decided, 16-23 the greatest depth.
+pub fn filled_word(greatest: Option<u8>) -> u64 {
     greatest.map_or(0, |depth| 1 << 8 | (depth as u64) << 16)
 }
 

@@ -8,20 +8,13 @@ use std::time::Instant;
 
 use hostile::calls::Tally;
 use hostile::lent::{fill_back, two_men, Small, NONE, SMALL_BYTES};
+use hostile::running::{endings, over_words};
+use hostile::two_tables::{code, filled_word};
 use second::ending::Ending;
 use second::fill_every;
 use second::four_back;
 use second::four_counts::{filled, SmallTables};
 use second::position::{Man, Refused, MEN};
-
-/// The answer of a fill: bits 0-7 refusal, bit 8 some position is decided, 16-23 greatest depth.
-fn filled_word(answer: Result<Option<u8>, Refused>) -> u32 {
-    match answer {
-        Ok(Some(depth)) => 1 << 8 | (depth as u32) << 16,
-        Ok(None) => 0,
-        Err(Refused(code)) => code as u32,
-    }
-}
 
 /// The library's fill of an ending beside the oracle's answer and bytes.
 fn compare(
@@ -39,7 +32,7 @@ fn compare(
         Ok(Some(depth)) => depth.to_string(),
         _ => "none".to_string(),
     };
-    tally.add("word of filling back", &name, answer, filled_word(due));
+    tally.add("word of filling back", &name, answer as u64, code(due, filled_word));
     tally.bytes(name, table.len() as u64, unlike as u64);
     println!("{name}: greatest depth {depth}, {unlike} bytes unlike, {seconds:.2} s");
     table
@@ -59,16 +52,6 @@ fn two(ending: Ending, ours: &[Vec<u8>; 4], theirs: &SmallTables, tally: &mut Ta
     compare(&ending.name(), asked, (due, &bytes), tally);
 }
 
-fn endings(words: &[String]) -> Result<Vec<Ending>, String> {
-    if words.is_empty() {
-        return Ok(Ending::all().collect());
-    }
-    let named = |word: &String| {
-        Ending::named(word).ok_or(format!("no ending {word}: give KQRK, KQKR and so on"))
-    };
-    words.iter().map(named).collect()
-}
-
 fn run(words: &[String]) -> Result<Tally, String> {
     let endings = endings(words)?;
     let mut tally = Tally::default();
@@ -81,15 +64,5 @@ fn run(words: &[String]) -> Result<Tally, String> {
 }
 
 fn main() -> ExitCode {
-    let words: Vec<String> = std::env::args().skip(1).collect();
-    match run(&words) {
-        Ok(Tally { compared, differ }) => {
-            println!("{compared} compared, {differ} differ");
-            ExitCode::from((differ > 0) as u8)
-        }
-        Err(message) => {
-            eprintln!("back: {message}");
-            ExitCode::from(2)
-        }
-    }
+    over_words("back", run)
 }

@@ -9,22 +9,14 @@ use std::time::Instant;
 
 use hostile::calls::Tally;
 use hostile::lent::{check, fill, two_men, LARGE_BYTES, NONE, SMALL_BYTES};
+use hostile::running::{endings, over_words};
 use hostile::sequence::Sequence;
-use hostile::two_tables::checked_word;
+use hostile::two_tables::{checked_word, code, filled_word};
 use second::ending::Ending;
 use second::four_back;
 use second::four_counts::{filled, SmallTables};
 use second::four_table;
-use second::position::{Refused, MEN};
-
-/// The answer of a fill: bits 0-7 refusal, bit 8 some position is decided, 16-23 greatest depth.
-fn filled_word(answer: Result<Option<u8>, Refused>) -> u32 {
-    match answer {
-        Ok(Some(depth)) => 1 << 8 | (depth as u32) << 16,
-        Ok(None) => 0,
-        Err(Refused(code)) => code as u32,
-    }
-}
+use second::position::MEN;
 
 /// The library's four tables of one man.
 fn small_tables() -> [Vec<u8>; 4] {
@@ -47,7 +39,7 @@ fn damage(ending: Ending, small: [&[u8]; 2], table: &mut [u8], tally: &mut Tally
         let right = table[number];
         table[number] = right.wrapping_add(1 + sequence.byte() % 255);
         let due = four_table::check(ending.codes(), ending.one_each, table, small);
-        let due = due.map_or_else(|Refused(code)| code as u64, checked_word);
+        let due = code(due, checked_word);
         let asked = (ending.name(), number, table[number]);
         tally.add("check of a damaged table", &asked, check(word, small, table), due);
         table[number] = right;
@@ -64,22 +56,12 @@ fn compare(ending: Ending, ours: &[Vec<u8>; 4], theirs: &SmallTables, tally: &mu
     let seconds = begun.elapsed().as_secs_f64();
     let (greatest, due) = filled(ending, theirs, four_back::fill);
     let unlike = table.iter().zip(&due).filter(|(one, other)| one != other).count();
-    tally.add("fill's word", &name, answer, filled_word(greatest));
+    tally.add("fill's word", &name, answer as u64, code(greatest, filled_word));
     tally.add("check's word", &name, check(word, small, &table), 0);
     tally.bytes(&name, table.len() as u64, unlike as u64);
     damage(ending, small, &mut table, tally);
     let depth = greatest.ok().flatten().map_or("none".to_string(), |depth| depth.to_string());
     println!("{name}: greatest depth {depth}, {unlike} bytes unlike, {seconds:.1} s");
-}
-
-fn endings(words: &[String]) -> Result<Vec<Ending>, String> {
-    if words.is_empty() {
-        return Ok(Ending::all().collect());
-    }
-    let named = |word: &String| {
-        Ending::named(word).ok_or(format!("no ending {word}: give KQRK, KQKR and so on"))
-    };
-    words.iter().map(named).collect()
 }
 
 fn run(words: &[String]) -> Result<Tally, String> {
@@ -93,15 +75,5 @@ fn run(words: &[String]) -> Result<Tally, String> {
 }
 
 fn main() -> ExitCode {
-    let words: Vec<String> = std::env::args().skip(1).collect();
-    match run(&words) {
-        Ok(Tally { compared, differ }) => {
-            println!("{compared} compared, {differ} differ");
-            ExitCode::from((differ > 0) as u8)
-        }
-        Err(message) => {
-            eprintln!("four: {message}");
-            ExitCode::from(2)
-        }
-    }
+    over_words("four", run)
 }

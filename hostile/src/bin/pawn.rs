@@ -7,22 +7,17 @@ use std::process::ExitCode;
 
 use hostile::calls::Tally;
 use hostile::pawn::{self, Tables};
+use hostile::running::from_seed;
 use hostile::sequence::Sequence;
 use hostile::{pawn_steps, pawn_tables};
 use second::pawn_counts::PawnTruth;
 use second::pawn_fill;
-
-const SEED: u64 = 2049;
 
 /// Damages of the pawn's table, of each small table, look-ups in damaged tables, and random steps.
 const DAMAGES: usize = 200;
 const UNACCEPTED: usize = 12;
 const LOOK_UPS: usize = 400_000;
 const STEPS: usize = 200;
-
-fn told(what: &str, tally: &Tally) {
-    println!("{what}: {} compared, {} differ so far", tally.compared, tally.differ);
-}
 
 /// Filling first. The tables are then known to be the oracle's, or told not to be: those are looked up in.
 fn tables(sequence: &mut Sequence, tally: &mut Tally) -> (Vec<u8>, Vec<u8>) {
@@ -31,25 +26,25 @@ fn tables(sequence: &mut Sequence, tally: &mut Tally) -> (Vec<u8>, Vec<u8>) {
         run.iter().zip(truth.lent.iter().flatten()).filter(|(one, due)| one != due).count();
     tally.bytes("the four small tables", run.len() as u64, unlike as u64);
     pawn_tables::filled(&run, &truth.own, tally);
-    told("every byte of the table", tally);
+    tally.told("every byte of the table");
     let (stepped, empty) = pawn_steps::whole(&run, tally);
     tally.add("bytes after the last step", &empty, stepped == truth.own, true);
-    told(&format!("every step, {empty} that settle none"), tally);
+    tally.told(&format!("every step, {empty} that settle none"));
     let kinds = pawn_steps::random(STEPS, &run, sequence, tally);
-    told(&format!("{STEPS} steps from random bytes and progress words, {kinds:?}"), tally);
+    tally.told(&format!("{STEPS} steps from random bytes and progress words, {kinds:?}"));
     (truth.lent.concat(), truth.own)
 }
 
 /// Tables that are too short, not accepted or damaged.
 fn hostile_tables(tables: Tables, sequence: &mut Sequence, tally: &mut Tally) {
     pawn_tables::lengths(tally);
-    told("lengths", tally);
+    tally.told("lengths");
     let refused = pawn_tables::unaccepted(UNACCEPTED, tables.run, sequence, tally);
-    told(&format!("{refused} runs of small tables that gave 17"), tally);
+    tally.told(&format!("{refused} runs of small tables that gave 17"));
     let lower = pawn_tables::checks(DAMAGES, tables, sequence, tally);
-    told(&format!("{DAMAGES} damages checked, {lower} show at a lower number"), tally);
+    tally.told(&format!("{DAMAGES} damages checked, {lower} show at a lower number"));
     let (refused, small) = pawn_tables::look_ups(LOOK_UPS, tables, sequence, tally);
-    told(&format!("look-ups in damaged tables, {small} in a small one: {refused} gave 11"), tally);
+    tally.told(&format!("look-ups in damaged tables, {small} in a small one: {refused} gave 11"));
 }
 
 fn compare(seed: u64) -> Tally {
@@ -57,32 +52,19 @@ fn compare(seed: u64) -> Tally {
     let (run, own) = tables(&mut sequence, &mut tally);
     let (tables, tally) = (Tables { own: &own, run: &run }, &mut tally);
     let used = pawn::numbers(tally);
-    told(&format!("numbers back, {used} used"), tally);
+    tally.told(&format!("numbers back, {used} used"));
     let slips = pawn::boards(tables, &mut sequence, tally);
-    told(&format!("every board of both colours, {slips:?}"), tally);
+    tally.told(&format!("every board of both colours, {slips:?}"));
     let slips = pawn::counts(tables, tally);
-    told(&format!("boards at every count, {slips:?}"), tally);
+    tally.told(&format!("boards at every count, {slips:?}"));
     let refusals = pawn::words(tables, &mut sequence, tally);
-    told(&format!("random words, by refusal {refusals:?}"), tally);
+    tally.told(&format!("random words, by refusal {refusals:?}"));
     pawn::elsewhere(tally);
-    told("parts without a pawn", tally);
+    tally.told("parts without a pawn");
     hostile_tables(tables, &mut sequence, tally);
     std::mem::take(tally)
 }
 
 fn main() -> ExitCode {
-    let words: Vec<String> = std::env::args().skip(1).collect();
-    let seed = match &words[..] {
-        [] => Some(SEED),
-        [word] => word.parse().ok(),
-        _ => None,
-    };
-    let Some(seed) = seed else {
-        eprintln!("usage: pawn [SEED]");
-        return ExitCode::from(2);
-    };
-    println!("seed {seed}");
-    let Tally { compared, differ } = compare(seed);
-    println!("{compared} compared, {differ} differ");
-    ExitCode::from((differ > 0) as u8)
+    from_seed("pawn", compare)
 }

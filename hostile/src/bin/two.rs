@@ -5,22 +5,18 @@
 use std::process::ExitCode;
 
 use hostile::calls::Tally;
+use hostile::running::from_seed;
 use hostile::sequence::Sequence;
 use hostile::{two, two_tables};
 use second::ending::Ending;
 use second::four_back;
 use second::four_counts::{filled, SmallTables};
 
-const SEED: u64 = 2049;
 const STEPS: usize = 60;
 
 /// Of these endings every position's moves are listed, and every step is compared.
 const WHOLE: [&str; 2] = ["KQQK", "KQKR"];
 const STEPPED: &str = "KNNK";
-
-fn told(what: &str, tally: &Tally) {
-    println!("{what}: {} compared, {} differ so far", tally.compared, tally.differ);
-}
 
 /// Samples, any words and damaged tables of one ending.
 fn ending(ending: Ending, small: &SmallTables, sequence: &mut Sequence, tally: &mut Tally) -> u64 {
@@ -35,43 +31,30 @@ fn compare(seed: u64) -> Tally {
     let (small, mut refused) = (SmallTables::new(), 0);
     for each in Ending::all() {
         refused += ending(each, &small, &mut sequence, &mut tally);
-        told(&each.name(), &tally);
+        tally.told(&each.name());
     }
     println!("{refused} look-ups in damaged tables gave 11");
     for each in WHOLE.into_iter().filter_map(Ending::named) {
         two::all_lists(each, &mut tally);
-        told(&format!("all lists of {}", each.name()), &tally);
+        tally.told(&format!("all lists of {}", each.name()));
     }
     two_tables::lengths(&mut tally);
-    told("lengths", &tally);
+    tally.told("lengths");
     two_tables::wrong_words(&mut sequence, &mut tally);
-    told("words that are no ending's", &tally);
+    tally.told("words that are no ending's");
     let refused = two_tables::unaccepted(&mut sequence, &mut tally);
-    told(&format!("{refused} pairs of small tables that gave 17"), &tally);
+    tally.told(&format!("{refused} pairs of small tables that gave 17"));
     if let Some(each) = Ending::named(STEPPED) {
         let large = two_tables::run(each, small.bytes(each), &mut tally);
         let due = filled(each, &small, four_back::fill).1;
         tally.add("bytes after the last step", &STEPPED, large == due, true);
-        told(&format!("every step of {STEPPED}"), &tally);
+        tally.told(&format!("every step of {STEPPED}"));
     }
     let kinds = two_tables::random_steps(STEPS, &mut sequence, &mut tally);
-    told(&format!("{STEPS} steps from random bytes and progress words, {kinds:?}"), &tally);
+    tally.told(&format!("{STEPS} steps from random bytes and progress words, {kinds:?}"));
     tally
 }
 
 fn main() -> ExitCode {
-    let words: Vec<String> = std::env::args().skip(1).collect();
-    let seed = match &words[..] {
-        [] => Some(SEED),
-        [word] => word.parse().ok(),
-        _ => None,
-    };
-    let Some(seed) = seed else {
-        eprintln!("usage: two [SEED]");
-        return ExitCode::from(2);
-    };
-    println!("seed {seed}");
-    let Tally { compared, differ } = compare(seed);
-    println!("{compared} compared, {differ} differ");
-    ExitCode::from((differ > 0) as u8)
+    from_seed("two", compare)
 }
