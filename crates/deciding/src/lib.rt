@@ -9,6 +9,7 @@ pub use numbers::is_legal_number;
 pub use numbers::legal_at;
 pub use pawn::pawn_verdict;
 pub use settling::requires_at;
+pub use settling::requires_on;
 pub use verdicts::requires_byte;
 pub use verdicts::requires_depth;
 

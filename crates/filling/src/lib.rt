@@ -5,8 +5,10 @@ mod deepest;
 mod fill_table;
 mod halves;
 mod pass;
+mod rows;
 mod steps;
 mod taking;
+mod turns;
 mod ways;
 
 pub use bytes::clear;
