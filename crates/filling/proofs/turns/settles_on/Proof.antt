@@ -56,13 +56,13 @@ returns-3 c =
     (not-required (a .m) (a .first .now) (a .second .now) (a .table .now) (a .k) (a .n) w _ (p .3 w .board) _
     (c .before .requires-on .ensures full) (not-true _ (c .if3 .taken)))
 
-cast-is-legal-number : tie.Need-cast-is-legal-number
-cast-is-legal-number c =
+cast-is-legal-on : tie.Need-cast-is-legal-on
+cast-is-legal-on c =
     let e = c .before .before .before .before in
     let p = e .before .before .before .before .before .pre in omega (arith, small-number _ _ _ _ (p .1) _ (p .0))
 
-is-legal-number-requires : tie.Need-is-legal-number-requires
-is-legal-number-requires c κs = search needs
+is-legal-on-requires : tie.Need-is-legal-on-requires
+is-legal-on-requires c κs = search needs
 
 returns-4 : tie.Need-returns-4
 returns-4 c =
@@ -77,7 +77,7 @@ returns-4 c =
     verdict-required (a .m) (a .first .now) (a .second .now) (a .table .now) (a .k) (a .n) (p .2) _
     (legal-required (a .m) (a .first .now) (a .second .now) (a .table .now) (a .k) (a .n) w _ (p .3 w .board) _
     (f .before .requires-on .ensures full) (not-false _ (f .if3 .left)) _
-    (c .is-legal-number .ensures (p .1 .ending) (p .1 .colour) (in-size _ _ _ _ (p .1) _ (p .0))))
+    (c .is-legal-on .ensures (p .3 w)))
 
 pub settles-on-spec : {M : Type 1} → statement M
 settles-on-spec =
@@ -90,6 +90,6 @@ settles-on-spec =
     returns-2
     requires-on-requires
     returns-3
-    cast-is-legal-number
-    is-legal-number-requires
+    cast-is-legal-on
+    is-legal-on-requires
     returns-4)
