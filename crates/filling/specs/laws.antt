@@ -3,7 +3,6 @@ pub mod Greatest
 pub mod Halves
 pub mod Quiet
 pub mod Outside
-pub mod Rows
 pub mod StepLaws
 pub mod StepsTrue
 pub mod Handed

@@ -5,7 +5,6 @@ mod deepest;
 mod fill_table;
 mod halves;
 mod pass;
-mod rows;
 mod steps;
 mod taking;
 mod turns;

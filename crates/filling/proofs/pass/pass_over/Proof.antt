@@ -12,10 +12,10 @@ use Rattle.numbering.specs.Material.{known}
 use Rattle.position.specs.Posed.{materialFor}
 use Rattle.working_back.specs.Admitted.{over}
 use Rattle.working_back.specs.laws.Admitted.{most, sized, in-size, admitted-kept}
-use Rattle.filling.specs.Rows.{RowOf}
+use Rattle.deciding.specs.Rows.{RowOf}
 use Rattle.filling.specs.laws.Laws.{settledBelow, settled-none, settled-low, settle-one, pass-turn, pass-done}
 use Rattle.filling.specs.laws.Outside.{begins, ends}
-use Rattle.filling.specs.laws.Rows.{row-next}
+use Rattle.deciding.specs.laws.Rows.{row-next}
 use Rattle.filling.proofs.pass.pass_over.Statement.{statement}
 use Rattle.filling.proofs.pass.pass_over.Tie as tie
 

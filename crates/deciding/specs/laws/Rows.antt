@@ -20,7 +20,7 @@ use Rattle.index.specs.Seats.{StandsAt, alone}
 use Rattle.index.specs.laws.NormalKey.{oneBoard, pairBoard}
 use Rattle.index.specs.laws.SeatLaws.{board-one, board-two}
 use Rattle.index.specs.laws.PlaceLaws.{material-by, piece-by}
-use Rattle.filling.specs.Rows.{RowOf}
+use Rattle.deciding.specs.Rows.{RowOf}
 
 -- ---- the boards of a row
 

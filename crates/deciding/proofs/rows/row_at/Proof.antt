@@ -1,8 +1,8 @@
--- `filling::row_at` meets its contract.
+-- `rows::row_at` meets its contract.
 use borrow.Author.Needs.{needs}
-use Rattle.filling.specs.laws.Rows.{row-first}
-use Rattle.filling.proofs.rows.row_at.Statement.{statement}
-use Rattle.filling.proofs.rows.row_at.Tie as tie
+use Rattle.deciding.specs.laws.Rows.{row-first}
+use Rattle.deciding.proofs.rows.row_at.Statement.{statement}
+use Rattle.deciding.proofs.rows.row_at.Tie as tie
 
 place-at-requires : tie.Need-place-at-requires
 place-at-requires c κs = search needs

@@ -1,8 +1,8 @@
--- `filling::in_row` meets its contract, by how many men there are.
+-- `rows::in_row` meets its contract, by how many men there are.
 use borrow.Author.Needs.{needs}
-use Rattle.filling.specs.laws.Rows.{row-one, row-two}
-use Rattle.filling.proofs.rows.in_row.Statement.{statement}
-use Rattle.filling.proofs.rows.in_row.Tie as tie
+use Rattle.deciding.specs.laws.Rows.{row-one, row-two}
+use Rattle.deciding.proofs.rows.in_row.Statement.{statement}
+use Rattle.deciding.proofs.rows.in_row.Tie as tie
 
 cast-last : tie.Need-cast-last
 cast-last c = search needs

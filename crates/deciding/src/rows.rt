@@ -8,7 +8,7 @@ ghost use lib.Dec.{T};
 ghost use Rattle.numbering.specs.Material.{known, sizeOf};
 ghost use Rattle.position.specs.Posed.{materialFor};
 ghost use Rattle.index.specs.Seats.{StandsAt};
-ghost use Rattle.filling.specs.Rows.{RowOf};
+ghost use Rattle.deciding.specs.Rows.{RowOf};
 
 // The place at the first number of a row: found anew there, and kept within the row.
 pub fn row_at(m: Men, row: Place, n: u32) -> Place
