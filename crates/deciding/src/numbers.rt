@@ -11,13 +11,11 @@ use position::other;
 use successors::Standing;
 use successors::legal_at as legal_of_pieces;
 ghost use mathlib.Core.Path.{_≡_};
-ghost use mathlib.Core.Bool.{true};
 ghost use Prim.Native.Nat.{_<_};
 ghost use lib.Dec.{T};
 ghost use Rattle.numbering.specs.declared.Material.{Material};
 ghost use Rattle.numbering.specs.Material.{known, given, sizeOf};
-ghost use Rattle.position.specs.Posed.{materialFor, Complete};
-ghost use Rattle.index.specs.Seats.{StandsAt};
+ghost use Rattle.position.specs.Posed.{materialFor};
 ghost use Rattle.four_men.specs.Reading.{legalNumberOf};
 ghost use Rattle.deciding.specs.Deciding.{StandingFor};
 ghost use Rattle.deciding.specs.Rows.{RowOf};
@@ -43,16 +41,6 @@ pub fn legal_at(m: Men, n: u32) -> Standing
     legal_of_pieces(m, n)
 }
 
-// Whether the number is used and its position legal, of pieces by what stands there.
-pub fn is_legal_on(m: Men, q: Place, n: u32) -> bool
-    ensures { λ r. ⌜ (StandsAt m n q → (r ≡ legalNumberOf (materialFor m) n) × (r ≡ true → Complete m q)) ⌝ }
-{
-    if !is_used(m, q, n) {
-        return false;
-    }
-    !checked(m, q, other(q.side))
-}
-
 // The same as `legal_at`, of pieces by the place at the first number of the row.
 pub fn legal_in(m: Men, row: Place, n: u32) -> Standing
     ensures { λ r. ⌜ (T (given (materialFor m)) → (T (known (materialFor m)) → RowOf m n row) → StandingFor m n r) ⌝ }
@@ -61,7 +49,10 @@ pub fn legal_in(m: Men, row: Place, n: u32) -> Standing
         return legal_of_pawn(n);
     }
     let q = in_row(m, row, n);
-    if !is_legal_on(m, q, n) {
+    if !is_used(m, q, n) {
+        return Standing::Nothing;
+    }
+    if checked(m, q, other(q.side)) {
         return Standing::Nothing;
     }
     Standing::Legal(q)

@@ -1,6 +1,6 @@
 -- What stands at a number, of pieces and of a pawn.
-use mathlib.Core.Path.{_≡_, refl, sym, ap, subst, _∙_}
-use mathlib.Core.Bool.{Bool, true, false, not}
+use mathlib.Core.Path.{_≡_, sym, ap, subst, _∙_}
+use mathlib.Core.Bool.{true, false}
 use mathlib.Core.Logic.{inl, inr}
 use Prim.Native.Nat.{ℕ}
 use lib.Dec.{T}
@@ -10,8 +10,7 @@ use Rattle.numbering.specs.declared.Material.{Material}
 use Rattle.numbering.specs.Material.{known}
 use Rattle.position.specs.declared.Men.{Men}
 use Rattle.position.specs.declared.Place.{Place}
-use Rattle.position.specs.Posed.{materialFor, Complete}
-use Rattle.index.specs.Seats.{StandsAt}
+use Rattle.position.specs.Posed.{materialFor}
 use Rattle.index.specs.Endings.{boardFor}
 use Rattle.index.specs.laws.EndingsLaws.{pieces-board}
 use Rattle.four_men.specs.Reading.{legalNumberOf}
@@ -28,17 +27,6 @@ pub pieces-standing : (m : Men) (n : ℕ) (s : Standing) → T (known (materialF
 pieces-standing m n Standing.Nothing k w = w
 pieces-standing m n (Standing.Legal q) k w =
     (w .0, inl (w .1), w .2 ∙ sym (ap (λ (f : ℕ → Board). f n) (pieces-board (materialFor m) k)))
-
--- by a place
-pub place-standing : (m : Men) (n : ℕ) (q : Place) → T (known (materialFor m)) → StandsAt m n q
-    → legalNumberOf (materialFor m) n ≡ true → Complete m q → StandingFor m n (Standing.Legal q)
-place-standing m n q k s g c = pieces-standing m n (Standing.Legal q) k (g, c, s .board)
-
--- a position is legal unless the side not to move is in check
-pub not-checked : (check live : Bool) → (check ≡ true → live ≡ false) → (check ≡ false → live ≡ true)
-    → not check ≡ live
-not-checked true live f g = sym (f refl)
-not-checked false live f g = sym (g refl)
 
 -- ---- a pawn
 

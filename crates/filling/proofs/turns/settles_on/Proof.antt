@@ -77,7 +77,7 @@ returns-4 c =
     verdict-required (a .m) (a .first .now) (a .second .now) (a .table .now) (a .k) (a .n) (p .2) _
     (legal-required (a .m) (a .first .now) (a .second .now) (a .table .now) (a .k) (a .n) w _ (p .3 w .board) _
     (f .before .requires-on .ensures full) (not-false _ (f .if3 .left)) _
-    (c .is-legal-on .ensures (p .3 w) .0))
+    (c .is-legal-on .ensures (p .3 w)))
 
 pub settles-on-spec : {M : Type 1} → statement M
 settles-on-spec =
