@@ -3,8 +3,7 @@ use mathlib.Core.Path.{_≡_, refl, sym, ap, ap₂, subst, _∙_}
 use mathlib.Core.Logic.{_⊎_, inl, inr, ⊎-elim}
 use mathlib.Core.Bool.{Bool, true, false, cond, not, _&&_, _||_}
 use mathlib.Core.List.{List}
-use Prim.Native.Nat.{ℕ, zero, suc, _+_, _*_, _^_, _<_}
-use native.Mathlib.Nat.{pow-suc}
+use Prim.Native.Nat.{ℕ, _^_, _<_}
 use native.Mathlib.Omega.{arith}
 use lib.Bits.{bitOr, or-lt}
 use lib.Dec.{T, eqb}
@@ -13,27 +12,13 @@ use Rattle.finite.specs.Truth.{of-true, refuted, and-left, or-left, or-right, o
 use Rattle.finite.specs.Members.{any, any-in, any-out}
 use Rattle.theory.specs.Play.{suits}
 use Rattle.theory.specs.Judge.{refutes}
-use Rattle.board.specs.Sets.{has, members, digit, pack, setOf}
-use Rattle.board.specs.laws.SetLaws.{has-none, has-or, has-setOf, set-is, set-has, members-in, members-out, members-none}
+use Rattle.board.specs.Sets.{has, members, setOf}
+use Rattle.board.specs.laws.SetLaws.{has-none, has-or, has-setOf, setOf-lt, set-is, set-has, members-in, members-out, members-none}
 use Rattle.board.specs.laws.LowestLaws.{Lowest}
 use Rattle.rules.specs.Rules.{Board, moved, canMove}
 use Rattle.rules.specs.laws.CanMove.{can-on}
 use Rattle.successors.specs.declared.Sifted.{Sifted}
 use Rattle.successors.specs.Successors.{siftedBy, siftedFrom, alongside}
-
--- a set of squares is a word
-pack-lt : (p : ℕ → Bool) (n k : ℕ) → pack p n k < 2 ^ n
-unfolding pack
-pack-lt p zero k = omega arith
-pack-lt p (suc n) k = go (p k) (pack-lt p n (suc k))
-  where
-    go : (x : Bool) → pack p n (suc k) < 2 ^ n → digit x + 2 * pack p n (suc k) < 2 ^ suc n
-    go true h = let e : 2 ^ suc n ≡ 2 ^ n * 2 = pow-suc 2 n in omega arith
-    go false h = let e : 2 ^ suc n ≡ 2 ^ n * 2 = pow-suc 2 n in omega arith
-
-pub setOf-lt : (p : ℕ → Bool) → setOf p < 2 ^ 64
-unfolding setOf
-setOf-lt p = pack-lt p 64 0
 
 cond-refuted : (x : Bool) (s : ℕ) → cond x Sifted.Refuted (Sifted.Suited s) ≡ Sifted.Refuted → x ≡ true
 cond-refuted true s e = refl

@@ -7,7 +7,7 @@ use lib.Bits.{bitAnd, and-le-l}
 use lib.Dec.{T}
 use Rattle.finite.specs.Truth.{and-left}
 use Rattle.board.specs.Sets.{has, setOf}
-use Rattle.board.specs.laws.SetLaws.{has-and, set-is, set-has, setOf-same}
+use Rattle.board.specs.laws.SetLaws.{has-and, setOf-lt, setOf-same, set-is, set-has}
 use Rattle.rules.specs.Rules.{Board, canMove}
 use Rattle.position.specs.declared.Men.{Men}
 use Rattle.position.specs.declared.Place.{Place}
@@ -15,7 +15,6 @@ use Rattle.position.specs.Posed.{boardIn}
 use Rattle.successors.specs.declared.Sifted.{Sifted}
 use Rattle.successors.specs.Successors.{siftedBy}
 use Rattle.successors.specs.Quiet.{ofMan, takingTo, quietTo}
-use Rattle.successors.specs.laws.SiftLaws.{setOf-lt}
 
 module _ (m : Men) (q : Place) (from targets : ℕ) (e : targets ≡ setOf (canMove (boardIn m q) from)) (men : ℕ)
     (k : (t : ℕ) → t < 64 → has men t ≡ ofMan q t) where
