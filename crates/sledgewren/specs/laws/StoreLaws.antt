@@ -3,11 +3,10 @@ use mathlib.Core.Path.{_≡_, refl, sym, ap, _∙_}
 use mathlib.Core.Bool.{Bool, true, false}
 use mathlib.Core.List.{List, [], _∷_, _++_, map, flatMap}
 use Prim.Native.Nat.{ℕ, zero, suc, _+_, _*_, _^_, _≤_, _<_}
-use native.Mathlib.Nat.{pow-suc}
 use native.Mathlib.Omega.{arith}
 use lib.ListN.{length, set, length-append}
 use lib.Seq.{sets, length-sets}
-use Rattle.board.specs.Sets.{has, members, digit, pack, setOf}
+use Rattle.board.specs.Sets.{has, members, setOf}
 use Rattle.board.specs.laws.LowestLaws.{Lowest}
 use Rattle.rules.specs.declared.Move.{Move}
 use Rattle.rules.specs.Rules.{Board, canMove, taking, promotes, movesFrom, promotionOf, moveOf}
