@@ -7,7 +7,6 @@ mod settling;
 mod verdicts;
 
 pub use numbers::is_legal_number;
-pub use numbers::legal_at;
 pub use numbers::legal_in;
 pub use pawn::pawn_verdict;
 pub use rows::in_row;

@@ -14,8 +14,8 @@ const LIST_BYTES: usize = 4 * 62;
 // The answer where another length is lent.
 const NO_LIST: u32 = 255;
 
-// Refusals 1 to 6 and 18 leave all bytes zero; with another length than 248 nothing is written. The movers come first:
-// the refusals read the position as one word, and would wait for its bytes.
+// Refusals 1 to 6 and 18 leave all bytes zero; with another length than 248 nothing is written. The movers are found
+// first, and the bytes cleared last: of the orders tried the quickest.
 #[no_mangle]
 pub extern "C" fn sledgewren_moves(
     side: u8,
