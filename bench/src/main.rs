@@ -4,6 +4,7 @@
 //!        bench four OUTPUT-FOLDER, for the rows of two men alone
 //!        bench back OUTPUT-FOLDER, for those of the quick fill
 //!        bench pawn OUTPUT-FOLDER, for those of king and pawn
+//!        bench look-up GAVIOTA-FOLDER OUTPUT-FOLDER, for the look-ups of one man
 //!
 //! It runs itself as `bench count WORK SIDE GAVIOTA-FOLDER OUTPUT-FOLDER` to have instructions counted.
 
@@ -141,6 +142,15 @@ fn pawn_alone(folder: &Path) -> Result<(), String> {
     Ok(())
 }
 
+/// The look-ups alone.
+fn look_ups_alone(gaviota: &str, folder: &Path) -> Result<(), String> {
+    let mut rows = Vec::new();
+    look_ups(gaviota, &mut rows)?;
+    print(&rows);
+    counts::print(gaviota, folder, &counts::ROWS[4..5]);
+    Ok(())
+}
+
 fn main() -> ExitCode {
     let words: Vec<String> = std::env::args().skip(1).collect();
     let words: Vec<&str> = words.iter().map(String::as_str).collect();
@@ -148,6 +158,7 @@ fn main() -> ExitCode {
         ["four", folder] => four_alone(Path::new(folder)),
         ["back", folder] => back_alone(Path::new(folder)),
         ["pawn", folder] => pawn_alone(Path::new(folder)),
+        ["look-up", gaviota, folder] => look_ups_alone(gaviota, Path::new(folder)),
         ["count", what, side, gaviota, folder] => back::count(what, side)
             .unwrap_or_else(|| counts::run(what, side == "other", gaviota, Path::new(folder))),
         [oracle, desk, gaviota, folder] => all(oracle, desk, gaviota, Path::new(folder)),

@@ -1,6 +1,7 @@
 //! The move list and its count, for each position.
 
 use std::hint::black_box;
+use std::mem::MaybeUninit;
 
 use second::position::Keyed as SecondKeyed;
 use second::rules::{legal_position, moves};
@@ -11,19 +12,23 @@ use crate::timing::{medians, timed, Of, Row};
 
 /// The oracle's way to the same answer: refusals 1 to 6, then the list.
 pub fn oracle_moves(keyed: &SecondKeyed) -> usize {
-    legal_position(keyed).map_or(0, |position| black_box(moves(&position)).as_slice().len())
+    legal_position(keyed).map_or(0, |position| {
+        let list = moves(&position);
+        black_box(&list).as_slice().len()
+    })
 }
 
-/// The C function as it is: the safe one also makes squares of the bytes.
+/// The C function as it is: the safe one also makes squares of the bytes. It writes every byte that
+/// it is lent, so that nothing is cleared beforehand; neither side's list is copied.
 pub fn library_moves(keyed: Keyed) -> usize {
     let Keyed { side, white_king, black_king, .. } = keyed;
     let [first, second] = keyed.words();
-    let mut list = [0; MOVES_BYTES];
-    let (start, len) = (list.as_mut_ptr(), list.len());
-    // SAFETY: `start` leads to `len` bytes that nothing else refers to.
+    let mut list = MaybeUninit::<[u8; MOVES_BYTES]>::uninit();
+    let (start, len) = (list.as_mut_ptr().cast::<u8>(), MOVES_BYTES);
+    // SAFETY: `start` leads to `len` bytes that nothing else refers to, and none is read.
     let answer =
         unsafe { ffi::sledgewren_moves(side, white_king, black_king, first, second, start, len) };
-    black_box(list);
+    black_box(&list);
     (answer >> 8) as usize
 }
 

@@ -1,11 +1,13 @@
 // The checker.
 use super::numbers::is_right;
 use answers::Checked;
+use deciding::row_at;
 use four_men::NOT_ACCEPTED;
 use four_men::lengths_fit;
 use index::TABLE_SIZE;
 use index::is_given;
 use index::men_of;
+use index::place_at;
 use numbering::Material;
 use position::BAD_MAN;
 use position::Men;
@@ -25,9 +27,11 @@ fn lowest_wrong(m: Men, table: &[u8], first: &[u8], second: &[u8]) -> Checked
     requires { ⌜ Ended m (length (now table)) ⌝ }
     ensures { λ r. ⌜ r ≡ found (materialFor m) (lent (now (first .entry)) (now (second .entry))) (now (table .entry)) ⌝ }
 {
+    let mut row = place_at(m, 0);
     let mut n: usize = 0;
     while n < table.len() {
-        if !is_right(m, n as u32, table[n], table, first, second) {
+        row = row_at(m, row, n as u32);
+        if !is_right(m, row, n as u32, table[n], table, first, second) {
             return Checked::Wrong(n as u32);
         }
         n += 1;

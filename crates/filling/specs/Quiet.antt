@@ -6,6 +6,8 @@ use Prim.Native.Nat.{ℕ, _+_, _/_, _<_, _≤_}
 use lib.Dec.{T, eqb}
 use lib.ListN.{length, getD}
 use Rattle.finite.specs.Members.{_∈_}
+use Rattle.table_theory.specs.Tables.{Numbering, settles}
+use Rattle.rules.specs.Chess.{chess}
 use Rattle.position.specs.declared.Men.{Men}
 use Rattle.position.specs.Posed.{materialFor}
 use Rattle.numbering.specs.declared.Material.{Material}
@@ -36,3 +38,9 @@ highOf m = cond (eqb (m .colour) 0) 29568 59136
 pub record QuietHalves (m : Men) (first second : List ℕ) (k : ℕ) (t : List ℕ) (white black : Bool) : Type 0 where
   pub in-white : white ≡ false → Quiet (materialFor m) (lent first second) k t (length t / 2) (length t) (lowOf m) 59136
   pub in-black : black ≡ false → Quiet (materialFor m) (lent first second) k t 0 (length t / 2) 0 (highOf m)
+
+-- pass k settles no number below `from`, nor from `to` on
+pub record QuietOutside (N : Numbering chess) (k : ℕ) (t : List ℕ) (from to : ℕ) : Type 0 where
+  pub within : (from ≤ to) × (to ≤ length t)
+  pub below : (n : ℕ) → n < from → settles chess N k t n ≡ false
+  pub above : (n : ℕ) → to ≤ n → n < length t → settles chess N k t n ≡ false

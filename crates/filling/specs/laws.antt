@@ -2,6 +2,7 @@ pub mod Laws
 pub mod Greatest
 pub mod Halves
 pub mod Quiet
+pub mod Outside
 pub mod StepLaws
 pub mod StepsTrue
 pub mod Handed

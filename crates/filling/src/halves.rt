@@ -4,7 +4,7 @@ use index::HALF;
 use index::TABLE_SIZE;
 use position::Men;
 ghost use mathlib.Core.Path.{_≡_};
-ghost use mathlib.Core.Bool.{false};
+ghost use mathlib.Core.Bool.{false, cond};
 ghost use Prim.Native.Nat.{_<_, _≤_, _/_};
 ghost use lib.ListN.{length};
 ghost use Rattle.position.specs.Posed.{materialFor};
@@ -102,4 +102,17 @@ pub fn black_may(m: Men, k: u8, first: &[u8], second: &[u8], table: &[u8]) -> bo
 {
     let half = table.len() / 2;
     may_settle(m, k, 0, half, 0, high_of(m), first, second, table)
+}
+
+// Where the halves begin that are not left out, and where they end.
+pub fn first_of(white: bool, half: usize) -> usize
+    ensures { λ r. ⌜ r ≡ cond white 0 half ⌝ }
+{
+    if white { 0 } else { half }
+}
+
+pub fn end_of(black: bool, half: usize, size: usize) -> usize
+    ensures { λ r. ⌜ r ≡ cond black size half ⌝ }
+{
+    if black { size } else { half }
 }

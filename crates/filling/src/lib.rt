@@ -7,6 +7,7 @@ mod halves;
 mod pass;
 mod steps;
 mod taking;
+mod turns;
 mod ways;
 
 pub use bytes::clear;

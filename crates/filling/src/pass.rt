@@ -1,19 +1,21 @@
 // One pass: the numbers that hold 1 and whose successors' bytes require depth k.
 use super::halves::black_may;
+use super::halves::end_of;
+use super::halves::first_of;
 use super::halves::white_may;
+use super::turns::settle;
 use deciding::requires_at;
+use deciding::row_at;
+use index::place_at;
 use position::Men;
 ghost use mathlib.Core.Path.{_≡_};
-ghost use mathlib.Core.Bool.{false, cond};
-ghost use lib.Dec.{ltb};
 ghost use Prim.Native.Nat.{_<_};
 ghost use lib.ListN.{length};
 ghost use Rattle.table_theory.specs.Tables.{settles as settlesOf, someSettles, passed};
 ghost use Rattle.table_theory.specs.Steps.{settledBy};
 ghost use Rattle.rules.specs.Chess.{chess};
 ghost use Rattle.working_back.specs.Admitted.{over, Admitted};
-ghost use Rattle.filling.specs.Settling.{Settle};
-ghost use Rattle.filling.specs.Quiet.{QuietHalves};
+ghost use Rattle.filling.specs.Quiet.{QuietHalves, QuietOutside};
 
 // Whether pass k settles the number.
 pub fn settles(m: Men, k: u8, n: usize, first: &[u8], second: &[u8], table: &[u8]) -> bool
@@ -26,34 +28,28 @@ pub fn settles(m: Men, k: u8, n: usize, first: &[u8], second: &[u8], table: &[u8
     requires_at(m, n as u32, k, table, first, second)
 }
 
-// Settles the number if pass k does, which is asked only where it may; 1 if it did, and else 0.
-pub fn settle(
-    may: bool,
+// Pass k, in place, over the numbers from `from` on, below `to`: it settles no other. How many it settled.
+fn pass_over(
     m: Men,
     k: u8,
-    n: usize,
+    from: usize,
+    to: usize,
     first: &[u8],
     second: &[u8],
     table: &mut [u8],
 ) -> u32
-    requires { ⌜ (n < length (now table)) × (k < 254) × Admitted m (now first) (now second) (now table) × (may ≡ false → settlesOf chess (over m (now first) (now second)) k (now table) n ≡ false) ⌝ }
-    ensures { λ r. ⌜ Settle chess (over m (now (first .entry)) (now (second .entry))) k (now (table .entry)) n r (now (table .exit)) ⌝ }
+    requires { ⌜ (k < 254) × Admitted m (now first) (now second) (now table) × QuietOutside (over m (now first) (now second)) k (now table) from to ⌝ }
+    ensures { λ r. ⌜ (r ≡ settledBy chess (over m (now (first .entry)) (now (second .entry))) k (now (table .entry))) × (now (table .exit) ≡ passed chess (over m (now (first .entry)) (now (second .entry))) k (now (table .entry))) ⌝ }
 {
-    if !may {
-        return 0;
+    let mut row = place_at(m, (from / 64 * 64) as u32);
+    let mut settled: u32 = 0;
+    let mut n = from;
+    while n < to {
+        row = row_at(m, row, n as u32);
+        settled += settle(m, row, k, n, first, second, &mut *table);
+        n += 1;
     }
-    if !settles(m, k, n, first, second, &*table) {
-        return 0;
-    }
-    table[n] = 2 + k;
-    1
-}
-
-// Of two answers, the one for the half of the table that the number lies in: White to move, or Black.
-fn of_half(n: usize, half: usize, white: bool, black: bool) -> bool
-    ensures { λ r. ⌜ r ≡ cond (ltb n half) white black ⌝ }
-{
-    if n < half { white } else { black }
+    settled
 }
 
 // Pass k, in place, over the halves that may hold a number it settles; how many it settled.
@@ -70,14 +66,9 @@ pub fn pass_halves(
     ensures { λ r. ⌜ (r ≡ settledBy chess (over m (now (first .entry)) (now (second .entry))) k (now (table .entry))) × (now (table .exit) ≡ passed chess (over m (now (first .entry)) (now (second .entry))) k (now (table .entry))) ⌝ }
 {
     let size = table.len();
-    let mut settled: u32 = 0;
-    let mut n: usize = 0;
-    while n < size {
-        let may = of_half(n, size / 2, white, black);
-        settled += settle(may, m, k, n, first, second, &mut *table);
-        n += 1;
-    }
-    settled
+    let from = first_of(white, size / 2);
+    let to = end_of(black, size / 2, size);
+    pass_over(m, k, from, to, first, second, &mut *table)
 }
 
 // Pass k, in place; how many numbers it settled.

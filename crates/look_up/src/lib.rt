@@ -7,15 +7,19 @@ use four_men::lengths_fit;
 use four_men::material_for;
 use index::normal_place;
 use index::pawn_normal_place;
+use movegen::checked;
 use pawn_moves::pawn_byte;
 use position::BAD_MAN;
 use position::INCONSISTENT;
 use position::Map;
+use position::OTHER_IN_CHECK;
 use position::Position;
 use position::Slot;
 use position::TABLE_LENGTH;
+use position::in_check;
 use position::man_in;
-use position::standing_with;
+use position::other;
+use position::placing_with;
 use rules::promotion_of;
 use successors::Verdict;
 use successors::byte_at;
@@ -23,7 +27,7 @@ use successors::verdict_on;
 ghost use mathlib.Core.Path.{_≡_};
 ghost use Rattle.symmetry.specs.Symmetry.{inverse};
 ghost use Rattle.position.specs.Keyed.{manKind};
-ghost use Rattle.position.specs.Refusals.{standingWith};
+ghost use Rattle.position.specs.Refusals.{placingWith};
 ghost use Rattle.position.specs.Maps.{symmetryOf};
 ghost use Rattle.endings.specs.Answers.{mappedAdvice, answerOf, lookUpOf};
 ghost use Rattle.four_men.specs.Lending.{lent};
@@ -68,10 +72,13 @@ fn told(via: Map, byte: u8, verdict: Verdict) -> Answer
     }
 }
 
-// A position with a pawn that nothing refuses; the tables that it borrows are one run, the first.
+// A position with a pawn that only refusal 6 may meet; the tables that it borrows are one run, the first.
 fn look_up_pawn(p: Position, table: &[u8], first: &[u8], second: &[u8]) -> Answer
-    ensures { λ r. ⌜ (standingWith p ≡ 0 → manKind p ≡ 4 → r ≡ lookUpWith (lent (now (first .entry)) (now (second .entry))) (now (table .entry)) p) ⌝ }
+    ensures { λ r. ⌜ (placingWith p ≡ 0 → manKind p ≡ 4 → r ≡ lookUpWith (lent (now (first .entry)) (now (second .entry))) (now (table .entry)) p) ⌝ }
 {
+    if in_check(p, other(p.side)) {
+        return Answer::Refused(OTHER_IN_CHECK);
+    }
     let normal = pawn_normal_place(p);
     let m = normal.men;
     let q = normal.place;
@@ -82,13 +89,16 @@ fn look_up_pawn(p: Position, table: &[u8], first: &[u8], second: &[u8]) -> Answe
     told(normal.via, byte, pawn_verdict(q, byte, table, first))
 }
 
-// One of pieces.
+// One of pieces: whether the side that does not move is in check is asked of the normal place.
 fn look_up_pieces(p: Position, table: &[u8], first: &[u8], second: &[u8]) -> Answer
-    ensures { λ r. ⌜ (standingWith p ≡ 0 → (manKind p ≡ 4 → ⊥) → r ≡ lookUpWith (lent (now (first .entry)) (now (second .entry))) (now (table .entry)) p) ⌝ }
+    ensures { λ r. ⌜ (placingWith p ≡ 0 → (manKind p ≡ 4 → ⊥) → r ≡ lookUpWith (lent (now (first .entry)) (now (second .entry))) (now (table .entry)) p) ⌝ }
 {
     let normal = normal_place(p);
     let m = normal.men;
     let q = normal.place;
+    if checked(m, q, other(q.side)) {
+        return Answer::Refused(OTHER_IN_CHECK);
+    }
     if !lengths_fit(material_for(m), table, first, second) {
         return Answer::Refused(TABLE_LENGTH);
     }
@@ -102,7 +112,7 @@ fn look_up_pieces(p: Position, table: &[u8], first: &[u8], second: &[u8]) -> Ans
 pub fn look_up_with(p: Position, table: &[u8], first: &[u8], second: &[u8]) -> Answer
     ensures { λ r. ⌜ r ≡ lookUpWith (lent (now (first .entry)) (now (second .entry))) (now (table .entry)) p ⌝ }
 {
-    let refusal = standing_with(p);
+    let refusal = placing_with(p);
     if refusal != 0 {
         return Answer::Refused(refusal);
     }

@@ -54,15 +54,16 @@ pub fn legal_moves(p: Position) -> Listed
     }
 }
 
-// Their count, or a refusal from 1 to 6: the sixth by the same sets that are counted.
+// Their count, or a refusal from 1 to 6: the sixth by the same sets that are counted. Before the refusals they are
+// found more quickly than after them.
 pub fn move_count(p: Position) -> Counted
     ensures { λ r. ⌜ Counts p r ⌝ }
 {
+    let all = movers_of(p);
     let refusal = placing_with(p);
     if refusal != 0 {
         return Counted::Refused(refusal);
     }
-    let all = movers_of(p);
     if all.check {
         return Counted::Refused(OTHER_IN_CHECK);
     }

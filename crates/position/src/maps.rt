@@ -3,33 +3,14 @@ use crate::Map;
 use crate::Normal;
 use crate::Position;
 use crate::Slot;
+use pawn_numbers::square_flipped;
 use rules::Piece;
 ghost use mathlib.Core.Path.{_≡_};
 ghost use mathlib.Core.List.{_++_};
-ghost use Rattle.symmetry.specs.Symmetry.{mapped, inverse, filesReversed, ranksReversed, exchange};
+ghost use Rattle.symmetry.specs.Symmetry.{mapped, inverse, exchange};
 ghost use Rattle.numbering.specs.Normal.{firstAbove, turn, swaps as swapsOf};
 ghost use Rattle.position.specs.Keyed.{slotMen, boardOf};
 ghost use Rattle.position.specs.Maps.{mappedSlot, mappedPosition, reversals, symmetryOf, normalOf};
-
-// The square with its file reversed.
-fn file_reversed(s: u8) -> u8
-    ensures { λ r. ⌜ r ≡ mapped filesReversed s ⌝ }
-{
-    if 64 <= s {
-        return s;
-    }
-    s / 8 * 8 + (7 - s % 8)
-}
-
-// The square with its rank reversed.
-fn rank_reversed(s: u8) -> u8
-    ensures { λ r. ⌜ r ≡ mapped ranksReversed s ⌝ }
-{
-    if 64 <= s {
-        return s;
-    }
-    (7 - s / 8) * 8 + s % 8
-}
 
 // The square with file and rank exchanged.
 pub fn transposed(s: u8) -> u8
@@ -41,22 +22,6 @@ pub fn transposed(s: u8) -> u8
     s % 8 * 8 + s / 8
 }
 
-// The square with its file reversed or not, and its rank.
-fn reversed(files: bool, ranks: bool, s: u8) -> u8
-    ensures { λ r. ⌜ r ≡ mapped (reversals files ranks) s ⌝ }
-{
-    if files {
-        if ranks {
-            return rank_reversed(file_reversed(s));
-        }
-        return file_reversed(s);
-    }
-    if ranks {
-        return rank_reversed(s);
-    }
-    s
-}
-
 impl Map {
     // The square that the map brings to this one.
     pub fn back(self, s: u8) -> u8
@@ -65,9 +30,9 @@ impl Map {
         let files = self.files;
         let ranks = self.ranks;
         if self.swap {
-            return reversed(files, ranks, transposed(s));
+            return square_flipped(files, ranks, transposed(s));
         }
-        reversed(files, ranks, s)
+        square_flipped(files, ranks, s)
     }
 }
 
@@ -80,7 +45,7 @@ fn slot_reversed(files: bool, ranks: bool, slot: Slot) -> Slot
         Slot::Present(m) => Slot::Present(Piece {
             kind: m.kind,
             colour: m.colour,
-            square: reversed(files, ranks, m.square),
+            square: square_flipped(files, ranks, m.square),
         }),
     }
 }
@@ -149,8 +114,8 @@ impl Position {
         let ranks = 3 < white / 8;
         Position {
             side: self.side,
-            white_king: reversed(files, ranks, white),
-            black_king: reversed(files, ranks, self.black_king),
+            white_king: square_flipped(files, ranks, white),
+            black_king: square_flipped(files, ranks, self.black_king),
             first: slot_reversed(files, ranks, first),
             second: slot_reversed(files, ranks, second),
         }

@@ -3,20 +3,23 @@ use mathlib.Core.Bool.{Bool, cond, not, _&&_, _||_}
 use Prim.Native.Nat.{ℕ, _+_, _*_, _-_}
 use lib.Bits.{bitXor}
 use lib.Dec.{leb, eqb}
-use Rattle.board.specs.Sets.{has}
-use Rattle.rules.specs.Rules.{carried}
+use Rattle.rules.specs.Rules.{carried, canMove}
 use Rattle.position.specs.declared.Men.{Men}
 use Rattle.position.specs.declared.Place.{Place}
+use Rattle.position.specs.Posed.{boardIn}
 use Rattle.index.specs.Seats.{alike}
 use Rattle.successors.specs.declared.Frame.{Frame}
 
--- a man stands on a target
-abbrev pub takesMan : ℕ → Place → Bool
-takesMan targets q = has targets (q .first) || has targets (q .second)
-
--- a man moves from the square, or may
+-- a man stands on the square
 abbrev pub ofMan : Place → ℕ → Bool
-ofMan q from = eqb (q .first) from || eqb (q .second) from
+ofMan q s = eqb (q .first) s || eqb (q .second) s
+
+-- the legal targets from a square where a man is taken, and those where none is
+abbrev pub takingTo : Men → Place → ℕ → ℕ → Bool
+takingTo m q from t = canMove (boardIn m q) from t && ofMan q t
+
+abbrev pub quietTo : Men → Place → ℕ → ℕ → Bool
+quietTo m q from t = canMove (boardIn m q) from t && not (ofMan q t)
 
 -- neither the kings nor the men's likeness exchange anything
 abbrev pub plainFor : Men → Frame → Bool

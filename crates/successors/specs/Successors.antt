@@ -5,6 +5,7 @@ use mathlib.Core.Bool.{Bool, true, false, cond, not, _&&_, _||_}
 use mathlib.Core.List.{List}
 use mathlib.Core.Option.{Option}
 use Prim.Native.Nat.{ℕ, _≤_, _<_}
+use lib.Bits.{bitOr}
 use lib.Dec.{T, eqb, leb, ltb}
 use Rattle.finite.specs.Members.{any, first}
 use Rattle.theory.specs.Required.{requiredAt}
@@ -63,11 +64,20 @@ pub record Reaches (m : Men) (q : Place) (r : Reach) : Type 0 where
 
 -- ---- a byte compared with successors' bytes
 
--- the moves from a square: the targets whose bytes suit byte c, unless one refutes it
-unfoldable pub siftedFrom : (Board → ℕ) → ℕ → Board → ℕ → Sifted
-siftedFrom byte c b from =
-    cond (any (λ t. refutes c (byte (moved b from t))) (members (setOf (canMove b from)))) Sifted.Refuted
-    (Sifted.Suited (setOf (λ t. canMove b from t && suits c (byte (moved b from t)))))
+-- moves from a square to the targets that pass a test: those whose bytes suit byte c, unless one refutes it
+unfoldable pub siftedBy : (Board → ℕ) → ℕ → Board → ℕ → (ℕ → Bool) → Sifted
+siftedBy byte c b from goes =
+    cond (any (λ t. refutes c (byte (moved b from t))) (members (setOf goes))) Sifted.Refuted
+    (Sifted.Suited (setOf (λ t. goes t && suits c (byte (moved b from t)))))
+
+-- all the legal ones
+abbrev pub siftedFrom : (Board → ℕ) → ℕ → Board → ℕ → Sifted
+siftedFrom byte c b from = siftedBy byte c b from (canMove b from)
+
+-- what other moves of the piece tell, beside the targets already found
+abbrev pub alongside : ℕ → Sifted → Sifted
+alongside found Sifted.Refuted = Sifted.Refuted
+alongside found (Sifted.Suited more) = Sifted.Suited (bitOr found more)
 
 -- those of three pieces together
 abbrev pub joined : Sifted → Sifted → Sifted → Judged

@@ -3,6 +3,7 @@ pub mod PlaceLaws
 pub mod FramingLaws
 pub mod ByteLaws
 pub mod SiftLaws
+pub mod TakingLaws
 pub mod QuietLaws
 pub mod KingKeys
 pub mod JudgeLaws

@@ -19,16 +19,16 @@ use position::Men;
 use position::Place;
 use position::other;
 ghost use mathlib.Core.Path.{_≡_};
-ghost use mathlib.Core.Bool.{true, false};
+ghost use mathlib.Core.Bool.{Bool, true};
 ghost use Prim.Native.Nat.{ℕ, _+_, _*_, _-_, _^_, _<_};
 ghost use lib.Bits.{bitXor};
 ghost use lib.Dec.{T};
 ghost use lib.ListN.{getD};
 ghost use Rattle.board.specs.Sets.{setOf};
-ghost use Rattle.rules.specs.Rules.{Board, moved, canMove};
+ghost use Rattle.rules.specs.Rules.{Board, moved};
 ghost use Rattle.position.specs.Posed.{boardIn, Complete};
-ghost use Rattle.successors.specs.Successors.{bytesIn, siftedFrom};
-ghost use Rattle.successors.specs.Quiet.{takesMan, ofMan, plainFor, baseFor, scaleFor};
+ghost use Rattle.successors.specs.Successors.{bytesIn, siftedBy};
+ghost use Rattle.successors.specs.Quiet.{ofMan, quietTo, plainFor, baseFor, scaleFor};
 
 // The byte there.
 fn byte_on(base: usize, flip: u8, scale: u8, to: u8, table: &[u8]) -> u8
@@ -41,7 +41,7 @@ fn byte_on(base: usize, flip: u8, scale: u8, to: u8, table: &[u8]) -> u8
 // A man's moves whose bytes lie at equal steps from a base.
 fn sift_plain(base: usize, flip: u8, scale: u8, targets: u64, byte: u16, table: &[u8]) -> Sifted
     requires { ⌜ base < 2 ^ 48 ⌝ }
-    ensures { λ r. ⌜ ((bytes : Board → ℕ) (b : Board) (from : ℕ) → targets ≡ setOf (canMove b from) → ((t : ℕ) → T (canMove b from t) → getD (now (table .entry)) (base + bitXor t flip * scale) 0 ≡ bytes (moved b from t)) → r ≡ siftedFrom bytes byte b from) ⌝ }
+    ensures { λ r. ⌜ ((bytes : Board → ℕ) (b : Board) (from : ℕ) (goes : ℕ → Bool) → targets ≡ setOf goes → ((t : ℕ) → T (goes t) → getD (now (table .entry)) (base + bitXor t flip * scale) 0 ≡ bytes (moved b from t)) → r ≡ siftedBy bytes byte b from goes) ⌝ }
 {
     let mut found: u64 = 0;
     let mut rest = targets;
@@ -86,7 +86,7 @@ fn scale_for(m: Men, q: Place, from: u8) -> u8
     if q.first == from { 64 } else { 1 }
 }
 
-// The moves of a man who takes none.
+// The moves of a man that take none.
 pub fn sift_man(
     m: Men,
     q: Place,
@@ -97,7 +97,7 @@ pub fn sift_man(
     first: &[u8],
     second: &[u8],
 ) -> Sifted
-    ensures { λ r. ⌜ (Complete m q → targets ≡ setOf (canMove (boardIn m q) from) → takesMan targets q ≡ false → ofMan q from ≡ true → r ≡ siftedFrom (bytesIn m (now (first .entry)) (now (second .entry)) (now (table .entry))) byte (boardIn m q) from) ⌝ }
+    ensures { λ r. ⌜ (Complete m q → targets ≡ setOf (quietTo m q from) → ofMan q from ≡ true → r ≡ siftedBy (bytesIn m (now (first .entry)) (now (second .entry)) (now (table .entry))) byte (boardIn m q) from (quietTo m q from)) ⌝ }
 {
     let f = frame_for(other(q.side), q.white, q.black);
     if is_plain(m, f) {

@@ -13,17 +13,15 @@ use position::Men;
 use position::Place;
 use position::other;
 ghost use mathlib.Core.Path.{_≡_};
-ghost use mathlib.Core.Bool.{false};
 ghost use mathlib.Core.List.{List};
 ghost use Prim.Native.Nat.{ℕ, _+_, _*_, _≤_, _<_};
 ghost use lib.ListN.{getD};
 ghost use Rattle.board.specs.Sets.{setOf};
-ghost use Rattle.rules.specs.Rules.{canMove};
 ghost use Rattle.numbering.specs.Number.{numberOf};
 ghost use Rattle.position.specs.Posed.{boardIn, Complete};
 ghost use Rattle.index.specs.Seats.{Seated, alike as alikeMen, alone, keyAt};
-ghost use Rattle.successors.specs.Successors.{bytesIn, siftedFrom, kingAt};
-ghost use Rattle.successors.specs.Quiet.{takesMan, kingUnit, kingLifted};
+ghost use Rattle.successors.specs.Successors.{bytesIn, siftedBy, kingAt};
+ghost use Rattle.successors.specs.Quiet.{quietTo, kingUnit, kingLifted};
 
 // What a step of one square adds to a key, of White's king or of Black's.
 fn king_unit(side: u8) -> u32
@@ -61,9 +59,9 @@ fn byte_keyed(single: bool, like: bool, side: u8, k: u32, table: &[u8]) -> u8
     read(table, number_keyed(single, like, side, k))
 }
 
-// The moves of the king of the side to move, where he takes no man.
+// The moves of the king of the side to move that take no man.
 pub fn sift_king(m: Men, q: Place, targets: u64, byte: u16, table: &[u8]) -> Sifted
-    ensures { λ r. ⌜ (Complete m q → targets ≡ setOf (canMove (boardIn m q) (kingAt q)) → takesMan targets q ≡ false → (first second : List ℕ) → r ≡ siftedFrom (bytesIn m first second (now (table .entry))) byte (boardIn m q) (kingAt q)) ⌝ }
+    ensures { λ r. ⌜ (Complete m q → targets ≡ setOf (quietTo m q (kingAt q)) → (first second : List ℕ) → r ≡ siftedBy (bytesIn m first second (now (table .entry))) byte (boardIn m q) (kingAt q) (quietTo m q (kingAt q))) ⌝ }
 {
     let single = 64 <= q.second;
     let like = alike(m);

@@ -1,9 +1,9 @@
 // A byte compared with all successors: the king's moves, the first man's and the second's.
 use super::Judged;
 use super::Sifted;
+use super::quiet::men_squares;
 use super::quiet::sift_moves;
 use super::quiet::sift_steps;
-use super::quiet::takes_some;
 use movegen::Reach;
 use position::Men;
 use position::Place;
@@ -23,15 +23,15 @@ pub fn judge(
 ) -> Judged
     ensures { λ r. ⌜ (Complete m q → Reaches m q reach → r ≡ judgedFrom (bytesIn m (now (first .entry)) (now (second .entry)) (now (table .entry))) byte (boardIn m q) (kingAt q) (q .first) (q .second)) ⌝ }
 {
-    let t = takes_some(q, reach);
-    let by_king = sift_steps(t, m, q, reach.king, byte, table, first, second);
+    let men = men_squares(q);
+    let by_king = sift_steps(men, m, q, reach.king, byte, table, first, second);
     let Sifted::Suited(a) = by_king else {
         return Judged::Refuted;
     };
     let by_first = if reach.first == 0 {
         Sifted::Suited(0)
     } else {
-        sift_moves(t, m, q, q.first, reach.first, byte, table, first, second)
+        sift_moves(men, m, q, q.first, reach.first, byte, table, first, second)
     };
     let Sifted::Suited(b) = by_first else {
         return Judged::Refuted;
@@ -39,7 +39,17 @@ pub fn judge(
     let by_second = if reach.second == 0 {
         Sifted::Suited(0)
     } else {
-        sift_moves(t, m, q, q.second, reach.second, byte, table, first, second)
+        sift_moves(
+            men,
+            m,
+            q,
+            q.second,
+            reach.second,
+            byte,
+            table,
+            first,
+            second,
+        )
     };
     let Sifted::Suited(c) = by_second else {
         return Judged::Refuted;

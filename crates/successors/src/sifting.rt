@@ -12,13 +12,13 @@ use position::Men;
 use position::Place;
 use position::other;
 ghost use mathlib.Core.Path.{_≡_};
-ghost use mathlib.Core.Bool.{cond, _||_};
+ghost use mathlib.Core.Bool.{Bool, cond, _||_};
 ghost use Prim.Native.Nat.{ℕ};
-ghost use lib.Dec.{eqb};
+ghost use lib.Dec.{T, eqb};
 ghost use Rattle.board.specs.Sets.{has, setOf};
 ghost use Rattle.rules.specs.Rules.{canMove};
 ghost use Rattle.position.specs.Posed.{boardIn, Complete};
-ghost use Rattle.successors.specs.Successors.{bytesIn, siftedFrom};
+ghost use Rattle.successors.specs.Successors.{bytesIn, siftedBy};
 
 // The set with one more target, if it suits.
 pub fn with_suited(found: u64, suited: bool, to: u8) -> u64
@@ -30,7 +30,7 @@ pub fn with_suited(found: u64, suited: bool, to: u8) -> u64
     found
 }
 
-// The moves of the piece on a square to all its legal targets.
+// The moves of the piece on a square to these targets.
 pub fn sift_each(
     m: Men,
     q: Place,
@@ -41,7 +41,7 @@ pub fn sift_each(
     first: &[u8],
     second: &[u8],
 ) -> Sifted
-    ensures { λ r. ⌜ (Complete m q → targets ≡ setOf (canMove (boardIn m q) from) → r ≡ siftedFrom (bytesIn m (now (first .entry)) (now (second .entry)) (now (table .entry))) byte (boardIn m q) from) ⌝ }
+    ensures { λ r. ⌜ (Complete m q → (goes : ℕ → Bool) → targets ≡ setOf goes → ((t : ℕ) → T (goes t) → T (canMove (boardIn m q) from t)) → r ≡ siftedBy (bytesIn m (now (first .entry)) (now (second .entry)) (now (table .entry))) byte (boardIn m q) from goes) ⌝ }
 {
     let f = frame_for(other(q.side), q.white, q.black);
     let mut found: u64 = 0;

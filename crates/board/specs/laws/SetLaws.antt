@@ -162,6 +162,20 @@ pack-has (suc n) s h =
     )
     (omega arith)
 
+-- a set of squares is a word
+pack-lt : (p : ℕ → Bool) (n k : ℕ) → pack p n k < 2 ^ n
+unfolding pack
+pack-lt p zero k = omega arith
+pack-lt p (suc n) k = go (p k) (pack-lt p n (suc k))
+  where
+    go : (x : Bool) → pack p n (suc k) < 2 ^ n → digit x + 2 * pack p n (suc k) < 2 ^ suc n
+    go true h = let e : 2 ^ suc n ≡ 2 ^ n * 2 = pow-suc 2 n in omega arith
+    go false h = let e : 2 ^ suc n ≡ 2 ^ n * 2 = pow-suc 2 n in omega arith
+
+pub setOf-lt : (p : ℕ → Bool) → setOf p < 2 ^ 64
+unfolding setOf
+setOf-lt p = pack-lt p 64 0
+
 pub has-setOf : (p : ℕ → Bool) (u : ℕ) → u < 64 → has (setOf p) u ≡ p u
 unfolding setOf
 has-setOf p u h = has-pack p 64 0 u h ∙ rw zero-add

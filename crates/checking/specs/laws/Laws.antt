@@ -18,7 +18,7 @@ use Rattle.table_theory.specs.Tables.{reads, requiredByte, wrongAt}
 use Rattle.rules.specs.Rules.{Board}
 use Rattle.rules.specs.Chess.{chess}
 use Rattle.numbering.specs.declared.Material.{Material}
-use Rattle.numbering.specs.Material.{given, sizeOf}
+use Rattle.numbering.specs.Material.{known, given, sizeOf}
 use Rattle.index.specs.Endings.{boardFor}
 use Rattle.answers.specs.declared.Checked.{Checked}
 use Rattle.position.specs.declared.Men.{Men}
@@ -34,6 +34,7 @@ use Rattle.four_men.specs.laws.Checking.{long-of}
 use Rattle.position.specs.declared.Place.{Place}
 use Rattle.successors.specs.declared.Standing.{Standing}
 use Rattle.deciding.specs.Deciding.{StandingFor}
+use Rattle.deciding.specs.Rows.{RowOf}
 use Rattle.checking.specs.Right.{Numbers, Ended, RightBelow, found}
 
 -- ---- the byte required at a number
@@ -52,15 +53,17 @@ module _ (m : Material) (l : Lent) (t : List ℕ) (n c : ℕ) where
       h ∙ ap (λ (d : Board). eqb c (requiredAt chess (reads chess (numbered m l) t) d)) e ∙ sym (rw g)
 
 -- what code finds there
-pub legal-there : (m : Men) (n : ℕ) (s : Standing) (q : Place) → Numbers m n
-    → (T (given (materialFor m)) → m .colour < 2 → n < sizeOf (materialFor m) → StandingFor m n s) → s ≡ Standing.Legal q
-    → StandingFor m n (Standing.Legal q)
-legal-there m n s q h f e = subst (StandingFor m n) e (f (h .0 .ending) (h .0 .colour) (h .1))
+pub legal-there : (m : Men) (n : ℕ) (s : Standing) (q row : Place)
+    → Numbers m n × (T (known (materialFor m)) → RowOf m n row)
+    → (T (given (materialFor m)) → (T (known (materialFor m)) → RowOf m n row) → StandingFor m n s)
+    → s ≡ Standing.Legal q → StandingFor m n (Standing.Legal q)
+legal-there m n s q row h f e = subst (StandingFor m n) e (f (h .0 .0 .ending) (h .1))
 
-pub none-there : (m : Men) (n : ℕ) (s : Standing) → Numbers m n
-    → (T (given (materialFor m)) → m .colour < 2 → n < sizeOf (materialFor m) → StandingFor m n s) → s ≡ Standing.Nothing
-    → legalNumberOf (materialFor m) n ≡ false
-none-there m n s h f e = subst (StandingFor m n) e (f (h .0 .ending) (h .0 .colour) (h .1))
+pub none-there : (m : Men) (n : ℕ) (s : Standing) (row : Place)
+    → Numbers m n × (T (known (materialFor m)) → RowOf m n row)
+    → (T (given (materialFor m)) → (T (known (materialFor m)) → RowOf m n row) → StandingFor m n s)
+    → s ≡ Standing.Nothing → legalNumberOf (materialFor m) n ≡ false
+none-there m n s row h f e = subst (StandingFor m n) e (f (h .0 .0 .ending) (h .1))
 
 -- ---- the loop
 

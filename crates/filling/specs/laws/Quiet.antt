@@ -7,18 +7,16 @@ use mathlib.Core.Logic.{_⊎_, inl, inr}
 use mathlib.Core.List.{List, [], _∷_, map, List·Memᴰ·head, List·Memᴰ·tail}
 use Prim.Native.Nat.{ℕ, _+_, _-_, _/_, _<_, _≤_}
 use native.Mathlib.Omega.{arith}
-use lib.Dec.{T, leb, ltb, eqb, eqb→eq}
+use lib.Dec.{T, leb, eqb, eqb→eq}
 use lib.ListN.{length, getD}
-use borrow.Author.Tests.{lt-leb, le-leb, lt-ltb, le-ltb, eqb-true}
+use borrow.Author.Tests.{lt-leb, le-leb, eqb-true}
 use Rattle.finite.specs.Truth.{decided, and-left, and-right, fails, le-or-lt, false-of}
 use Rattle.finite.specs.Members.{_∈_, map-out, none-in}
-use Rattle.finite.specs.Mapped.{Upto}
 use Rattle.theory.specs.Game.{next}
 use Rattle.theory.specs.Required.{requiredAt}
 use Rattle.theory.specs.laws.RuleLaws.{required-rule, byte-before}
-use Rattle.table_theory.specs.Tables.{reads, settles, passByte}
+use Rattle.table_theory.specs.Tables.{reads, settles}
 use Rattle.table_theory.specs.laws.Acceptance.{reads-inside, reads-outside}
-use Rattle.table_theory.specs.laws.Passing.{settles-in-place}
 use Rattle.rules.specs.declared.Piece.{Piece}
 use Rattle.rules.specs.Rules.{Board, empty, legal, mated}
 use Rattle.rules.specs.Chess.{chess}
@@ -217,41 +215,35 @@ module _ (men : Men) (l : Lent) (k : ℕ) (t : List ℕ) where
             q .lent (x .0) (x .1) .none (x .2) (omega arith)
             (in-lower men (x .2) (x .3) (λ o. x .4 o ∙ ap (λ (x : ℕ). 1 - x) (side-above m w n h high))) (x .5)
 
-    -- in place: the half's answer, asked of the table at the pass's start
-    pub quiet-in-place : (u : List ℕ) (white black may : Bool) → (white ≡ false → WhiteQuiet)
-        → (black ≡ false → BlackQuiet) → may ≡ cond (ltb n (sizeOf m / 2)) white black
-        → Upto (passByte chess (numbered m l) k t) t u n → may ≡ false → settles chess (numbered m l) k u n ≡ false
-    quiet-in-place u white black may fw fb e up off =
-        settles-in-place chess (numbered m l) k t u n up ∙ go (le-or-lt (sizeOf m / 2) n)
-      where
-        go : (sizeOf m / 2 ≤ n) ⊎ (n < sizeOf m / 2) → settles chess (numbered m l) k t n ≡ false
-        go (inl high) = let z : may ≡ black = e
-            ∙ ap (λ (b : Bool). cond b white black) (le-ltb n (sizeOf m / 2) high) in
-            quiet-black high (fb (sym z ∙ off))
-        go (inr low) = let z : may ≡ white = e
-            ∙ ap (λ (b : Bool). cond b white black) (lt-ltb n (sizeOf m / 2) low) in
-            quiet-white low (fw (sym z ∙ off))
-
 -- as the code has it: the table has the ending's size
-pub quiet-here : (m : Men) (first second t : List ℕ) → Admitted m first second t → (k n : ℕ) → n < length t
-    → (u : List ℕ) (white black may : Bool)
-    → (white ≡ false → Quiet (materialFor m) (lent first second) k t (length t / 2) (length t) (lowOf m) 59136)
-    → (black ≡ false → Quiet (materialFor m) (lent first second) k t 0 (length t / 2) 0 (highOf m))
-    → may ≡ cond (ltb n (length t / 2)) white black → Upto (passByte chess (over m first second) k t) t u n
-    → may ≡ false → settles chess (over m first second) k u n ≡ false
-quiet-here m first second t a k n h u white black may fw fb e up off =
-    go (length t) (long m first second t a) h fw fb e
+pub quiet-below : (m : Men) (first second t : List ℕ) → Admitted m first second t → (k n : ℕ) → n < length t / 2
+    → Quiet (materialFor m) (lent first second) k t (length t / 2) (length t) (lowOf m) 59136
+    → settles chess (over m first second) k t n ≡ false
+quiet-below m first second t a k n = go (length t) (long m first second t a)
   where
-    go : (s : ℕ) → s ≡ sizeOf (materialFor m) → n < s
-        → (white ≡ false → Quiet (materialFor m) (lent first second) k t (s / 2) s (lowOf m) 59136)
-        → (black ≡ false → Quiet (materialFor m) (lent first second) k t 0 (s / 2) 0 (highOf m))
-        → may ≡ cond (ltb n (s / 2)) white black → settles chess (over m first second) k u n ≡ false
+    inside : (s : ℕ) → n < s / 2 → n < s
+    inside s h = omega arith
+
+    go : (s : ℕ) → s ≡ sizeOf (materialFor m) → n < s / 2
+        → Quiet (materialFor m) (lent first second) k t (s / 2) s (lowOf m) 59136
+        → settles chess (over m first second) k t n ≡ false
     go s z =
-        subst⁻¹ (λ (s : ℕ). n < s
-        → (white ≡ false → Quiet (materialFor m) (lent first second) k t (s / 2) s (lowOf m) 59136)
-        → (black ≡ false → Quiet (materialFor m) (lent first second) k t 0 (s / 2) 0 (highOf m))
-        → may ≡ cond (ltb n (s / 2)) white black → settles chess (over m first second) k u n ≡ false) z
-        (λ h fw fb e. quiet-in-place m (lent first second) k t n h u white black may fw fb e up off)
+        subst⁻¹ (λ (s : ℕ). n < s / 2 → Quiet (materialFor m) (lent first second) k t (s / 2) s (lowOf m) 59136
+        → settles chess (over m first second) k t n ≡ false) z
+        (λ h q. quiet-white m (lent first second) k t n (inside (sizeOf (materialFor m)) h) h q)
+
+pub quiet-above : (m : Men) (first second t : List ℕ) → Admitted m first second t → (k n : ℕ) → n < length t
+    → length t / 2 ≤ n → Quiet (materialFor m) (lent first second) k t 0 (length t / 2) 0 (highOf m)
+    → settles chess (over m first second) k t n ≡ false
+quiet-above m first second t a k n = go (length t) (long m first second t a)
+  where
+    go : (s : ℕ) → s ≡ sizeOf (materialFor m) → n < s → s / 2 ≤ n
+        → Quiet (materialFor m) (lent first second) k t 0 (s / 2) 0 (highOf m)
+        → settles chess (over m first second) k t n ≡ false
+    go s z =
+        subst⁻¹ (λ (s : ℕ). n < s → s / 2 ≤ n → Quiet (materialFor m) (lent first second) k t 0 (s / 2) 0 (highOf m)
+        → settles chess (over m first second) k t n ≡ false) z
+        (λ h g q. quiet-black m (lent first second) k t n h g q)
 
 -- ---- nothing found
 

@@ -5,13 +5,15 @@ use mathlib.Core.Logic.{_⊎_, inl, inr, ⊎-elim}
 use mathlib.Core.Bool.{Bool, true, false, cond, _&&_, _||_}
 use Prim.Native.Nat.{ℕ, _+_, _*_, _/_, _%_, _<_, _≤_}
 use native.Mathlib.Omega.{arith}
-use lib.Bits.{bitAnd, bitXor, and-block, and-mask}
-use lib.Dec.{T, ltb, eqb, eqb→eq}
+use lib.Bits.{bitAnd, and-block, and-mask}
+use lib.Dec.{ltb}
 use borrow.Author.Tests.{lt-ltb, le-ltb, eq-eqb, ne-eqb}
 use Rattle.finite.specs.Truth.{le-or-lt, cond-true}
-use Rattle.finite.specs.Below.{allBelow, below}
-use Rattle.symmetry.specs.Symmetry.{Symmetry, mapped, exchange}
+use Rattle.symmetry.specs.Symmetry.{mapped, exchange}
 use Rattle.symmetry.specs.laws.SymmetryLaws.{mapped-on, mapped-off}
+use Rattle.rules.specs.laws.PawnLaws.{keeping}
+use Rattle.pawn_numbers.specs.Places.{flipBits}
+use Rattle.pawn_numbers.specs.laws.PlaceLaws.{bits-turn}
 use Rattle.numbering.specs.Kings.{above, onDiagonal}
 use Rattle.numbering.specs.Normal.{turn, swapsKings}
 use Rattle.numbering.specs.KingMaps.{swapping}
@@ -20,30 +22,14 @@ use Rattle.index.specs.Least.{flipOf, flipped, packed, transposedKey, ri
 
 -- ---- the reversals, by bits
 
-reversal : Bool → Bool → Symmetry
-reversal files ranks = record { files = files; ranks = ranks; swap = false }
-
-turned : Bool → Bool → ℕ → Bool
-turned files ranks s = eqb (bitXor s (cond files 7 0 + cond ranks 56 0)) (mapped (reversal files ranks) s)
-
-all-turned : (files ranks : Bool) → T (allBelow (turned files ranks) 64)
-unfolding allBelow turned mapped reversal
-all-turned true true = tt
-all-turned true false = tt
-all-turned false true = tt
-all-turned false false = tt
-
-flips : (files ranks : Bool) (s : ℕ) → flipped (cond files 7 0 + cond ranks 56 0) s ≡ mapped (reversal files ranks) s
-unfolding flipped turned
+flips : (files ranks : Bool) (s : ℕ) → flipped (flipBits files ranks) s ≡ mapped (keeping files ranks) s
+unfolding flipped
 flips files ranks s =
-    ⊎-elim (λ h. rw (le-ltb s 64 h) (sym (mapped-off (reversal files ranks) s h)))
-    (λ h. rw (lt-ltb s 64 h)
-    (eqb→eq (bitXor s (cond files 7 0 + cond ranks 56 0)) (mapped (reversal files ranks) s)
-    (below (turned files ranks) 64 (all-turned files ranks) s h)))
-    (le-or-lt 64 s)
+    ⊎-elim (λ h. rw (le-ltb s 64 h) (sym (mapped-off (keeping files ranks) s h)))
+    (λ h. rw (lt-ltb s 64 h) (bits-turn files ranks s h)) (le-or-lt 64 s)
 
 pub flip-turns : (white s : ℕ) → flipped (flipOf white) s ≡ mapped (turn white) s
-unfolding flipOf turn reversal
+unfolding flipOf turn
 flip-turns white s = flips (ltb 3 (white % 8)) (ltb 3 (white / 8)) s
 
 -- ---- the squares of a key

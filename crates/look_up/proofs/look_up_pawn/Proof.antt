@@ -1,14 +1,29 @@
 -- `look_up::look_up_pawn` meets its contract.
-use mathlib.Core.Path.{refl}
+use mathlib.Core.Path.{refl, ap, _∙_}
 use Prim.Native.Nat.{ℕ}
+use native.Mathlib.Omega.{arith}
 use borrow.Author.Tests.{not-true, not-false}
-use Rattle.rules.specs.Rules.{Board}
+use Rattle.rules.specs.Rules.{Board, inCheck}
 use Rattle.index.specs.laws.PawnLaws.{pawn-place-told}
 use Rattle.successors.specs.Successors.{verdictOf}
 use Rattle.deciding.specs.laws.PawnVerdicts.{for-pawn, own-byte}
-use Rattle.look_up.specs.laws.Laws.{of-pawn, refused-length, told-answer, fit-of}
+use Rattle.look_up.specs.laws.Checked.{check-stands, none-stands}
+use Rattle.look_up.specs.laws.Laws.{of-pawn, refused-standing, refused-length, told-answer, fit-of}
 use Rattle.look_up.proofs.look_up_pawn.Statement.{statement}
 use Rattle.look_up.proofs.look_up_pawn.Tie as tie
+
+other-requires : tie.Need-other-requires
+other-requires c κs = tt
+
+in-check-requires : tie.Need-in-check-requires
+in-check-requires c κs = tt
+
+returns : tie.Need-returns
+returns c =
+    let x = c .before in
+    λ z k. refused-standing _ _ _ 6
+    (check-stands _ z _ (x .in-check .ensures ∙ ap (inCheck _) (x .before .other .ensures)) (c .if1 .taken))
+    (λ e. omega arith)
 
 pawn-normal-place-requires : tie.Need-pawn-normal-place-requires
 pawn-normal-place-requires c κs = tt
@@ -19,14 +34,18 @@ material-for-requires c κs = tt
 lengths-fit-requires : tie.Need-lengths-fit-requires
 lengths-fit-requires c κs = tt
 
-returns : tie.Need-returns
-returns c =
+returns-2 : tie.Need-returns-2
+returns-2 c =
     let f = c .before in
     let m = f .before in
     let n = m .before .before .before in
-    λ z k. refused-length _ _ _ z _ (λ y. pawn-place-told _ _ refl k y _ (n .pawn-normal-place .ensures)) _
+    let i = n .before in
+    let x = i .before in
+    λ z k. refused-length _ _ _
+    (none-stands _ z _ (x .in-check .ensures ∙ ap (inCheck _) (x .before .other .ensures)) (i .if1 .left)) _
+    (λ y. pawn-place-told _ _ refl k y _ (n .pawn-normal-place .ensures)) _
     (fit-of _ _ (n .pawn-normal-place .result .men) _ _ (m .material-for .ensures) (f .lengths-fit .ensures))
-    (not-true _ (c .if1 .taken))
+    (not-true _ (c .if2 .taken))
 
 pawn-byte-requires : tie.Need-pawn-byte-requires
 pawn-byte-requires c κs = tt
@@ -37,18 +56,22 @@ pawn-verdict-requires c κs = tt
 told-requires : tie.Need-told-requires
 told-requires c κs = tt
 
-returns-2 : tie.Need-returns-2
-returns-2 c =
+returns-3 : tie.Need-returns-3
+returns-3 c =
     let v = c .before in
     let b = v .before in
     let e = b .before in
     let f = e .before in
     let m = f .before in
     let n = m .before .before .before in
+    let i = n .before in
+    let x = i .before in
     let own = n .pawn-normal-place .ensures in
-    λ z k. told-answer _ _ _ z _ (λ y. pawn-place-told _ _ refl k y _ own) _
+    λ z k. told-answer _ _ _
+    (none-stands _ z _ (x .in-check .ensures ∙ ap (inCheck _) (x .before .other .ensures)) (i .if1 .left)) _
+    (λ y. pawn-place-told _ _ refl k y _ own) _
     (fit-of _ _ (n .pawn-normal-place .result .men) _ _ (m .material-for .ensures) (f .lengths-fit .ensures))
-    (not-false _ (e .if1 .left)) _ _ (λ s. own-byte _ _ _ _ _ _ (of-pawn _ _ own s) (b .pawn-byte .ensures))
+    (not-false _ (e .if2 .left)) _ _ (λ s. own-byte _ _ _ _ _ _ (of-pawn _ _ own s) (b .pawn-byte .ensures))
     (λ s. for-pawn _ _ (λ (g : Board → ℕ) (x : Board). verdictOf g (b .pawn-byte .result) x) _ _ _ _ (of-pawn _ _ own s)
     (v .pawn-verdict .ensures (of-pawn _ _ own s .on))) _
     (c .told .ensures)
@@ -57,11 +80,14 @@ pub look-up-pawn-spec : {M : Type 1} → statement M
 look-up-pawn-spec =
     tie.close
     (tie.spec
+    other-requires
+    in-check-requires
+    returns
     pawn-normal-place-requires
     material-for-requires
     lengths-fit-requires
-    returns
+    returns-2
     pawn-byte-requires
     pawn-verdict-requires
     told-requires
-    returns-2)
+    returns-3)

@@ -1,15 +1,17 @@
 -- `look_up::look_up_with` meets its contract: refused, or with a pawn, or of pieces.
 use mathlib.Core.Path.{sym, ap, _∙_}
 use Rattle.rules.specs.declared.Piece.{Piece}
+use Rattle.look_up.specs.laws.Checked.{placing-stands}
 use Rattle.look_up.specs.laws.Laws.{refused-standing}
 use Rattle.look_up.proofs.look_up_with.Statement.{statement}
 use Rattle.look_up.proofs.look_up_with.Tie as tie
 
-standing-with-requires : tie.Need-standing-with-requires
-standing-with-requires c κs = tt
+placing-with-requires : tie.Need-placing-with-requires
+placing-with-requires c κs = tt
 
 returns : tie.Need-returns
-returns c = refused-standing _ _ _ _ (c .before .standing-with .ensures) (c .if1 .taken)
+returns c =
+    refused-standing _ _ _ _ (placing-stands _ _ (c .before .placing-with .ensures) (c .if1 .taken)) (c .if1 .taken)
 
 man-in-requires : tie.Need-man-in-requires
 man-in-requires c κs = tt
@@ -22,7 +24,7 @@ returns-2 c =
     let t = c .before in
     let m = t .before .before in
     let e = m .before in
-    c .look-up-pawn .ensures (sym (e .before .standing-with .ensures) ∙ e .if1 .left)
+    c .look-up-pawn .ensures (sym (e .before .placing-with .ensures) ∙ e .if1 .left)
     (sym (ap (λ (x : Piece). x .kind) (m .man-in .ensures)) ∙ t .if2 .taken)
 
 look-up-pieces-requires : tie.Need-look-up-pieces-requires
@@ -33,14 +35,14 @@ returns-3 c =
     let t = c .before in
     let m = t .before .before in
     let e = m .before in
-    c .look-up-pieces .ensures (sym (e .before .standing-with .ensures) ∙ e .if1 .left)
+    c .look-up-pieces .ensures (sym (e .before .placing-with .ensures) ∙ e .if1 .left)
     (λ k. t .if2 .left (ap (λ (x : Piece). x .kind) (m .man-in .ensures) ∙ k))
 
 pub look-up-with-spec : {M : Type 1} → statement M
 look-up-with-spec =
     tie.close
     (tie.spec
-    standing-with-requires
+    placing-with-requires
     returns
     man-in-requires
     look-up-pawn-requires

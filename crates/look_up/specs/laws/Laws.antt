@@ -2,7 +2,7 @@
 use mathlib.Core.Path.{_≡_, refl, sym, ap, subst⁻¹, _∙_}
 use mathlib.Core.Bool.{Bool, true, false}
 use mathlib.Core.List.{List}
-use Prim.Native.Nat.{ℕ}
+use Prim.Native.Nat.{ℕ, _-_}
 use native.Mathlib.Omega.{arith}
 use lib.Dec.{T}
 use borrow.Author.Tests.{ne-eqb}
@@ -12,7 +12,7 @@ use Rattle.table_theory.specs.Tables.{reads}
 use Rattle.symmetry.specs.Symmetry.{Symmetry, mapped, inverse}
 use Rattle.rules.specs.declared.Piece.{Piece}
 use Rattle.rules.specs.declared.Move.{Move}
-use Rattle.rules.specs.Rules.{Board, promotionOf}
+use Rattle.rules.specs.Rules.{Board, promotionOf, inCheck}
 use Rattle.rules.specs.Chess.{chess}
 use Rattle.numbering.specs.declared.Material.{Material}
 use Rattle.numbering.specs.Material.{known, given, legalIn, OfMaterial, materialIn}
@@ -24,10 +24,10 @@ use Rattle.position.specs.declared.Position.{Position}
 use Rattle.position.specs.declared.Map.{Map}
 use Rattle.position.specs.declared.Men.{Men}
 use Rattle.position.specs.Keyed.{boardOf, manIn, manKind}
-use Rattle.position.specs.Refusals.{badMen, placingRefusal, standingRefusal, placingWith, standingWith}
+use Rattle.position.specs.Refusals.{badMen, otherInCheck, placingRefusal, standingRefusal, placingWith, standingWith}
 use Rattle.position.specs.Maps.{symmetryOf}
-use Rattle.position.specs.Posed.{boardIn, materialFor, Complete}
-use Rattle.position.specs.laws.BothSizes.{standing-placed-with}
+use Rattle.position.specs.Posed.{posed, boardIn, materialFor, Complete}
+use Rattle.position.specs.laws.BothSizes.{standing-placed-with, placed-men-with, placed-side-with}
 use Rattle.index.specs.declared.NormalPlace.{NormalPlace}
 use Rattle.index.specs.Arranging.{Normalises, pawnNormalAs}
 use Rattle.index.specs.laws.PawnLaws.{keyed-pieces}
@@ -38,7 +38,7 @@ use Rattle.four_men.specs.Answers.{lengthsFit, lookUpWith}
 use Rattle.four_men.specs.laws.Alone.{pawn-refused, look-up-alone}
 use Rattle.index.specs.Endings.{normalIn, mapIn}
 use Rattle.four_men.specs.laws.Given.{SameFor}
-use Rattle.four_men.specs.laws.Standing.{standing-with-facts}
+use Rattle.four_men.specs.laws.Standing.{known-not-pawn, men-known, standing-with-facts}
 use Rattle.successors.specs.declared.Verdict.{Verdict}
 use Rattle.successors.specs.Successors.{suitedFrom, verdictOf}
 use Rattle.successors.specs.laws.VerdictLaws.{told-wrong, told-right}
@@ -46,6 +46,7 @@ use Rattle.deciding.specs.Deciding.{PawnSeated, Seated}
 use Rattle.deciding.specs.laws.PawnLaws.{known-first}
 use Rattle.deciding.specs.laws.PawnVerdicts.{seated-pawn, seated-pieces}
 use Rattle.look_up.specs.Told.{toldOf}
+use Rattle.look_up.specs.laws.Checked.{rivalChecked, checked-there}
 use Rattle.look_up.specs.laws.Normal.{given-of, normal-for, reads-for, required-for, seated-of}
 
 -- a move, its two squares carried back
@@ -61,15 +62,13 @@ pub fit-of : (l : Lent) (t : List ℕ) (m : Men) (x : Material) (fit : Bool) →
 fit-of l t m x fit e h = h ∙ ap (λ (y : Material). lengthsFit y l t) e
 
 -- the normal place of pieces, and of a pawn
-pub of-pieces : (p : Position) (r : NormalPlace) → standingWith p ≡ 0 → (placingWith p ≡ 0 → Normalises p r)
-    → (manKind p ≡ 4 → ⊥) → Seated (r .men) (r .place) → Complete (r .men) (r .place)
-of-pieces p r z f k s =
-    let placed = standing-placed-with p z in
+pub of-pieces : (p : Position) (r : NormalPlace) → placingWith p ≡ 0 → Normalises p r → (manKind p ≡ 4 → ⊥)
+    → Seated (r .men) (r .place) → Complete (r .men) (r .place)
+of-pieces p r z n k s =
     seated-pieces (r .men) (r .place) s
     (λ e. omega (
       arith,
-      known-first (r .men)
-          (subst⁻¹ (λ (x : Material). T (known x)) (f placed .material) (keyed-pieces p placed k)),
+      known-first (r .men) (subst⁻¹ (λ (x : Material). T (known x)) (n .material) (keyed-pieces p z k)),
       e,
     ))
 
@@ -77,6 +76,20 @@ pub of-pawn : (p : Position) (r : NormalPlace) → r ≡ pawnNormalAs p → Seat
     → PawnSeated (r .men) (r .place)
 unfolding pawnNormalAs
 of-pawn p r e s = seated-pawn (r .men) (r .place) s (ap (λ (x : NormalPlace). x .men .first) e)
+
+-- whether the side that does not move is in check, asked of the normal place of pieces
+pub check-of : (p : Position) (r : NormalPlace) → placingWith p ≡ 0 → Normalises p r → (manKind p ≡ 4 → ⊥)
+    → (x : Bool) (rival : ℕ) → rival ≡ 1 - r .place .side
+    → (Complete (r .men) (r .place) → x ≡ inCheck (boardIn (r .men) (r .place)) rival) → x ≡ otherInCheck p
+unfolding boardOf posed
+check-of p r z n k x rival e f =
+    let w = keyed-pieces p z k in
+    f (of-pieces p r z n k (seated-of (r .men) (r .place) (n .whole)))
+    ∙ ap (inCheck (boardIn (r .men) (r .place))) e
+    ∙ ap rivalChecked (n .board)
+    ∙ checked-there (boardOf p) (placed-side-with p z)
+    (men-known p (placed-men-with p z) (known-not-pawn (materialIn (boardOf p .men)) w) .1)
+    (materialIn (boardOf p .men)) w
 
 module _ (l : Lent) (t : List ℕ) (p : Position) where
   pub refused-standing : (n : ℕ) → n ≡ standingWith p → (n ≡ 0 → ⊥) → Answer.Refused n ≡ lookUpWith l t p

@@ -6,7 +6,7 @@ use Prim.Native.Nat.{ℕ, _/_, _%_}
 use native.Mathlib.Omega.{arith}
 use lib.Dec.{ltb}
 use borrow.Author.Tests.{le-ltb, eq-eqb, ne-eqb}
-use Rattle.symmetry.specs.Symmetry.{Symmetry, mapped, inverse, composed, filesReversed, ranksReversed, exchange}
+use Rattle.symmetry.specs.Symmetry.{Symmetry, mapped, inverse, composed, exchange}
 use Rattle.symmetry.specs.laws.SymmetryLaws.{mapped-composed}
 use Rattle.rules.specs.declared.Piece.{Piece}
 use Rattle.rules.specs.Rules.{Board, pieceOf}
@@ -72,7 +72,7 @@ maps-twice m n p =
     (slot-twice m n (p .first)) (slot-twice m n (p .second))
 
 -- a map that does nothing
-pub still : (s : ℕ) → mapped (swapping false) s ≡ s
+still : (s : ℕ) → mapped (swapping false) s ≡ s
 still s = stays-diagonal false s (λ t. absurd t)
 
 slot-unmoved : (s : Slot) → mappedSlot (swapping false) s ≡ s
@@ -131,14 +131,6 @@ unfolding normalOf
 normal-via n p e = ap (λ (x : Normal). symmetryOf (x .via)) e
 
 -- ---- a square carried back
-
-pub both-reversed : (s : ℕ) → mapped ranksReversed (mapped filesReversed s) ≡ mapped (reversals true true) s
-unfolding composed xor
-both-reversed s = mapped-composed filesReversed ranksReversed s
-
-pub as-told : (files ranks f r : Bool) (s : ℕ) → files ≡ f → ranks ≡ r
-    → mapped (reversals f r) s ≡ mapped (reversals files ranks) s
-as-told files ranks f r s a b = rw (a, b)
 
 pub back-exchanged : (m : Map) (s : ℕ) → m .swap ≡ true
     → mapped (reversals (m .files) (m .ranks)) (mapped exchange s) ≡ mapped (inverse (symmetryOf m)) s

@@ -3,11 +3,10 @@ use mathlib.Core.Path.{_≡_, refl, sym, ap, _∙_}
 use mathlib.Core.Bool.{Bool, true, false}
 use mathlib.Core.List.{List, [], _∷_, _++_, map, flatMap}
 use Prim.Native.Nat.{ℕ, zero, suc, _+_, _*_, _^_, _≤_, _<_}
-use native.Mathlib.Nat.{pow-suc}
 use native.Mathlib.Omega.{arith}
 use lib.ListN.{length, set, length-append}
 use lib.Seq.{sets, length-sets}
-use Rattle.board.specs.Sets.{has, members, digit, pack, setOf}
+use Rattle.board.specs.Sets.{has, members, setOf}
 use Rattle.board.specs.laws.LowestLaws.{Lowest}
 use Rattle.rules.specs.declared.Move.{Move}
 use Rattle.rules.specs.Rules.{Board, canMove, taking, promotes, movesFrom, promotionOf, moveOf}
@@ -154,17 +153,3 @@ module _ (b : Board) (rest from others targets : ℕ) (low : Lowest rest from ot
   mover-next k′ i′ s =
       left-next v (targetsMoves foes ends from (members targets)) _ (turn-moves b rest from others targets low e foes ends ef ee)
       k′ i′ (s .bytes) (s .count)
-
--- a set of squares is a word
-pack-lt : (p : ℕ → Bool) (n k : ℕ) → pack p n k < 2 ^ n
-unfolding pack
-pack-lt p zero k = omega arith
-pack-lt p (suc n) k = go (p k) (pack-lt p n (suc k))
-  where
-    go : (x : Bool) → pack p n (suc k) < 2 ^ n → digit x + 2 * pack p n (suc k) < 2 ^ suc n
-    go true h = let e : 2 ^ suc n ≡ 2 ^ n * 2 = pow-suc 2 n in omega arith
-    go false h = let e : 2 ^ suc n ≡ 2 ^ n * 2 = pow-suc 2 n in omega arith
-
-pub setOf-lt : (p : ℕ → Bool) → setOf p < 2 ^ 64
-unfolding setOf
-setOf-lt p = pack-lt p 64 0

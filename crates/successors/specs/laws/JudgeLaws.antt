@@ -1,25 +1,21 @@
 -- A byte compared with the moves of three pieces, a piece at a time.
 use mathlib.Core.Path.{_≡_, sym, ap, ap₂, _∙_}
+use mathlib.Core.Bool.{Bool}
 use Prim.Native.Nat.{ℕ}
 use native.Mathlib.Omega.{arith}
 use Rattle.board.specs.Sets.{setOf}
 use Rattle.rules.specs.Rules.{Board, canMove}
 use Rattle.successors.specs.declared.Sifted.{Sifted}
 use Rattle.successors.specs.declared.Judged.{Judged}
-use Rattle.successors.specs.Successors.{siftedFrom, joined, judgedFrom}
+use Rattle.successors.specs.Successors.{siftedBy, siftedFrom, joined, judgedFrom}
 use Rattle.successors.specs.laws.SiftLaws.{sift-start, sift-end}
 
 module _ (byte : Board → ℕ) (c : ℕ) (b : Board) where
-  -- a piece whose square code has by another name
-  pub sifted-at : (x from targets : ℕ) (r : Sifted) → from ≡ x → targets ≡ setOf (canMove b x)
-      → (targets ≡ setOf (canMove b from) → r ≡ siftedFrom byte c b from) → r ≡ siftedFrom byte c b x
-  sifted-at x from targets r e t f =
-      f (t ∙ ap (λ (s : ℕ). setOf (canMove b s)) (sym e)) ∙ ap (siftedFrom byte c b) e
-
-  -- a piece without a move
-  pub no-moves : (from targets : ℕ) → targets ≡ setOf (canMove b from) → targets ≡ 0
-      → Sifted.Suited 0 ≡ siftedFrom byte c b from
-  no-moves from targets e z = sift-end byte c b from 0 targets (omega arith) z (sift-start byte c b from targets e)
+  -- a piece without such a move
+  pub no-moves : (from : ℕ) (goes : ℕ → Bool) (targets : ℕ) → targets ≡ setOf goes → targets ≡ 0
+      → Sifted.Suited 0 ≡ siftedBy byte c b from goes
+  no-moves from goes targets e z =
+      sift-end byte c b from goes 0 targets (omega arith) z (sift-start byte c b from goes targets e)
 
   module _ (x y z : ℕ) (u : Sifted) (eu : u ≡ siftedFrom byte c b x) where
     pub king-refuted : u ≡ Sifted.Refuted → Judged.Refuted ≡ judgedFrom byte c b x y z

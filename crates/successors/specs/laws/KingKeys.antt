@@ -4,13 +4,10 @@ use mathlib.Core.List.{List}
 use mathlib.Core.Bool.{Bool, true, false, cond, _||_}
 use Prim.Native.Nat.{ℕ, _+_, _*_, _-_}
 use native.Mathlib.Omega.{arith}
-use lib.Bits.{bitOr}
 use lib.Dec.{T, leb, eqb}
 use lib.ListN.{getD}
 use borrow.Author.Tests.{eq-eqb, ne-eqb}
-use Rattle.board.specs.Sets.{has, setOf}
-use Rattle.board.specs.laws.SetLaws.{has-or}
-use Rattle.rules.specs.Rules.{carried, moved, canMove}
+use Rattle.rules.specs.Rules.{carried, moved}
 use Rattle.numbering.specs.Number.{numberOf}
 use Rattle.position.specs.declared.Men.{Men}
 use Rattle.position.specs.declared.Place.{Place}
@@ -20,7 +17,7 @@ use Rattle.position.specs.laws.PosedLaws.{complete-spread}
 use Rattle.index.specs.Least.{packed}
 use Rattle.index.specs.Seats.{Seated, alike, alone, keyAt}
 use Rattle.successors.specs.Successors.{kingAt, bytesIn}
-use Rattle.successors.specs.Quiet.{takesMan, ofMan, kingUnit, kingLifted, kingTo}
+use Rattle.successors.specs.Quiet.{ofMan, quietTo, kingUnit, kingLifted, kingTo}
 use Rattle.successors.specs.laws.QuietLaws.{byte-king}
 
 -- what code has in hand for a king's moves
@@ -76,44 +73,12 @@ module _ (m : Men) (q : Place) (w : Complete m q) where
           )
 
   -- the byte after his move, at the number of the key that he makes
-  pub byte-step : (targets : ℕ) → targets ≡ setOf (canMove (boardIn m q) (kingAt q)) → takesMan targets q ≡ false
-      → (to : ℕ) → T (canMove (boardIn m q) (kingAt q) to) → (first second table : List ℕ) (single like : Bool)
+  pub byte-step : (to : ℕ) → T (quietTo m q (kingAt q) to) → (first second table : List ℕ) (single like : Bool)
       (side unit others r : ℕ) → Stepping m q single like side unit others
       → ((a : Men) (next : Place) → single ≡ alone next → like ≡ alike a → side ≡ next .side
       → others + to * unit ≡ keyAt next → Seated a next → r ≡ getD table (numberOf (boardIn a next)) 0)
       → r ≡ bytesIn m first second table (moved (boardIn m q) (kingAt q) to)
-  byte-step targets e k to t first second table single like side unit others r h f =
-      byte-king m q (kingAt q) targets e k to t w first second table king-alone (kingTo q (kingAt q) to) r refl
+  byte-step to t first second table single like side unit others r h f =
+      byte-king m q (kingAt q) to t w first second table king-alone (kingTo q (kingAt q) to) r refl
       (f m (kingTo q (kingAt q) to) (h .alone-is) (h .like-is) (h .side-is)
       (ap₂ (λ (a u : ℕ). a + to * u) (h .others-is) (h .unit-is) ∙ king-key to))
-
--- ---- whether a man is taken, of three sets at once
-
-none-of : (a b c d e f : Bool) → ((a || (b || c)) || (d || (e || f))) ≡ false
-    → ((a || d) ≡ false) × ((b || e) ≡ false) × ((c || f) ≡ false)
-none-of false false false false false false h = (refl, refl, refl)
-none-of true b c d e f h = let z : _≡_ {A = ℕ} 0 1 = cc in absurd (omega arith)
-none-of false true c d e f h = let z : _≡_ {A = ℕ} 0 1 = cc in absurd (omega arith)
-none-of false false true d e f h = let z : _≡_ {A = ℕ} 0 1 = cc in absurd (omega arith)
-none-of false false false true e f h = let z : _≡_ {A = ℕ} 0 1 = cc in absurd (omega arith)
-none-of false false false false true f h = let z : _≡_ {A = ℕ} 0 1 = cc in absurd (omega arith)
-none-of false false false false false true h = let z : _≡_ {A = ℕ} 0 1 = cc in absurd (omega arith)
-
-pub takes-none : (k f s : ℕ) (q : Place) → takesMan (bitOr k (bitOr f s)) q ≡ false
-    → (takesMan k q ≡ false) × (takesMan f q ≡ false) × (takesMan s q ≡ false)
-takes-none k f s q e =
-    none-of (has k x) (has f x) (has s x) (has k y) (has f y) (has s y) (sym (both x y) ∙ e)
-  where
-    x : ℕ
-    x = q .first
-
-    y : ℕ
-    y = q .second
-
-    three : (u : ℕ) → has (bitOr k (bitOr f s)) u ≡ (has k u || (has f u || has s u))
-    three u = has-or k (bitOr f s) u ∙ ap (λ (z : Bool). has k u || z) (has-or f s u)
-
-    both : (u v : ℕ)
-        → (has (bitOr k (bitOr f s)) u || has (bitOr k (bitOr f s)) v)
-        ≡ ((has k u || (has f u || has s u)) || (has k v || (has f v || has s v)))
-    both u v = rw (three u, three v)

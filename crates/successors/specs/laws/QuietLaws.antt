@@ -9,9 +9,7 @@ use lib.Bits.{bitXor}
 use lib.Dec.{T, leb, leb→le, ltb, eqb}
 use lib.ListN.{getD}
 use borrow.Author.Tests.{lt-ltb, le-leb, lt-leb, leb-false, eq-eqb, ne-eqb, eqb-true}
-use Rattle.finite.specs.Truth.{of-true, refuted}
-use Rattle.board.specs.Sets.{has, setOf}
-use Rattle.board.specs.laws.SetLaws.{set-has}
+use Rattle.finite.specs.Truth.{and-left, and-right, of-true, false-of, refuted}
 use Rattle.rules.specs.Rules.{moved, canMove}
 use Rattle.rules.specs.laws.CanMove.{can-on}
 use Rattle.numbering.specs.Number.{numberOf}
@@ -26,7 +24,7 @@ use Rattle.movegen.specs.Places.{squareAfter, placeAfter}
 use Rattle.successors.specs.declared.Frame.{Frame}
 use Rattle.successors.specs.Framing.{frameFor, chosenDigits, numberOn}
 use Rattle.successors.specs.Successors.{bytesIn, framedAfter}
-use Rattle.successors.specs.Quiet.{takesMan, ofMan, plainFor, baseFor, scaleFor, kingTo}
+use Rattle.successors.specs.Quiet.{ofMan, quietTo, plainFor, baseFor, scaleFor, kingTo}
 use Rattle.successors.specs.laws.PlaceLaws.{whole}
 use Rattle.successors.specs.laws.FramingLaws.{cond-yes, cond-no}
 use Rattle.successors.specs.laws.ByteLaws.{AllThere, all-there, own-seated, byte-own, byte-moved, byte-framed}
@@ -93,17 +91,20 @@ module _ (f : Frame) (single like : Bool) (x y : ℕ) (e : f .exchange ≡ 0) (l
 
 -- ---- the squares of quiet moves
 
-module _ (m : Men) (q : Place) (from : ℕ) (targets : ℕ) (e : targets ≡ setOf (canMove (boardIn m q) from))
-    (k : takesMan targets q ≡ false) (t : ℕ) (c : T (canMove (boardIn m q) from t)) where
-  off : (s : ℕ) → has targets s ≡ false → eqb s t ≡ false
-  off s h = ne-eqb s t (λ z. refuted (sym (set-has (canMove (boardIn m q) from) e t (can-on (boardIn m q) from t c .1))
-      ∙ ap (has targets) (sym z) ∙ h) c)
+module _ (m : Men) (q : Place) (from t : ℕ) (quiet : T (quietTo m q from t)) where
+  c : T (canMove (boardIn m q) from t)
+  c = and-left (canMove (boardIn m q) from t) (not (ofMan q t)) quiet
+
+  nobody : (eqb (q .first) t ≡ false) × (eqb (q .second) t ≡ false)
+  nobody =
+      none (eqb (q .first) t) (eqb (q .second) t)
+      (false-of {b = ofMan q t} (and-right (canMove (boardIn m q) from t) (not (ofMan q t)) quiet))
 
   first-off : eqb (q .first) t ≡ false
-  first-off = off (q .first) (none (has targets (q .first)) (has targets (q .second)) k .0)
+  first-off = nobody .0
 
   second-off : eqb (q .second) t ≡ false
-  second-off = off (q .second) (none (has targets (q .first)) (has targets (q .second)) k .1)
+  second-off = nobody .1
 
   goes : (s : ℕ) → eqb s t ≡ false → eqb s from ≡ true → t ≡ squareAfter from t s
   goes s h y = sym (rw (h, y))

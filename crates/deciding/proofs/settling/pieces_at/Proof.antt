@@ -21,8 +21,8 @@ returns c =
     λ w l h. unused-required (a .m) (a .first .now) (a .second .now) (a .table .now) (a .k) (a .n) w
     (used-not _ _ _ (p .place-at .ensures w l h) (sym (c .before .shares .ensures) ∙ c .if1 .taken))
 
-requires-depth-requires : tie.Need-requires-depth-requires
-requires-depth-requires c κs = search needs
+requires-on-requires : tie.Need-requires-on-requires
+requires-on-requires c κs = search needs
 
 returns-2 : tie.Need-returns-2
 returns-2 c =
@@ -31,7 +31,7 @@ returns-2 c =
     let a = p .before .before .before .before .args in
     λ w l h. let at = p .place-at .ensures w l h in
     let full = shared-complete _ _ _ at (sym (e .before .shares .ensures) ∙ e .if1 .left) in
-    not-required (a .m) (a .first .now) (a .second .now) (a .table .now) (a .k) (a .n) w _ (at .board) _ (c .before .requires-depth .ensures full) (not-true _ (c .if2 .taken))
+    not-required (a .m) (a .first .now) (a .second .now) (a .table .now) (a .k) (a .n) w _ (at .board) _ (c .before .requires-on .ensures full) (not-true _ (c .if2 .taken))
 
 is-legal-number-requires : tie.Need-is-legal-number-requires
 is-legal-number-requires c κs = search needs
@@ -44,7 +44,7 @@ returns-3 c =
     let a = p .before .before .before .before .args in
     λ w l h. let at = p .place-at .ensures w l h in
     let full = shared-complete _ _ _ at (sym (e .before .shares .ensures) ∙ e .if1 .left) in
-    legal-required (a .m) (a .first .now) (a .second .now) (a .table .now) (a .k) (a .n) w _ (at .board) _ (d .before .requires-depth .ensures full) (not-false _ (d .if2 .left)) _
+    legal-required (a .m) (a .first .now) (a .second .now) (a .table .now) (a .k) (a .n) w _ (at .board) _ (d .before .requires-on .ensures full) (not-false _ (d .if2 .left)) _
     (c .is-legal-number .ensures w l h)
 
 pub pieces-at-spec : {M : Type 1} → statement M
@@ -54,7 +54,7 @@ pieces-at-spec =
     place-at-requires
     shares-requires
     returns
-    requires-depth-requires
+    requires-on-requires
     returns-2
     is-legal-number-requires
     returns-3)

@@ -7,6 +7,9 @@ use borrow.Author.Needs.{needs}
 use Rattle.move_list.proofs.answers.move_count.Statement.{statement}
 use Rattle.move_list.proofs.answers.move_count.Tie as tie
 
+movers-of-requires : tie.Need-movers-of-requires
+movers-of-requires c κs = search needs
+
 placing-with-requires : tie.Need-placing-with-requires
 placing-with-requires c κs = search needs
 
@@ -15,30 +18,29 @@ returns c =
     let r = c .before .placing-with .ensures in
     refused-count _ _ (r ∙ standing-refused _ (λ z. c .if1 .taken (r ∙ z))) (c .if1 .taken)
 
-movers-of-requires : tie.Need-movers-of-requires
-movers-of-requires c κs = search needs
-
 returns-2 : tie.Need-returns-2
 returns-2 c =
-    let m = c .before in
-    let z = sym (m .before .before .placing-with .ensures) ∙ m .before .if1 .left in
-    refused-count _ _ (standing-check _ z (sym (m .movers-of .ensures z .check) ∙ c .if2 .taken)) (λ q. absurd (omega (arith, q)))
+    let e = c .before in
+    let q = e .before in
+    let z = sym (q .placing-with .ensures) ∙ e .if1 .left in
+    refused-count _ _ (standing-check _ z (sym (q .before .movers-of .ensures z .check) ∙ c .if2 .taken)) (λ q. absurd (omega (arith, q)))
 
 placed-count-requires : tie.Need-placed-count-requires
 placed-count-requires c κs =
-    let m = c .before in
-    let z = sym (m .before .before .placing-with .ensures) ∙ m .before .if1 .left in
-    (z, m .movers-of .ensures z)
+    let e = c .before in
+    let q = e .before in
+    let z = sym (q .placing-with .ensures) ∙ e .if1 .left in
+    (z, q .before .movers-of .ensures z)
 
 returns-3 : tie.Need-returns-3
 returns-3 c =
-    let m = c .before .before in
-    let r = m .before .before .placing-with .ensures in
-    let z = sym r ∙ m .before .if1 .left in
-    given-count _ _ (standing-none _ z (sym (m .movers-of .ensures z .check) ∙ c .before .if2 .left)) refl
+    let e = c .before .before in
+    let q = e .before in
+    let z = sym (q .placing-with .ensures) ∙ e .if1 .left in
+    given-count _ _ (standing-none _ z (sym (q .before .movers-of .ensures z .check) ∙ c .before .if2 .left)) refl
     _ (c .placed-count .ensures)
 
 pub move-count-spec : {M : Type 1} → statement M
 move-count-spec =
     tie.close
-    (tie.spec placing-with-requires returns movers-of-requires returns-2 placed-count-requires returns-3)
+    (tie.spec movers-of-requires placing-with-requires returns returns-2 placed-count-requires returns-3)

@@ -10,20 +10,20 @@ use Rattle.position.proofs.Map.back.Tie as tie
 transposed-requires : tie.Need-transposed-requires
 transposed-requires c κs = search needs
 
-reversed-requires : tie.Need-reversed-requires
-reversed-requires c κs = search needs
+square-flipped-requires : tie.Need-square-flipped-requires
+square-flipped-requires c κs = search needs
 
 returns : tie.Need-returns
 returns c =
     let m = c .before .before .before .args .self in
-    c .reversed .ensures ∙ ap (mapped (reversals (m .files) (m .ranks))) (c .before .transposed .ensures)
+    c .square-flipped .ensures ∙ ap (mapped (reversals (m .files) (m .ranks))) (c .before .transposed .ensures)
     ∙ back-exchanged m _ (c .before .before .if1 .taken)
 
-reversed-requires-2 : tie.Need-reversed-requires-2
-reversed-requires-2 c κs = search needs
+square-flipped-requires-2 : tie.Need-square-flipped-requires-2
+square-flipped-requires-2 c κs = search needs
 
 returns-2 : tie.Need-returns-2
-returns-2 c = c .reversed2 .ensures ∙ back-plain (c .before .before .args .self) _ (c .before .if1 .left)
+returns-2 c = c .square-flipped2 .ensures ∙ back-plain (c .before .before .args .self) _ (c .before .if1 .left)
 
 pub back-spec : {M : Type 1} → statement M
-back-spec = tie.close (tie.spec transposed-requires reversed-requires returns reversed-requires-2 returns-2)
+back-spec = tie.close (tie.spec transposed-requires square-flipped-requires returns square-flipped-requires-2 returns-2)

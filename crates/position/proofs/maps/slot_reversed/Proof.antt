@@ -11,8 +11,8 @@ enum-told c = search needs
 enum-known-slot : tie.Need-enum-known-slot
 enum-known-slot c = search needs
 
-reversed-requires : tie.Need-reversed-requires
-reversed-requires c κs = search needs
+square-flipped-requires : tie.Need-square-flipped-requires
+square-flipped-requires c κs = search needs
 
 returns : tie.Need-returns
 returns c = search needs
@@ -20,7 +20,7 @@ returns c = search needs
 returns-2 : tie.Need-returns-2
 returns-2 c =
     let a = c .before .before .before .before .args in
-    by-square (reversals (a .files) (a .ranks)) _ _ _ (c .before .before .slot .given .1) (c .reversed .ensures)
+    by-square (reversals (a .files) (a .ranks)) _ _ _ (c .before .before .slot .given .1) (c .square-flipped .ensures)
 
 pub slot-reversed-spec : {M : Type 1} → statement M
-slot-reversed-spec = tie.close (tie.spec enum-told enum-known-slot reversed-requires returns returns-2)
+slot-reversed-spec = tie.close (tie.spec enum-told enum-known-slot square-flipped-requires returns returns-2)

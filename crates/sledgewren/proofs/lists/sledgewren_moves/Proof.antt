@@ -11,14 +11,17 @@ use Rattle.sledgewren.proofs.lists.sledgewren_moves.Tie as tie
 returns : tie.Need-returns
 returns c = not-listed _ _ (c .if1 .taken)
 
-clear-requires : tie.Need-clear-requires
-clear-requires c κs = search needs
-
 position-read-requires : tie.Need-position-read-requires
 position-read-requires c κs = search needs
 
+movers-of-requires : tie.Need-movers-of-requires
+movers-of-requires c κs = search needs
+
 placing-with-requires : tie.Need-placing-with-requires
 placing-with-requires c κs = search needs
+
+clear-requires : tie.Need-clear-requires
+clear-requires c κs = search needs
 
 cast-result : tie.Need-cast-result
 cast-result c = search needs
@@ -28,15 +31,12 @@ same-length c = search needs
 
 returns-2 : tie.Need-returns-2
 returns-2 c =
-    let q = c .before in
-    let r = q .before in
-    let k = r .before .before .before in
+    let k = c .before .before .before in
+    let q = k .before .before in
+    let r = q .before .before in
     let e = q .placing-with .ensures in
-    refused-bytes _ _ (k .before .before .if1 .left) _ (k .clear .ensures) _ (r .position-read .ensures) _
+    refused-bytes _ _ (r .before .if1 .left) _ (k .clear .ensures) _ (r .position-read .ensures) _
     (e ∙ standing-refused _ (λ z. c .if2 .taken (e ∙ z))) (c .if2 .taken)
-
-movers-of-requires : tie.Need-movers-of-requires
-movers-of-requires c κs = search needs
 
 cast-result-2 : tie.Need-cast-result-2
 cast-result-2 c = search needs
@@ -46,33 +46,35 @@ same-length-2 c = search needs
 
 returns-3 : tie.Need-returns-3
 returns-3 c =
-    let m = c .before in
-    let q = m .before .before in
-    let r = q .before in
-    let k = r .before .before .before in
-    let z = sym (q .placing-with .ensures) ∙ m .before .if2 .left in
-    refused-bytes _ _ (k .before .before .if1 .left) _ (k .clear .ensures) _ (r .position-read .ensures) 6
+    let f = c .before in
+    let k = f .before .before .before in
+    let q = k .before .before in
+    let m = q .before in
+    let r = m .before in
+    let z = sym (q .placing-with .ensures) ∙ f .if2 .left in
+    refused-bytes _ _ (r .before .if1 .left) _ (k .clear .ensures) _ (r .position-read .ensures) 6
     (standing-check _ z (sym (m .movers-of .ensures z .check) ∙ c .if3 .taken)) (λ e. absurd (omega (arith, e)))
 
 write-moves-requires : tie.Need-write-moves-requires
 write-moves-requires c κs =
-    let m = c .before .before in
-    let q = m .before .before in
-    let k = q .before .before .before .before in
-    let z = sym (q .placing-with .ensures) ∙ m .before .if2 .left in
-    (k .clear .kept .0 ∙ k .before .before .if1 .left, m .movers-of .ensures z)
+    let f = c .before .before in
+    let k = f .before .before .before in
+    let q = k .before .before in
+    let m = q .before in
+    let z = sym (q .placing-with .ensures) ∙ f .if2 .left in
+    (k .clear .kept .0 ∙ m .before .before .if1 .left, m .movers-of .ensures z)
 
 cast-result-3 : tie.Need-cast-result-3
 cast-result-3 c =
     let w = c .before .before in
-    let r = w .before .before .before .before .before .before in
-    omega (arith, w .write-moves .ensures .count, few-moves (r .position-read .result))
+    let k = w .before .before .before .before .before .before in
+    omega (arith, w .write-moves .ensures .count, few-moves (k .before .before .before .before .position-read .result))
 
 mul-result : tie.Need-mul-result
 mul-result c =
     let w = c .before .before in
-    let r = w .before .before .before .before .before .before in
-    omega (arith, w .write-moves .ensures .count, few-moves (r .position-read .result))
+    let k = w .before .before .before .before .before .before in
+    omega (arith, w .write-moves .ensures .count, few-moves (k .before .before .before .before .position-read .result))
 
 same-length-3 : tie.Need-same-length-3
 same-length-3 c = search needs
@@ -80,26 +82,28 @@ same-length-3 c = search needs
 returns-4 : tie.Need-returns-4
 returns-4 c =
     let w = c .before .before in
-    let m = w .before .before .before in
-    let q = m .before .before in
-    let r = q .before in
-    let k = r .before .before .before in
-    let z = sym (q .placing-with .ensures) ∙ m .before .if2 .left in
-    given-bytes _ _ (k .before .before .if1 .left) _ (k .clear .ensures) _ (r .position-read .ensures)
-    (sym (standing-none _ z (sym (m .movers-of .ensures z .check) ∙ w .before .before .if3 .left))) _ _ (w .write-moves .ensures)
+    let g = w .before .before in
+    let f = g .before in
+    let k = f .before .before .before in
+    let q = k .before .before in
+    let m = q .before in
+    let r = m .before in
+    let z = sym (q .placing-with .ensures) ∙ f .if2 .left in
+    given-bytes _ _ (r .before .if1 .left) _ (k .clear .ensures) _ (r .position-read .ensures)
+    (sym (standing-none _ z (sym (m .movers-of .ensures z .check) ∙ g .if3 .left))) _ _ (w .write-moves .ensures)
 
 pub sledgewren-moves-spec : {M : Type 1} → statement M
 sledgewren-moves-spec =
     tie.close
     (tie.spec
     returns
-    clear-requires
     position-read-requires
+    movers-of-requires
     placing-with-requires
+    clear-requires
     cast-result
     same-length
     returns-2
-    movers-of-requires
     cast-result-2
     same-length-2
     returns-3

@@ -7,12 +7,13 @@ use native.Mathlib.Omega.{arith}
 use lib.Dec.{eqb}
 use lib.ListN.{length}
 use Rattle.board.specs.Sets.{has, members, setOf}
+use Rattle.board.specs.laws.SetLaws.{setOf-lt}
 use Rattle.board.specs.laws.LowestLaws.{Lowest, lowest-of}
 use Rattle.rules.specs.Rules.{movesFrom, allMoves}
 use Rattle.position.specs.Keyed.{boardOf}
 use Rattle.move_list.specs.laws.Served.{few-moves}
 use Rattle.move_list.specs.laws.TurnLaws.{by-movers, movers-end}
-use Rattle.sledgewren.specs.laws.StoreLaws.{Left, left-all, left-end, mover-room, mover-next, setOf-lt}
+use Rattle.sledgewren.specs.laws.StoreLaws.{Left, left-all, left-end, mover-room, mover-next}
 use Rattle.sledgewren.proofs.move_bytes.write_moves.Statement.{statement}
 use Rattle.sledgewren.proofs.move_bytes.write_moves.Tie as tie
 

@@ -3,6 +3,7 @@ use borrow.Author.Needs.{needs}
 use mathlib.Core.Path.{sym, _∙_}
 use Rattle.position.specs.laws.PosedLaws.{complete-spread}
 use Rattle.successors.specs.laws.FramingLaws.{frame-side}
+use Rattle.successors.specs.laws.TakingLaws.{quiet-legal}
 use Rattle.successors.specs.laws.QuietLaws.{byte-plain}
 use Rattle.successors.proofs.along.sift_man.Statement.{statement}
 use Rattle.successors.proofs.along.sift_man.Tie as tie
@@ -32,8 +33,8 @@ returns c =
     let i = b .before in
     let p = i .before in
     let f = p .before in
-    λ w e k o. c .sift-plain .ensures _ _ _ e
-    (λ t z. byte-plain _ _ _ _ e k t z w _ _ _ _
+    λ w e o. c .sift-plain .ensures _ _ _ _ e
+    (λ t z. byte-plain _ _ _ t z w _ _ _ _
     (frame-side _ _ _ _ _ (f .before .other .ensures)
     (f .frame-for .ensures (complete-spread w .white) (complete-spread w .black)))
     (sym (p .is-plain .ensures) ∙ i .if1 .taken) o _ _ (b .base-for .ensures .0) (s .scale-for .ensures))
@@ -42,7 +43,7 @@ sift-each-requires : tie.Need-sift-each-requires
 sift-each-requires c κs = search needs
 
 returns-2 : tie.Need-returns-2
-returns-2 c = λ w e k o. c .sift-each .ensures w e
+returns-2 c = λ w e o. c .sift-each .ensures w _ e (quiet-legal _ _ _)
 
 pub sift-man-spec : {M : Type 1} → statement M
 sift-man-spec =

@@ -1,6 +1,6 @@
 -- `successors::sift_plain` meets its contract. The loop's invariant: the targets left, and what was found among the others.
 use mathlib.Core.Path.{_≡_, refl, sym, _∙_}
-use mathlib.Core.Bool.{not, _&&_}
+use mathlib.Core.Bool.{Bool, not, _&&_}
 use Prim.Native.Nat.{ℕ, _+_, _*_, _^_, _<_}
 use native.Mathlib.Omega.{arith}
 use lib.Bits.{bitXor}
@@ -8,7 +8,7 @@ use lib.Dec.{T, eqb}
 use lib.ListN.{length, getD}
 use Rattle.board.specs.Sets.{has, members, setOf}
 use Rattle.board.specs.laws.LowestLaws.{Lowest, lowest-of}
-use Rattle.rules.specs.Rules.{Board, moved, canMove}
+use Rattle.rules.specs.Rules.{Board, moved}
 use Rattle.successors.specs.laws.SiftLaws.{Sifting, sift-start, sift-refuted, sift-turn, sift-end}
 use Rattle.successors.proofs.along.sift_plain.Statement.{statement}
 use Rattle.successors.proofs.along.sift_plain.Tie as tie
@@ -17,15 +17,15 @@ abbrev Inv-loop : tie.InvT-loop
 Inv-loop base flip scale targets byte table found₀ rest₀ found rest =
     (rest < 2 ^ 64)
     × (found < 2 ^ 64)
-    × ((bytes : Board → ℕ) (b : Board) (from : ℕ) → targets ≡ setOf (canMove b from)
-    → ((t : ℕ) → T (canMove b from t) → getD table (base + bitXor t flip * scale) 0 ≡ bytes (moved b from t))
-    → Sifting bytes byte b from found rest)
+    × ((bytes : Board → ℕ) (b : Board) (from : ℕ) (goes : ℕ → Bool) → targets ≡ setOf goes
+    → ((t : ℕ) → T (goes t) → getD table (base + bitXor t flip * scale) 0 ≡ bytes (moved b from t))
+    → Sifting bytes byte b from goes found rest)
 
 abbrev μ-loop : tie.MeasureT-loop
 μ-loop base flip scale targets byte table found₀ rest₀ found rest = length (members rest)
 
 loop-holds : tie.Need-loop-holds Inv-loop μ-loop
-loop-holds c = (c .before .fits .targets .fits, omega arith, λ bytes b from e h. sift-start _ _ _ _ _ e)
+loop-holds c = (c .before .fits .targets .fits, omega arith, λ bytes b from goes e h. sift-start _ _ _ _ _ _ e)
 
 lowest-requires : tie.Need-lowest-requires Inv-loop μ-loop
 lowest-requires c κs = tt
@@ -48,8 +48,8 @@ returns c =
     let k = c .before .before in
     let d = k .before in
     let l = d .before .before .loop in
-    λ bytes b from e h. let v = l .inv .2 bytes b from e h in
-    sift-refuted _ _ _ _ _ _ _ _ _ (low d _ refl) v
+    λ bytes b from goes e h. let v = l .inv .2 bytes b from goes e h in
+    sift-refuted _ _ _ _ _ _ _ _ _ _ (low d _ refl) v
     (k .byte-on .ensures ∙ h _ (v .legal-rest _ (low d _ refl .square) (low d _ refl .here)))
     (sym (c .before .refutes .ensures) ∙ c .if1 .taken)
 
@@ -73,8 +73,8 @@ loop-again c =
     let l = d .before .before .loop in (
       c .without .ok,
       c .before .with-suited .ok,
-      λ bytes b from e h. let v = l .inv .2 bytes b from e h in
-          sift-turn _ _ _ _ _ _ _ _ _ (low d _ (c .without .ensures)) v
+      λ bytes b from goes e h. let v = l .inv .2 bytes b from goes e h in
+          sift-turn _ _ _ _ _ _ _ _ _ _ (low d _ (c .without .ensures)) v
           (k .byte-on .ensures ∙ h _ (v .legal-rest _ (low d _ refl .square) (low d _ refl .here))) _
           (sym (s .before .before .refutes .ensures) ∙ s .before .if1 .left)
           (c .before .with-suited .ensures ∙ rw (s .suits .ensures)),
@@ -83,7 +83,7 @@ loop-again c =
 returns-2 : tie.Need-returns-2 Inv-loop μ-loop
 returns-2 c =
     let l = c .before .loop in
-    λ bytes b from e h. sift-end _ _ _ _ _ _ (l .inv .1) (c .loop-test .left) (l .inv .2 bytes b from e h)
+    λ bytes b from goes e h. sift-end _ _ _ _ _ _ _ (l .inv .1) (c .loop-test .left) (l .inv .2 bytes b from goes e h)
 
 pub sift-plain-spec : {M : Type 1} → statement M
 sift-plain-spec =

@@ -1,7 +1,7 @@
 -- `successors::sift_king` meets its contract. The loop's invariant: the targets left, and what was found among the
 -- others, on any place whose key without the king it has.
 use mathlib.Core.Path.{_≡_, refl, sym, ap, _∙_}
-use mathlib.Core.Bool.{false, not, _&&_}
+use mathlib.Core.Bool.{not, _&&_}
 use mathlib.Core.List.{List}
 use Prim.Native.Nat.{ℕ, _*_, _^_, _<_, _≤_}
 use native.Mathlib.Omega.{arith}
@@ -11,13 +11,12 @@ use lib.ListN.{length}
 use borrow.Author.Needs.{needs}
 use Rattle.board.specs.Sets.{has, members, setOf}
 use Rattle.board.specs.laws.LowestLaws.{Lowest, lowest-of}
-use Rattle.rules.specs.Rules.{canMove}
 use Rattle.position.specs.declared.Men.{Men}
 use Rattle.position.specs.declared.Place.{Place}
 use Rattle.position.specs.Posed.{boardIn, Complete}
 use Rattle.index.specs.Seats.{keyAt}
 use Rattle.successors.specs.Successors.{bytesIn, kingAt}
-use Rattle.successors.specs.Quiet.{takesMan}
+use Rattle.successors.specs.Quiet.{quietTo}
 use Rattle.successors.specs.laws.KingKeys.{Stepping, byte-step}
 use Rattle.successors.specs.laws.SiftLaws.{Sifting, sift-start, sift-refuted, sift-turn, sift-end}
 use Rattle.successors.proofs.by_king.sift_king.Statement.{statement}
@@ -30,8 +29,8 @@ Inv-loop targets byte table single like side unit others found₀ rest₀ found 
     × (unit ≤ 262144)
     × (others < 2 ^ 27)
     × ((m : Men) (q : Place) → Complete m q → Stepping m q single like side unit others
-    → targets ≡ setOf (canMove (boardIn m q) (kingAt q)) → takesMan targets q ≡ false → (first second : List ℕ)
-    → Sifting (bytesIn m first second table) byte (boardIn m q) (kingAt q) found rest)
+    → targets ≡ setOf (quietTo m q (kingAt q)) → (first second : List ℕ)
+    → Sifting (bytesIn m first second table) byte (boardIn m q) (kingAt q) (quietTo m q (kingAt q)) found rest)
 
 abbrev μ-loop : tie.MeasureT-loop
 μ-loop targets byte table single like side unit others found₀ rest₀ found rest = length (members rest)
@@ -69,7 +68,7 @@ loop-holds c = (
   omega arith,
   c .before .before .king-unit .ensures .1,
   c .key-at .ensures .1,
-  λ m q w h e k first second. sift-start _ _ _ _ _ e,
+  λ m q w h e first second. sift-start _ _ _ _ _ _ e,
 )
 
 lowest-requires : tie.Need-lowest-requires Inv-loop μ-loop
@@ -108,9 +107,9 @@ returns c =
     let d = k .before in
     let a = d .before .before in
     let h = hand (a .before) in
-    λ w e z first second. let v = a .loop .inv .4 _ _ w h e z first second in
-    sift-refuted _ _ _ _ _ _ _ _ _ (low d _ refl) v
-    (byte-step _ _ w _ e z _ (v .legal-rest _ (low d _ refl .square) (low d _ refl .here)) first second _ _ _ _ _ _ _ h
+    λ w e first second. let v = a .loop .inv .4 _ _ w h e first second in
+    sift-refuted _ _ _ _ _ _ _ _ _ _ (low d _ refl) v
+    (byte-step _ _ w _ (v .legal-rest _ (low d _ refl .square) (low d _ refl .here)) first second _ _ _ _ _ _ _ h
     (k .byte-keyed .ensures))
     (sym (c .before .refutes .ensures) ∙ c .if1 .taken)
 
@@ -136,9 +135,9 @@ loop-again c =
       c .before .with-suited .ok,
       l .inv .2,
       l .inv .3,
-      λ m q w h e z first second. let v = l .inv .4 m q w h e z first second in
-          sift-turn _ _ _ _ _ _ _ _ _ (low d _ (c .without .ensures)) v
-          (byte-step m q w _ e z _ (v .legal-rest _ (low d _ refl .square) (low d _ refl .here)) first second _ _ _ _ _ _ _
+      λ m q w h e first second. let v = l .inv .4 m q w h e first second in
+          sift-turn _ _ _ _ _ _ _ _ _ _ (low d _ (c .without .ensures)) v
+          (byte-step m q w _ (v .legal-rest _ (low d _ refl .square) (low d _ refl .here)) first second _ _ _ _ _ _ _
           h (k .byte-keyed .ensures)) _
           (sym (s .before .before .refutes .ensures) ∙ s .before .if1 .left)
           (c .before .with-suited .ensures ∙ rw (s .suits .ensures)),
@@ -147,8 +146,8 @@ loop-again c =
 returns-2 : tie.Need-returns-2 Inv-loop μ-loop
 returns-2 c =
     let a = c .before in
-    λ w e z first second. sift-end _ _ _ _ _ _ (a .loop .inv .1) (c .loop-test .left)
-    (a .loop .inv .4 _ _ w (hand (a .before)) e z first second)
+    λ w e first second. sift-end _ _ _ _ _ _ _ (a .loop .inv .1) (c .loop-test .left)
+    (a .loop .inv .4 _ _ w (hand (a .before)) e first second)
 
 pub sift-king-spec : {M : Type 1} → statement M
 sift-king-spec =

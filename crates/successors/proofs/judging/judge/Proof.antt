@@ -7,8 +7,8 @@ use Rattle.successors.specs.laws.JudgeLaws.{no-moves, king-refuted, firs
 use Rattle.successors.proofs.judging.judge.Statement.{statement}
 use Rattle.successors.proofs.judging.judge.Tie as tie
 
-takes-some-requires : tie.Need-takes-some-requires
-takes-some-requires c κs = search needs
+men-squares-requires : tie.Need-men-squares-requires
+men-squares-requires c κs = search needs
 
 sift-steps-requires : tie.Need-sift-steps-requires
 sift-steps-requires c κs = search needs
@@ -23,7 +23,7 @@ returns : tie.Need-returns
 returns c =
     let k = c .before .before in
     λ w t. king-refuted _ _ _ _ _ _ _
-    (k .sift-steps .ensures w (t .king) (λ e. k .before .takes-some .ensures e .0)) (c .enum-told .given .1)
+    (k .sift-steps .ensures w (t .king) (k .before .men-squares .ensures)) (c .enum-told .given .1)
 
 sift-moves-requires : tie.Need-sift-moves-requires
 sift-moves-requires c κs = search needs
@@ -39,11 +39,11 @@ returns-2 c =
     let j = c .before .before in
     let o = j .before .before .before in
     let k = o .before .before in
-    let s = k .before .takes-some in
+    let s = k .before .men-squares in
     let q = k .before .before .before .before .before .args .q in
-    λ w t. first-refuted _ _ _ _ _ _ _ (k .sift-steps .ensures w (t .king) (λ e. s .ensures e .0)) _ (o .by-king .given .1) _
-    (⊎-elim (λ l. l .1 ∙ no-moves _ _ _ _ _ (t .first) (l .0 .taken))
-    (λ r. r .2 ∙ r .1 .ensures w (t .first) (λ e. s .ensures e .1) (of-first q)) (j .if1 .came))
+    λ w t. first-refuted _ _ _ _ _ _ _ (k .sift-steps .ensures w (t .king) (s .ensures)) _ (o .by-king .given .1) _
+    (⊎-elim (λ l. l .1 ∙ no-moves _ _ _ _ _ _ (t .first) (l .0 .taken))
+    (λ r. r .2 ∙ r .1 .ensures w (t .first) (s .ensures) (of-first q)) (j .if1 .came))
     (c .enum-told2 .given .1)
 
 sift-moves-requires-2 : tie.Need-sift-moves-requires-2
@@ -62,13 +62,13 @@ returns-3 c =
     let j = p .before .before in
     let o = j .before .before .before in
     let k = o .before .before in
-    let s = k .before .takes-some in
+    let s = k .before .men-squares in
     let q = k .before .before .before .before .before .args .q in
-    λ w t. second-refuted _ _ _ _ _ _ _ (k .sift-steps .ensures w (t .king) (λ e. s .ensures e .0)) _ (o .by-king .given .1) _
-    (⊎-elim (λ l. l .1 ∙ no-moves _ _ _ _ _ (t .first) (l .0 .taken))
-    (λ r. r .2 ∙ r .1 .ensures w (t .first) (λ e. s .ensures e .1) (of-first q)) (j .if1 .came)) _ (p .by-first .given .1) _
-    (⊎-elim (λ l. l .1 ∙ no-moves _ _ _ _ _ (t .second) (l .0 .taken))
-    (λ r. r .2 ∙ r .1 .ensures w (t .second) (λ e. s .ensures e .2) (of-second q)) (i .if2 .came))
+    λ w t. second-refuted _ _ _ _ _ _ _ (k .sift-steps .ensures w (t .king) (s .ensures)) _ (o .by-king .given .1) _
+    (⊎-elim (λ l. l .1 ∙ no-moves _ _ _ _ _ _ (t .first) (l .0 .taken))
+    (λ r. r .2 ∙ r .1 .ensures w (t .first) (s .ensures) (of-first q)) (j .if1 .came)) _ (p .by-first .given .1) _
+    (⊎-elim (λ l. l .1 ∙ no-moves _ _ _ _ _ _ (t .second) (l .0 .taken))
+    (λ r. r .2 ∙ r .1 .ensures w (t .second) (s .ensures) (of-second q)) (i .if2 .came))
     (c .enum-told3 .given .1)
 
 returns-4 : tie.Need-returns-4
@@ -79,19 +79,19 @@ returns-4 c =
     let j = p .before .before in
     let o = j .before .before .before in
     let k = o .before .before in
-    let s = k .before .takes-some in
+    let s = k .before .men-squares in
     let q = k .before .before .before .before .before .args .q in
-    λ w t. all-suited _ _ _ _ _ _ _ (k .sift-steps .ensures w (t .king) (λ e. s .ensures e .0)) _ (o .by-king .given .1) _
-    (⊎-elim (λ l. l .1 ∙ no-moves _ _ _ _ _ (t .first) (l .0 .taken))
-    (λ r. r .2 ∙ r .1 .ensures w (t .first) (λ e. s .ensures e .1) (of-first q)) (j .if1 .came)) _ (p .by-first .given .1) _
-    (⊎-elim (λ l. l .1 ∙ no-moves _ _ _ _ _ (t .second) (l .0 .taken))
-    (λ r. r .2 ∙ r .1 .ensures w (t .second) (λ e. s .ensures e .2) (of-second q)) (i .if2 .came)) _ (u .by-second .given .1)
+    λ w t. all-suited _ _ _ _ _ _ _ (k .sift-steps .ensures w (t .king) (s .ensures)) _ (o .by-king .given .1) _
+    (⊎-elim (λ l. l .1 ∙ no-moves _ _ _ _ _ _ (t .first) (l .0 .taken))
+    (λ r. r .2 ∙ r .1 .ensures w (t .first) (s .ensures) (of-first q)) (j .if1 .came)) _ (p .by-first .given .1) _
+    (⊎-elim (λ l. l .1 ∙ no-moves _ _ _ _ _ _ (t .second) (l .0 .taken))
+    (λ r. r .2 ∙ r .1 .ensures w (t .second) (s .ensures) (of-second q)) (i .if2 .came)) _ (u .by-second .given .1)
 
 pub judge-spec : {M : Type 1} → statement M
 judge-spec =
     tie.close
     (tie.spec
-    takes-some-requires
+    men-squares-requires
     sift-steps-requires
     enum-known-by-king
     enum-told

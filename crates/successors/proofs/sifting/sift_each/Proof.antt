@@ -1,9 +1,9 @@
 -- `successors::sift_each` meets its contract. The loop's invariant: the targets left, and what was found among the others.
 use mathlib.Core.Path.{_≡_, refl, sym, _∙_}
-use mathlib.Core.Bool.{not, _&&_}
+use mathlib.Core.Bool.{Bool, not, _&&_}
 use Prim.Native.Nat.{ℕ, _^_, _<_}
 use native.Mathlib.Omega.{arith}
-use lib.Dec.{eqb}
+use lib.Dec.{T, eqb}
 use lib.ListN.{length}
 use Rattle.board.specs.Sets.{has, members, setOf}
 use Rattle.board.specs.laws.LowestLaws.{Lowest, lowest-of}
@@ -20,8 +20,9 @@ abbrev Inv-loop : tie.InvT-loop
 Inv-loop m q from targets byte table first second f found₀ rest₀ found rest =
     (rest < 2 ^ 64)
     × (found < 2 ^ 64)
-    × (Complete m q → targets ≡ setOf (canMove (boardIn m q) from)
-    → Sifting (bytesIn m first second table) byte (boardIn m q) from found rest)
+    × (Complete m q → (goes : ℕ → Bool) → targets ≡ setOf goes
+    → ((t : ℕ) → T (goes t) → T (canMove (boardIn m q) from t))
+    → Sifting (bytesIn m first second table) byte (boardIn m q) from goes found rest)
 
 abbrev μ-loop : tie.MeasureT-loop
 μ-loop m q from targets byte table first second f found₀ rest₀ found rest = length (members rest)
@@ -34,7 +35,7 @@ frame-for-requires c κs = tt
 
 loop-holds : tie.Need-loop-holds Inv-loop μ-loop
 loop-holds c =
-    (c .before .before .before .before .before .fits .targets .fits, omega arith, λ w e. sift-start _ _ _ _ _ e)
+    (c .before .before .before .before .before .fits .targets .fits, omega arith, λ w goes e g. sift-start _ _ _ _ _ _ e)
 
 lowest-requires : tie.Need-lowest-requires Inv-loop μ-loop
 lowest-requires c κs = tt
@@ -58,9 +59,9 @@ returns c =
     let d = k .before in
     let a = d .before .before in
     let l = a .loop in
-    λ w e. let v = l .inv .2 w e in
-    sift-refuted _ _ _ _ _ _ _ _ _ (low d _ refl) v
-    (k .byte-after .ensures w (v .legal-rest _ (low d _ refl .square) (low d _ refl .here))
+    λ w goes e g. let v = l .inv .2 w goes e g in
+    sift-refuted _ _ _ _ _ _ _ _ _ _ (low d _ refl) v
+    (k .byte-after .ensures w (g _ (v .legal-rest _ (low d _ refl .square) (low d _ refl .here)))
     (frame-side _ _ _ _ _ (a .before .before .other .ensures) (a .before .frame-for .ensures (complete-spread w .white) (complete-spread w .black)))) (sym (c .before .refutes .ensures) ∙ c .if1 .taken)
 
 suits-requires : tie.Need-suits-requires Inv-loop μ-loop
@@ -84,9 +85,9 @@ loop-again c =
     let l = a .loop in (
       c .without .ok,
       c .before .with-suited .ok,
-      λ w e. let v = l .inv .2 w e in
-          sift-turn _ _ _ _ _ _ _ _ _ (low d _ (c .without .ensures)) v
-          (k .byte-after .ensures w (v .legal-rest _ (low d _ refl .square) (low d _ refl .here))
+      λ w goes e g. let v = l .inv .2 w goes e g in
+          sift-turn _ _ _ _ _ _ _ _ _ _ (low d _ (c .without .ensures)) v
+          (k .byte-after .ensures w (g _ (v .legal-rest _ (low d _ refl .square) (low d _ refl .here)))
           (frame-side _ _ _ _ _ (a .before .before .other .ensures) (a .before .frame-for .ensures (complete-spread w .white) (complete-spread w .black)))) _
           (sym (s .before .before .refutes .ensures) ∙ s .before .if1 .left)
           (c .before .with-suited .ensures ∙ rw (s .suits .ensures)),
@@ -94,7 +95,7 @@ loop-again c =
 
 returns-2 : tie.Need-returns-2 Inv-loop μ-loop
 returns-2 c =
-    let l = c .before .loop in λ w e. sift-end _ _ _ _ _ _ (l .inv .1) (c .loop-test .left) (l .inv .2 w e)
+    let l = c .before .loop in λ w goes e g. sift-end _ _ _ _ _ _ _ (l .inv .1) (c .loop-test .left) (l .inv .2 w goes e g)
 
 pub sift-each-spec : {M : Type 1} → statement M
 sift-each-spec =
