@@ -8,6 +8,7 @@ pub mod Places
 pub mod Sources
 pub mod Lines
 pub mod Into
+pub mod Passing
 pub mod Own
 pub mod Saved
 pub mod BareMoves

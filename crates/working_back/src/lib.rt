@@ -2,6 +2,7 @@
 mod back;
 mod bare;
 mod captures;
+mod finding;
 mod into;
 mod lines;
 mod trying;
