@@ -6,6 +6,7 @@ pub mod Lone
 pub mod Found
 pub mod Places
 pub mod Sources
+pub mod Spared
 pub mod Lines
 pub mod Into
 pub mod Passing

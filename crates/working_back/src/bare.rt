@@ -1,5 +1,6 @@
 // A black king without men, k even: the squares that he came from. White's pieces stand still, so that what they attack is told once for all his moves, and
 // his own are read one after the other.
+use super::lines::no_line;
 use super::trying::confirm;
 use board::has as has_square;
 use board::lowest;
@@ -44,7 +45,7 @@ fn bare_number(m: Men, side: u8, white: u8, black: u8, x: u8, y: u8) -> usize
 }
 
 // The byte at a number; 0 beyond the table's end.
-fn byte_of(table: &[u8], n: usize) -> u8
+pub fn byte_of(table: &[u8], n: usize) -> u8
     ensures { λ r. ⌜ r ≡ getD (now (table .entry)) n 0 ⌝ }
 {
     if table.len() <= n {
@@ -114,7 +115,20 @@ fn lose_one(
         return 0;
     }
     if takes | has_square(goals, y) {
-        return confirm(m, k, q, taken, s, to, n, first, second, &mut *table);
+        return confirm(
+            m,
+            k,
+            q,
+            taken,
+            KING,
+            s,
+            to,
+            n,
+            no_line(),
+            first,
+            second,
+            &mut *table,
+        );
     }
     if is_saved(m, k, white, x, y, goals, &*table) {
         return 0;

@@ -5,6 +5,7 @@ mod captures;
 mod finding;
 mod into;
 mod lines;
+mod spared;
 mod trying;
 
 pub use back::pass_back;

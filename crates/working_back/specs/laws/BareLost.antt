@@ -220,7 +220,7 @@ module _ (m : Men) (q : Place) (taken to white x y : ℕ) (v : Bare m q taken to
   pub bare-drawn : 4 ≤ m .second → x < 64 → T (has goals x) → TriesPlace m first second k q (placeBefore q taken s to) u u 0
   bare-drawn i j g =
       tried-kept m (placeBefore q taken s to) q s to l first second k u a n z h one
-      (ap (λ (o : Place). eqb (requiredAt chess (bytesIn m first second u) (boardIn m o)) (2 + k)) same
+      (λ t w r. ap (λ (o : Place). eqb (requiredAt chess (bytesIn m first second u) (boardIn m o)) (2 + k)) same
       ∙ bare-draws m q taken to white x y v s l first second u k (λ e. omega (arith, some, e)) i (goal-can x j g) even)
 
   pub first-on : x < 64
@@ -253,7 +253,7 @@ module _ (m : Men) (q : Place) (taken to white x y : ℕ) (v : Bare m q taken to
         → TriesPlace m first second k q (placeBefore q taken s to) u u 0
     bare-saved w =
         tried-kept m (placeBefore q taken s to) q s to l first second k u a n z h one
-        (ap (λ (o : Place). eqb (requiredAt chess (bytesIn m first second u) (boardIn m o)) (2 + k)) same
+        (λ t i r. ap (λ (o : Place). eqb (requiredAt chess (bytesIn m first second u) (boardIn m o)) (2 + k)) same
         ∙ bare-kept m q taken to white x y v s l first second u k (λ e. omega (arith, some, e)) (w .0) (goal-can (w .0) (w .1) (w .2))
         (off (w .0) x (w .2) no-first) (off (w .0) y (w .2) no-second) (w .3))
 

@@ -5,6 +5,7 @@ use mathlib.Core.Bool.{_||_}
 use borrow.Author.Needs.{needs}
 use Rattle.retracting.specs.Retracting.{placeBefore}
 use Rattle.working_back.specs.laws.Places.{tried-out, tried-other}
+use Rattle.working_back.specs.laws.BareMoves.{bare-seat}
 use Rattle.working_back.specs.laws.BareLost.{bare-at, both-told, first-on, bare-drawn, goal-seated, bare-saved, bare-settled}
 use Rattle.working_back.proofs.bare.lose_one.Statement.{statement}
 use Rattle.working_back.proofs.bare.lose_one.Tie as tie
@@ -62,14 +63,17 @@ returns-3 c =
 has-requires-2 : tie.Need-has-requires-2
 has-requires-2 c κs = tt
 
+no-line-requires : tie.Need-no-line-requires
+no-line-requires c κs = tt
+
 confirm-requires : tie.Need-confirm-requires
 confirm-requires c κs =
-    let p = c .before .before .before .before .before .before .before .before .before .before .before .before .before .before .before .pre in
-    let x = c .before .before .before .before .before .before .before .before .before .before .before .before .before .before .before .args in
+    let p = c .before .before .before .before .before .before .before .before .before .before .before .before .before .before .before .before .pre in
+    let x = c .before .before .before .before .before .before .before .before .before .before .before .before .before .before .before .before .args in
     let o = placeBefore (x .q) (x .taken) (x .s) (x .to) in
-    let z = bare-at (x .m) (x .q) (x .taken) (x .to) (x .white) (x .x) (x .y) (p .4) (x .s) (p .6) (c .before .before .before .before .before .before .before .before .before .before .before .bare-number .result)
-    (c .before .before .before .before .before .before .before .before .before .before .before .bare-number .ensures) in
-    (p .1, p .3, p .6, z, c .before .before .before .before .before .before .before .before .before .before .if1 .left, c .before .before .before .before .before .before .before .before .if2 .left)
+    let z = bare-at (x .m) (x .q) (x .taken) (x .to) (x .white) (x .x) (x .y) (p .4) (x .s) (p .6) (c .before .before .before .before .before .before .before .before .before .before .before .before .bare-number .result)
+    (c .before .before .before .before .before .before .before .before .before .before .before .before .bare-number .ensures) in
+    (p .0, p .1, p .3, p .6, p .4 .legal, bare-seat (p .4), c .before .no-line .ensures (x .m) (x .q) (x .taken) (x .to) .1, z, c .before .before .before .before .before .before .before .before .before .before .before .if1 .left, c .before .before .before .before .before .before .before .before .before .if2 .left)
 
 same-length : tie.Need-same-length
 same-length c = search needs
@@ -126,4 +130,4 @@ pub lose-one-spec : {M : Type 1} → statement M
 lose-one-spec =
     tie.close
     (tie.spec bare-number-requires returns slice-read-if2 returns-2 targets-requires minus-requires has-requires returns-3 has-requires-2
-    confirm-requires same-length returns-4 is-saved-requires same-length-2 returns-5 add-table slice-write-table same-length-3 returns-6)
+    no-line-requires confirm-requires same-length returns-4 is-saved-requires same-length-2 returns-5 add-table slice-write-table same-length-3 returns-6)
