@@ -138,6 +138,10 @@ pub fn try_into(
     ensures { λ r. ⌜ TriesInto m (now (first .entry)) (now (second .entry)) k q (now (table .entry)) (now (table .exit)) r ⌝ }
 {
     let a = try_king(m, k, q, taken, first, second, &mut *table);
+    // Black has no men.
+    if (q.side == 0) & (m.colour == 0) {
+        return a;
+    }
     let b = try_man(false, m, k, q, taken, first, second, &mut *table);
     let c = try_man(true, m, k, q, taken, first, second, &mut *table);
     a + b + c
