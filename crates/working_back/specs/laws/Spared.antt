@@ -16,7 +16,7 @@ use Rattle.board.specs.Sets.{has, setOf}
 use Rattle.board.specs.laws.SetLaws.{set-has}
 use Rattle.board.specs.laws.ReachLaws.{reaches-squares, reaches-same, king-reaches}
 use Rattle.symmetry.specs.laws.Opposite.{reaches-sym}
-use Rattle.rules.specs.Rules.{Board, occupied, touching, legal, moved, canMove, carried}
+use Rattle.rules.specs.Rules.{occupied, touching, legal, moved, canMove, carried}
 use Rattle.rules.specs.Chess.{chess}
 use Rattle.rules.specs.laws.Legal.{legal-facts}
 use Rattle.rules.specs.laws.CanMove.{can-on}
@@ -30,7 +30,6 @@ use Rattle.position.specs.declared.Men.{Men}
 use Rattle.position.specs.declared.Place.{Place}
 use Rattle.position.specs.Keyed.{boardOf}
 use Rattle.position.specs.Posed.{posed, boardIn, materialFor, Complete}
-use Rattle.position.specs.laws.PosedLaws.{complete-spread}
 use Rattle.index.specs.Seats.{Seated}
 use Rattle.index.specs.laws.CompleteLaws.{complete-has, complete-seated}
 use Rattle.movegen.specs.Places.{placeAfter}

@@ -1,8 +1,7 @@
 -- `working_back::past_runs` meets its contract. The loop's invariant: no number passed holds the byte.
-use Prim.Native.Nat.{_+_, _-_, _≤_}
+use Prim.Native.Nat.{_-_}
 use native.Mathlib.Omega.{arith}
 use lib.ListN.{length}
-use borrow.Author.Needs.{needs}
 use Rattle.working_back.specs.Back.{Passes}
 use Rattle.working_back.specs.laws.Passing.{passes-none, passes-run}
 use Rattle.working_back.proofs.finding.past_runs.Statement.{statement}

@@ -1,5 +1,5 @@
 -- `working_back::run_holds` meets its contract. The loop's invariant: where the test has failed so far, no number passed holds the byte.
-use mathlib.Core.Path.{_≡_, refl}
+use mathlib.Core.Path.{_≡_}
 use mathlib.Core.Bool.{false}
 use Prim.Native.Nat.{_+_, _-_, _≤_}
 use native.Mathlib.Omega.{arith}

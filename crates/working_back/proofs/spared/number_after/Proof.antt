@@ -1,5 +1,5 @@
 -- `working_back::number_after` meets its contract.
-use mathlib.Core.Path.{sym, ap, subst⁻¹, _∙_}
+use mathlib.Core.Path.{ap, subst⁻¹, _∙_}
 use borrow.Author.Needs.{needs}
 use Rattle.numbering.specs.Number.{numberOf}
 use Rattle.position.specs.Posed.{boardIn}
