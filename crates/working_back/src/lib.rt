@@ -2,8 +2,10 @@
 mod back;
 mod bare;
 mod captures;
+mod finding;
 mod into;
 mod lines;
+mod spared;
 mod trying;
 
 pub use back::pass_back;
