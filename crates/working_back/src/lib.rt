@@ -4,6 +4,7 @@ mod bare;
 mod captures;
 mod finding;
 mod into;
+mod known;
 mod lines;
 mod spared;
 mod trying;

@@ -23,7 +23,7 @@ pub struct Line {
 }
 
 // The base for the man on `to`, the other where he stood before the move.
-pub fn base_of(m: Men, q: Place, taken: u8, to: u8, f: Frame) -> usize
+fn base_of(m: Men, q: Place, taken: u8, to: u8, f: Frame) -> usize
     ensures { λ r. ⌜ (r ≡ baseOf m q taken to f) × (r < 2 ^ 48) ⌝ }
 {
     if 4 <= m.second {
@@ -36,7 +36,7 @@ pub fn base_of(m: Men, q: Place, taken: u8, to: u8, f: Frame) -> usize
 }
 
 // The step from one of his squares to the next.
-pub fn scale_of(m: Men, q: Place, to: u8) -> u8
+fn scale_of(m: Men, q: Place, to: u8) -> u8
     ensures { λ r. ⌜ r ≡ scaleOf m q to ⌝ }
 {
     if 4 <= m.second {

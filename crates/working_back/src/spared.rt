@@ -1,6 +1,6 @@
 // Whether another move of a piece that was put back spares its side the loss: most losses that are tried fail so, at the first squares read, and nothing
 // else of the position is looked at.
-use super::bare::byte_of;
+use super::known::byte_of;
 use super::lines::Line;
 use board::lowest;
 use board::minus;

@@ -12,8 +12,8 @@ use Rattle.board.specs.laws.LowestLaws.{lowest-of}
 use Rattle.working_back.specs.Bare.{byteOn}
 use Rattle.working_back.specs.laws.Sources.{lowest-in}
 use Rattle.working_back.specs.laws.Saved.{Unpassed, unpassed-start, unpassed-turn, unpassed-end, rest-in, known-more, common}
-use Rattle.working_back.proofs.bare.look.Statement.{statement}
-use Rattle.working_back.proofs.bare.look.Tie as tie
+use Rattle.working_back.proofs.known.look.Statement.{statement}
+use Rattle.working_back.proofs.known.look.Tie as tie
 
 abbrev Inv-loop : tie.InvT-loop
 Inv-loop m k white x y goals saving harmless table depth clear₀ rest₀ clear rest = (rest < 2 ^ 64)
