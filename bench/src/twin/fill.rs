@@ -229,7 +229,8 @@ impl Filling<'_> {
         }
         for run in (0..self.table.len()).step_by(RUN) {
             // No way out early, so that the compiler compares many at once.
-            let held = self.table[run..run + RUN].iter().fold(false, |held, &byte| held | (byte == 1 + k));
+            let held =
+                self.table[run..run + RUN].iter().fold(false, |held, &byte| held | (byte == 1 + k));
             for n in if held { run..run + RUN } else { 0..0 } {
                 if self.table[n] == 1 + k {
                     settled += self.try_into(place(self.men, n), k, Taken::Nothing);
