@@ -3,12 +3,26 @@
 use super::bare::Bare;
 use super::board::{has, one, squares, targets};
 use super::moves::{checked, mated, required, requires, spoils, Tables};
-use super::numbers::{is_used, number, place, Frame, LARGE, SMALL};
+use super::numbers::{is_used, number, place, Frame, Line, LARGE, SMALL};
 use super::retract::{before, sources, Taken};
 use super::{Men, Place, KING, OFF};
 
 /// The first depth that no byte holds.
 const DEPTHS: u8 = 254;
+
+/// Numbers are passed over so many at a time; both lengths of a table are multiples of it.
+const RUN: usize = 64;
+
+/// The piece that moved: its kind, where it went and what it took; its squares' numbers, before the
+/// move and after another, where they lie at equal steps.
+#[derive(Clone, Copy)]
+struct Moved {
+    kind: u8,
+    to: u8,
+    taken: Taken,
+    line: Option<Line>,
+    after: Option<Line>,
+}
 
 struct Filling<'a> {
     men: Men,
@@ -59,20 +73,40 @@ impl Filling<'_> {
         1
     }
 
-    /// A place with a move to one of depth k - 1, at its number: it is won in k, or lost if the
-    /// others say so.
-    fn try_number(&mut self, n: usize, k: u8, place: impl Fn() -> Place) -> u32 {
-        if self.table[n] != 1 || k % 2 == 0 && !requires(self.men, place(), k, self.tables()) {
-            return 0;
-        }
-        self.settle(n, k)
+    /// Does another move of a piece that was put back, taking nothing, spare its side the loss? A
+    /// byte other than 0 stands at legal places only.
+    fn spared(&self, place: Place, k: u8, kind: u8, from: u8, after: Option<Line>) -> bool {
+        let occupied = place.occupied();
+        let free = targets(occupied, kind, from) & !occupied;
+        let near = if kind == KING { targets(0, KING, place.king(1 - place.side)) } else { 0 };
+        squares(free & !near).any(|to| {
+            let n = match after {
+                Some(line) => line.number(to),
+                None => number(self.men, place.moved(from, to)),
+            };
+            self.table[n] != 0 && spoils(k, self.table[n])
+        })
     }
 
-    fn try_each(&mut self, q: Place, k: u8, to: u8, taken: Taken, from: u64) -> u32 {
-        let men = self.men;
+    /// Is the place lost in k? The piece's own other moves are read first.
+    fn confirmed(&self, place: Place, k: u8, kind: u8, from: u8, after: Option<Line>) -> bool {
+        !self.spared(place, k, kind, from, after) && requires(self.men, place, k, self.tables())
+    }
+
+    /// The places before a piece's moves to one of depth k - 1: each that holds 1 is won in k, or
+    /// lost if the others say so.
+    fn try_each(&mut self, q: Place, k: u8, moved: Moved, from: u64) -> u32 {
+        let Moved { kind, to, taken, line, after } = moved;
         let tried = |from| {
-            let place = before(q, from, to, taken);
-            self.try_number(number(men, place), k, || place)
+            let n = match line {
+                Some(line) => line.number(from),
+                None => number(self.men, before(q, from, to, taken)),
+            };
+            let lost = || self.confirmed(before(q, from, to, taken), k, kind, from, after);
+            if self.table[n] != 1 || k % 2 == 0 && !lost() {
+                return 0;
+            }
+            self.settle(n, k)
         };
         squares(from).map(tried).sum()
     }
@@ -84,19 +118,18 @@ impl Filling<'_> {
         if from == 0 {
             return 0;
         }
-        let frame = Frame::new(1 - q.side, q.white, q.black);
         let still = |square, who| if taken == who { to } else { square };
-        let line = match (self.men.single(), q.first == to) {
-            (true, _) => frame.line(self.men, 0, 1),
-            (_, true) => frame.line(self.men, still(q.second, Taken::Second), 64),
-            _ => frame.line(self.men, still(q.first, Taken::First), 1),
+        let line = |side| {
+            let frame = Frame::new(side, q.white, q.black);
+            match (self.men.single(), q.first == to) {
+                (true, _) => frame.line(self.men, 0, 1),
+                (_, true) => frame.line(self.men, still(q.second, Taken::Second), 64),
+                _ => frame.line(self.men, still(q.first, Taken::First), 1),
+            }
         };
-        let Some(line) = line else {
-            return self.try_each(q, k, to, taken, from);
-        };
-        squares(from)
-            .map(|from| self.try_number(line.number(from), k, || before(q, from, to, taken)))
-            .sum()
+        let after = if k % 2 == 0 { line(q.side) } else { None };
+        let line = line(1 - q.side);
+        self.try_each(q, k, Moved { kind, to, taken, line, after }, from)
     }
 
     fn try_king(&mut self, q: Place, k: u8, taken: Taken) -> u32 {
@@ -105,7 +138,8 @@ impl Filling<'_> {
         if k % 2 == 0 && q.side == 0 && self.men.colour == 0 {
             self.lose_bare(q, k, to, taken, from)
         } else {
-            self.try_each(q, k, to, taken, from)
+            let moved = Moved { kind: KING, to, taken, line: None, after: None };
+            self.try_each(q, k, moved, from)
         }
     }
 
@@ -116,6 +150,8 @@ impl Filling<'_> {
         let bare =
             Bare::new(men, q.white, still(q.first, Taken::First), still(q.second, Taken::Second));
         let shut = bare.struck() | one(to);
+        // What is known of his squares: White's pieces stand still.
+        let (mut saving, mut harmless) = (0, 0);
         let tried = |from| {
             let n = bare.number(1, from);
             if self.table[n] != 1 {
@@ -127,10 +163,19 @@ impl Filling<'_> {
                 return 0;
             }
             if has(goals, bare.first) || has(goals, bare.second) {
-                return self.try_number(n, k, || before(q, from, to, taken));
+                let place = before(q, from, to, taken);
+                let lost = self.confirmed(place, k, KING, from, None);
+                return if lost { self.settle(n, k) } else { 0 };
             }
-            if squares(goals).any(|to| spoils(k, self.table[bare.number(0, to)])) {
+            if goals & saving != 0 {
                 return 0;
+            }
+            for to in squares(goals & !harmless) {
+                if spoils(k, self.table[bare.number(0, to)]) {
+                    saving |= one(to);
+                    return 0;
+                }
+                harmless |= one(to);
             }
             self.settle(n, k)
         };
@@ -182,9 +227,14 @@ impl Filling<'_> {
                 settled += self.try_lent(k, second, Taken::First);
             }
         }
-        for n in 0..self.table.len() {
-            if self.table[n] == 1 + k {
-                settled += self.try_into(place(self.men, n), k, Taken::Nothing);
+        for run in (0..self.table.len()).step_by(RUN) {
+            // No way out early, so that the compiler compares many at once.
+            let held =
+                self.table[run..run + RUN].iter().fold(false, |held, &byte| held | (byte == 1 + k));
+            for n in if held { run..run + RUN } else { 0..0 } {
+                if self.table[n] == 1 + k {
+                    settled += self.try_into(place(self.men, n), k, Taken::Nothing);
+                }
             }
         }
         settled

@@ -34,11 +34,19 @@ pub record Few (k most : ℕ) (u v : List ℕ) (did : ℕ) : Type 0 where
   pub few : did ≤ most
   pub byte : (n : ℕ) → (getD v n 0 ≡ getD u n 0) ⊎ ((getD u n 0 ≡ 1) × (getD v n 0 ≡ 2 + k))
 
+-- none of these numbers holds the byte
+abbrev pub NoneFrom : List ℕ → ℕ → ℕ → ℕ → Type 0
+NoneFrom t byte from to = (i : ℕ) → from ≤ i → i < to → getD t i 0 ≡ byte → ⊥
+
+-- from `from` on to r no number holds it
+pub record Passes (t : List ℕ) (byte from r : ℕ) : Type 0 where
+  pub later : from ≤ r
+  pub inside : r ≤ length t
+  pub none : NoneFrom t byte from r
+
 -- the first number from `from` on that holds the byte; the table's end where there is none
 pub record FirstAt (t : List ℕ) (byte from r : ℕ) : Type 0 where
-  pub later : from ≤ r
-  pub inside : from ≤ length t → r ≤ length t
-  pub none : (i : ℕ) → from ≤ i → i < r → getD t i 0 ≡ byte → ⊥
+  pub passes : Passes t byte from r
   pub here : r < length t → getD t r 0 ≡ byte
 
 -- what a pass that works back is given: the men are pieces, and below depth k nothing is left to settle

@@ -4,7 +4,7 @@ use mathlib.Core.Bool.{Bool, true, false, cond, _||_}
 use mathlib.Core.List.{List}
 use Prim.Native.Nat.{ℕ, _+_, _<_}
 use lib.Dec.{T, eqb}
-use lib.ListN.{getD}
+use lib.ListN.{getD, set}
 use Rattle.theory.specs.Judge.{refutes}
 use Rattle.board.specs.Reach.{reaches}
 use Rattle.board.specs.Sets.{has}
@@ -45,3 +45,13 @@ byteOn m t white x y s = getD t (numberOf (boardIn m (bareOn 0 white s x y))) 0
 pub record Saves (m : Men) (k white x y : ℕ) (t : List ℕ) (goals : ℕ) (r : Bool) : Type 0 where
   pub one : r ≡ true → (s : ℕ) × (s < 64) × T (has goals s) × (refutes (2 + k) (byteOn m t white x y s) ≡ true)
   pub none : r ≡ false → (s : ℕ) → s < 64 → T (has goals s) → refutes (2 + k) (byteOn m t white x y s) ≡ false
+
+-- what is known of the squares that he may go to: of those in one set that they save him, of those in the other that they do not
+pub record Knows (m : Men) (k white x y : ℕ) (t : List ℕ) (saving harmless : ℕ) : Type 0 where
+  pub saves : (s : ℕ) → s < 64 → T (has saving s) → refutes (2 + k) (byteOn m t white x y s) ≡ true
+  pub clears : (s : ℕ) → s < 64 → T (has harmless s) → refutes (2 + k) (byteOn m t white x y s) ≡ false
+
+-- one of these squares saves him, or the number is settled
+pub data QuietLoss (m : Men) (k white x y goals n : ℕ) (u v : List ℕ) : ℕ → Type 0 where
+  saved : Saves m k white x y u goals true → v ≡ u → QuietLoss m k white x y goals n u v 0
+  lost : Saves m k white x y u goals false → v ≡ set u n (2 + k) → QuietLoss m k white x y goals n u v 1

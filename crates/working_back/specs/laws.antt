@@ -6,8 +6,10 @@ pub mod Lone
 pub mod Found
 pub mod Places
 pub mod Sources
+pub mod Spared
 pub mod Lines
 pub mod Into
+pub mod Passing
 pub mod Own
 pub mod Saved
 pub mod BareMoves

@@ -1,5 +1,6 @@
 // A pass that works back: what it settles has a move to a position of the depth before, so that moves taken back from those positions find it.
 use super::captures::pass_captures;
+use super::finding::next_at;
 use super::into::try_into;
 use index::place_at;
 use position::Men;
@@ -14,21 +15,7 @@ ghost use Rattle.numbering.specs.Material.{known};
 ghost use Rattle.position.specs.Posed.{materialFor};
 ghost use Rattle.working_back.specs.Admitted.{over, Admitted};
 ghost use Rattle.working_back.specs.Trying.{Alive};
-ghost use Rattle.working_back.specs.Back.{Backwards, FirstAt, SweepsOwn};
-
-// The first number from `from` on that holds the byte; the table's end where there is none.
-fn next_at(byte: u8, from: usize, table: &[u8]) -> usize
-    ensures { λ r. ⌜ FirstAt (now (table .entry)) byte from r ⌝ }
-{
-    let mut n = from;
-    while n < table.len() {
-        if table[n] == byte {
-            return n;
-        }
-        n += 1;
-    }
-    n
-}
+ghost use Rattle.working_back.specs.Back.{Backwards, SweepsOwn};
 
 // Tries back from all numbers of this table that hold depth k - 1: a byte other than 0 stands at a legal number, so that the place there is at hand.
 fn pass_own(m: Men, k: u8, first: &[u8], second: &[u8], table: &mut [u8]) -> u32

@@ -1,7 +1,9 @@
 // The positions that have a move to this one, piece by piece.
 use super::bare::lose_bare;
-use super::trying::try_each;
-use super::trying::try_framed;
+use super::lines::line_of;
+use super::lines::no_line;
+use super::trying::lose_each;
+use super::trying::win_each;
 use movegen::king_at;
 use position::Men;
 use position::Place;
@@ -36,7 +38,34 @@ fn try_king(
     if (k % 2 == 0) & ((q.side == 0) & (m.colour == 0)) {
         return lose_bare(m, k, q, taken, to, squares, first, second, &mut *table);
     }
-    try_each(m, k, q, taken, to, squares, first, second, &mut *table)
+    if k % 2 == 0 {
+        return lose_each(
+            m,
+            k,
+            q,
+            taken,
+            KING,
+            to,
+            no_line(),
+            no_line(),
+            squares,
+            first,
+            second,
+            &mut *table,
+        );
+    }
+    win_each(
+        m,
+        k,
+        q,
+        taken,
+        to,
+        no_line(),
+        squares,
+        first,
+        second,
+        &mut *table,
+    )
 }
 
 // The same of a man, the first or the second.
@@ -56,11 +85,43 @@ fn try_man(
     let kind = again(latter, m.second, m.first);
     let owner = again(latter, m.colour, 0);
     let to = again(latter, q.second, q.first);
+    if owner == q.side {
+        return 0;
+    }
     let squares = sources(m, q, taken, kind, owner, to);
     if squares == 0 {
         return 0;
     }
-    try_framed(m, k, q, taken, to, squares, first, second, &mut *table)
+    let line = line_of(other(q.side), m, q, taken, to);
+    if k % 2 == 0 {
+        let after = line_of(q.side, m, q, taken, to);
+        return lose_each(
+            m,
+            k,
+            q,
+            taken,
+            kind,
+            to,
+            line,
+            after,
+            squares,
+            first,
+            second,
+            &mut *table,
+        );
+    }
+    win_each(
+        m,
+        k,
+        q,
+        taken,
+        to,
+        line,
+        squares,
+        first,
+        second,
+        &mut *table,
+    )
 }
 
 // Tries the positions that have a move to this one, which takes this man or none.
@@ -77,6 +138,10 @@ pub fn try_into(
     ensures { λ r. ⌜ TriesInto m (now (first .entry)) (now (second .entry)) k q (now (table .entry)) (now (table .exit)) r ⌝ }
 {
     let a = try_king(m, k, q, taken, first, second, &mut *table);
+    // Black has no men.
+    if (q.side == 0) & (m.colour == 0) {
+        return a;
+    }
     let b = try_man(false, m, k, q, taken, first, second, &mut *table);
     let c = try_man(true, m, k, q, taken, first, second, &mut *table);
     a + b + c

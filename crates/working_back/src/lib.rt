@@ -2,8 +2,11 @@
 mod back;
 mod bare;
 mod captures;
+mod finding;
 mod into;
+mod known;
 mod lines;
+mod spared;
 mod trying;
 
 pub use back::pass_back;

@@ -1,4 +1,5 @@
 // The numbers of a man's squares where nothing is exchanged: at equal steps from a base.
+use index::alike;
 use position::Men;
 use position::Place;
 use retracting::again;
@@ -6,12 +7,23 @@ use successors::Frame;
 use successors::base_of_first;
 use successors::base_of_one;
 use successors::base_of_second;
+use successors::frame_for;
 ghost use mathlib.Core.Path.{_≡_};
-ghost use Prim.Native.Nat.{_^_, _<_};
-ghost use Rattle.working_back.specs.Lines.{baseOf, scaleOf};
+ghost use mathlib.Core.Logic.{_⊎_};
+ghost use Prim.Native.Nat.{ℕ, _-_, _^_, _<_};
+ghost use Rattle.retracting.specs.Retracting.{LegalLeft};
+ghost use Rattle.working_back.specs.Lines.{baseOf, scaleOf, LinedBefore, LinedAfter};
+
+// A piece's squares: their numbers lie at equal steps from a base, or each is made where that is not plain.
+pub struct Line {
+    pub plain: bool,
+    pub base: usize,
+    pub flip: u8,
+    pub scale: u8,
+}
 
 // The base for the man on `to`, the other where he stood before the move.
-pub fn base_of(m: Men, q: Place, taken: u8, to: u8, f: Frame) -> usize
+fn base_of(m: Men, q: Place, taken: u8, to: u8, f: Frame) -> usize
     ensures { λ r. ⌜ (r ≡ baseOf m q taken to f) × (r < 2 ^ 48) ⌝ }
 {
     if 4 <= m.second {
@@ -24,7 +36,7 @@ pub fn base_of(m: Men, q: Place, taken: u8, to: u8, f: Frame) -> usize
 }
 
 // The step from one of his squares to the next.
-pub fn scale_of(m: Men, q: Place, to: u8) -> u8
+fn scale_of(m: Men, q: Place, to: u8) -> u8
     ensures { λ r. ⌜ r ≡ scaleOf m q to ⌝ }
 {
     if 4 <= m.second {
@@ -34,4 +46,36 @@ pub fn scale_of(m: Men, q: Place, to: u8) -> u8
         return 64;
     }
     1
+}
+
+// Each number is made.
+pub fn no_line() -> Line
+    ensures { λ r. ⌜ ((m : Men) (q : Place) (taken to : ℕ) → LinedBefore m q taken to r × LinedAfter m q taken to r) ⌝ }
+{
+    Line {
+        plain: false,
+        base: 0,
+        flip: 0,
+        scale: 1,
+    }
+}
+
+// The squares of the man on `to` with this side to move, by the frame of the kings, who stand still: those that he came from, or those that he went to.
+pub fn line_of(side: u8, m: Men, q: Place, taken: u8, to: u8) -> Line
+    requires { ⌜ LegalLeft m q taken × ((to ≡ q .first) ⊎ (to ≡ q .second)) ⌝ }
+    ensures { λ r. ⌜ (side ≡ 1 - q .side → LinedBefore m q taken to r) × (side ≡ q .side → LinedAfter m q taken to r) ⌝ }
+{
+    let f = frame_for(side, q.white, q.black);
+    let flip = f.flip;
+    if (f.exchange != 0) | alike(m) {
+        return no_line();
+    }
+    let base = base_of(m, q, taken, to, f);
+    let scale = scale_of(m, q, to);
+    Line {
+        plain: true,
+        base,
+        flip,
+        scale,
+    }
 }

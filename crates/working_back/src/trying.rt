@@ -1,56 +1,69 @@
 // The positions before the moves of one piece, tried: a number is settled if it holds 1 and depth k is required of its position.
-use super::lines::base_of;
-use super::lines::scale_of;
+use super::lines::Line;
+use super::spared::is_spared;
 use board::lowest;
 use board::without;
-use index::alike;
 use index::number_at;
 use position::Men;
 use position::Place;
-use position::other;
 use retracting::place_before;
-use successors::frame_for;
 use successors::requires_depth;
 use successors::spot;
 ghost use mathlib.Core.Path.{_≡_};
-ghost use mathlib.Core.Logic.{_⊎_};
-ghost use Prim.Native.Nat.{ℕ, _+_, _*_, _^_, _<_};
-ghost use lib.Bits.{bitXor};
-ghost use lib.Dec.{T};
+ghost use Prim.Native.Nat.{_-_, _%_, _^_, _<_};
 ghost use lib.ListN.{length, getD};
-ghost use Rattle.board.specs.Sets.{has};
 ghost use Rattle.numbering.specs.Number.{numberOf};
 ghost use Rattle.position.specs.Posed.{boardIn};
-ghost use Rattle.retracting.specs.Retracting.{LegalLeft, Leads, Retracts, placeBefore};
+ghost use Rattle.retracting.specs.Retracting.{LegalLeft, Leads, Retracts, Seat, placeBefore};
 ghost use Rattle.working_back.specs.Admitted.{Admitted};
 ghost use Rattle.working_back.specs.Back.{TriesPlace, TriesTo};
+ghost use Rattle.working_back.specs.Lines.{LinedBefore, LinedAfter};
 
-// Settles the number, which holds 1, if depth k is required of the position before a move from s; 1 if it did, and else 0.
+// Settles the number, which holds 1, if depth k, even, is required of the position before a move from s; 1 if it did, and else 0. The piece's own other
+// moves are read first.
 pub fn confirm(
     m: Men,
     k: u8,
     q: Place,
     taken: u8,
+    kind: u8,
     s: u8,
     to: u8,
     n: usize,
+    after: Line,
     first: &[u8],
     second: &[u8],
     table: &mut [u8],
 ) -> u32
-    requires { ⌜ (k < 254) × Admitted m (now first) (now second) (now table) × Leads m (placeBefore q taken s to) s to q × (n ≡ numberOf (boardIn m (placeBefore q taken s to))) × (n < length (now table)) × (getD (now table) n 0 ≡ 1) ⌝ }
+    requires { ⌜ (0 < k) × (k < 254) × Admitted m (now first) (now second) (now table) × Leads m (placeBefore q taken s to) s to q × LegalLeft m q taken × Seat m q kind (1 - q .side) to × LinedAfter m q taken to after × (n ≡ numberOf (boardIn m (placeBefore q taken s to))) × (n < length (now table)) × (getD (now table) n 0 ≡ 1) ⌝ }
     ensures { λ r. ⌜ TriesPlace m (now (first .entry)) (now (second .entry)) k q (placeBefore q taken s to) (now (table .entry)) (now (table .exit)) r ⌝ }
 {
-    if !requires_depth(m, place_before(q, taken, s, to), k, &*table, first, second) {
+    let o = place_before(q, taken, s, to);
+    if is_spared(m, k, o, kind, s, after, &*table) {
+        return 0;
+    }
+    if !requires_depth(m, o, k, &*table, first, second) {
         return 0;
     }
     table[n] = 2 + k;
     1
 }
 
-// Settles the number of the position before a move from s, if the table has it and pass k settles it; 1 if it did, and else 0. For k odd nothing is tried
-// forward: what holds 1 and has a move to a loss in k - 1 is won in k.
-fn try_number(
+// The number of the position before a move from s.
+fn number_before(m: Men, q: Place, taken: u8, s: u8, to: u8, line: Line) -> usize
+    requires { ⌜ line .base < 2 ^ 48 ⌝ }
+    ensures { λ r. ⌜ (Leads m (placeBefore q taken s to) s to q → LinedBefore m q taken to line → r ≡ numberOf (boardIn m (placeBefore q taken s to))) ⌝ }
+{
+    let plain = line.plain;
+    if plain {
+        return spot(line.base, line.flip, line.scale, s);
+    }
+    number_at(m, place_before(q, taken, s, to)) as usize
+}
+
+// Settles the number of the position before a move from s, if the table has it and it holds 1: it has a move to a loss in k - 1 and is won in k, odd;
+// 1 if it did, and else 0.
+fn win_number(
     m: Men,
     k: u8,
     q: Place,
@@ -62,7 +75,7 @@ fn try_number(
     second: &[u8],
     table: &mut [u8],
 ) -> u32
-    requires { ⌜ (k < 254) × Admitted m (now first) (now second) (now table) × Leads m (placeBefore q taken s to) s to q × (n ≡ numberOf (boardIn m (placeBefore q taken s to))) ⌝ }
+    requires { ⌜ (k < 254) × (k % 2 ≡ 1) × Admitted m (now first) (now second) (now table) × Leads m (placeBefore q taken s to) s to q × (n ≡ numberOf (boardIn m (placeBefore q taken s to))) ⌝ }
     ensures { λ r. ⌜ TriesPlace m (now (first .entry)) (now (second .entry)) k q (placeBefore q taken s to) (now (table .entry)) (now (table .exit)) r ⌝ }
 {
     if table.len() <= n {
@@ -71,102 +84,115 @@ fn try_number(
     if table[n] != 1 {
         return 0;
     }
-    if k % 2 == 0 {
-        return confirm(m, k, q, taken, s, to, n, first, second, &mut *table);
-    }
     table[n] = 2 + k;
     1
 }
 
-// From each of these squares, each number made.
-pub fn try_each(
+// The same for a loss.
+fn lose_number(
     m: Men,
     k: u8,
     q: Place,
     taken: u8,
+    kind: u8,
+    s: u8,
     to: u8,
-    squares: u64,
+    n: usize,
+    after: Line,
     first: &[u8],
     second: &[u8],
     table: &mut [u8],
 ) -> u32
-    requires { ⌜ (k < 254) × Admitted m (now first) (now second) (now table) × Retracts m q taken to squares ⌝ }
-    ensures { λ r. ⌜ TriesTo m (now (first .entry)) (now (second .entry)) k q to (now (table .entry)) (now (table .exit)) r ⌝ }
+    requires { ⌜ (0 < k) × (k < 254) × Admitted m (now first) (now second) (now table) × Leads m (placeBefore q taken s to) s to q × LegalLeft m q taken × Seat m q kind (1 - q .side) to × LinedAfter m q taken to after × (n ≡ numberOf (boardIn m (placeBefore q taken s to))) ⌝ }
+    ensures { λ r. ⌜ TriesPlace m (now (first .entry)) (now (second .entry)) k q (placeBefore q taken s to) (now (table .entry)) (now (table .exit)) r ⌝ }
 {
-    let mut settled: u32 = 0;
-    let mut rest = squares;
-    while rest != 0 {
-        let s = lowest(rest);
-        let n = number_at(m, place_before(q, taken, s, to)) as usize;
-        settled += try_number(m, k, q, taken, s, to, n, first, second, &mut *table);
-        rest = without(rest, s);
+    if table.len() <= n {
+        return 0;
     }
-    settled
-}
-
-// A man's squares, whose numbers lie at equal steps from a base.
-fn try_along(
-    m: Men,
-    k: u8,
-    q: Place,
-    taken: u8,
-    to: u8,
-    base: usize,
-    flip: u8,
-    scale: u8,
-    squares: u64,
-    first: &[u8],
-    second: &[u8],
-    table: &mut [u8],
-) -> u32
-    requires { ⌜ (k < 254) × Admitted m (now first) (now second) (now table) × Retracts m q taken to squares × (base < 2 ^ 48) × ((s : ℕ) → s < 64 → T (has squares s) → base + bitXor s flip * scale ≡ numberOf (boardIn m (placeBefore q taken s to))) ⌝ }
-    ensures { λ r. ⌜ TriesTo m (now (first .entry)) (now (second .entry)) k q to (now (table .entry)) (now (table .exit)) r ⌝ }
-{
-    let mut settled: u32 = 0;
-    let mut rest = squares;
-    while rest != 0 {
-        let s = lowest(rest);
-        let n = spot(base, flip, scale, s);
-        settled += try_number(m, k, q, taken, s, to, n, first, second, &mut *table);
-        rest = without(rest, s);
+    if table[n] != 1 {
+        return 0;
     }
-    settled
-}
-
-// A man's squares, by the frame of the kings, who stand still.
-pub fn try_framed(
-    m: Men,
-    k: u8,
-    q: Place,
-    taken: u8,
-    to: u8,
-    squares: u64,
-    first: &[u8],
-    second: &[u8],
-    table: &mut [u8],
-) -> u32
-    requires { ⌜ (k < 254) × Admitted m (now first) (now second) (now table) × Retracts m q taken to squares × LegalLeft m q taken × ((to ≡ q .first) ⊎ (to ≡ q .second)) ⌝ }
-    ensures { λ r. ⌜ TriesTo m (now (first .entry)) (now (second .entry)) k q to (now (table .entry)) (now (table .exit)) r ⌝ }
-{
-    let f = frame_for(other(q.side), q.white, q.black);
-    let flip = f.flip;
-    if (f.exchange != 0) | alike(m) {
-        return try_each(m, k, q, taken, to, squares, first, second, &mut *table);
-    }
-    let base = base_of(m, q, taken, to, f);
-    let scale = scale_of(m, q, to);
-    try_along(
+    confirm(
         m,
         k,
         q,
         taken,
+        kind,
+        s,
         to,
-        base,
-        flip,
-        scale,
-        squares,
+        n,
+        after,
         first,
         second,
         &mut *table,
     )
+}
+
+// From each of these squares, k odd.
+pub fn win_each(
+    m: Men,
+    k: u8,
+    q: Place,
+    taken: u8,
+    to: u8,
+    line: Line,
+    squares: u64,
+    first: &[u8],
+    second: &[u8],
+    table: &mut [u8],
+) -> u32
+    requires { ⌜ (k < 254) × (k % 2 ≡ 1) × Admitted m (now first) (now second) (now table) × Retracts m q taken to squares × LinedBefore m q taken to line ⌝ }
+    ensures { λ r. ⌜ TriesTo m (now (first .entry)) (now (second .entry)) k q to (now (table .entry)) (now (table .exit)) r ⌝ }
+{
+    let mut settled: u32 = 0;
+    let mut rest = squares;
+    while rest != 0 {
+        let s = lowest(rest);
+        let n = number_before(m, q, taken, s, to, line);
+        settled += win_number(m, k, q, taken, s, to, n, first, second, &mut *table);
+        rest = without(rest, s);
+    }
+    settled
+}
+
+// The same, k even.
+pub fn lose_each(
+    m: Men,
+    k: u8,
+    q: Place,
+    taken: u8,
+    kind: u8,
+    to: u8,
+    line: Line,
+    after: Line,
+    squares: u64,
+    first: &[u8],
+    second: &[u8],
+    table: &mut [u8],
+) -> u32
+    requires { ⌜ (0 < k) × (k < 254) × Admitted m (now first) (now second) (now table) × Retracts m q taken to squares × LegalLeft m q taken × Seat m q kind (1 - q .side) to × LinedBefore m q taken to line × LinedAfter m q taken to after ⌝ }
+    ensures { λ r. ⌜ TriesTo m (now (first .entry)) (now (second .entry)) k q to (now (table .entry)) (now (table .exit)) r ⌝ }
+{
+    let mut settled: u32 = 0;
+    let mut rest = squares;
+    while rest != 0 {
+        let s = lowest(rest);
+        let n = number_before(m, q, taken, s, to, line);
+        settled += lose_number(
+            m,
+            k,
+            q,
+            taken,
+            kind,
+            s,
+            to,
+            n,
+            after,
+            first,
+            second,
+            &mut *table,
+        );
+        rest = without(rest, s);
+    }
+    settled
 }

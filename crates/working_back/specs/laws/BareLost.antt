@@ -1,14 +1,14 @@
 -- A black king without men is lost in k, k even, where all his other targets lead to wins no deeper; a target that does not saves him.
 use mathlib.Core.Path.{_≡_, refl, sym, ap, subst, subst⁻¹, _∙_}
-use mathlib.Core.Bool.{Bool, true, false, cond, not, _&&_, _||_}
-use mathlib.Core.Logic.{_⊎_, inl, inr}
+use mathlib.Core.Bool.{Bool, true, false, cond, not, _&&_, _||_, and-false}
+use mathlib.Core.Logic.{_⊎_, inl, inr, ⊎-elim}
 use mathlib.Core.List.{List}
 use Prim.Native.Nat.{ℕ, _+_, _-_, _<_, _≤_, _%_}
 use native.Mathlib.Omega.{arith}
-use lib.Dec.{T, eqb, eqb→eq}
-use lib.ListN.{getD, length, set}
+use lib.Dec.{T, leb, eqb, eqb→eq}
+use lib.ListN.{getD, length, set, List·getD-eq-default}
 use borrow.Author.Tests.{eq-eqb, ne-eqb, le-leb, lt-leb}
-use Rattle.finite.specs.Truth.{decided, refuted, of-true, and-both, and-left, and-right}
+use Rattle.finite.specs.Truth.{decided, le-or-lt, refuted, of-true, and-both, and-left, and-right}
 use Rattle.theory.specs.Required.{winning, requiredAt}
 use Rattle.theory.specs.Verdict.{spoils}
 use Rattle.theory.specs.laws.InPlace.{Settling}
@@ -17,6 +17,7 @@ use Rattle.theory.specs.Judge.{refutes}
 use Rattle.table_theory.specs.Tables.{reads}
 use Rattle.board.specs.Reach.{reaches}
 use Rattle.board.specs.Sets.{has, setOf}
+use Rattle.board.specs.laws.SetLaws.{has-none}
 use Rattle.rules.specs.Rules.{Board, carried, moved, canMove}
 use Rattle.rules.specs.Chess.{chess}
 use Rattle.rules.specs.laws.CanMove.{can-on}
@@ -40,10 +41,10 @@ use Rattle.retracting.specs.Retracting.{Leads, placeBefore}
 use Rattle.retracting.specs.laws.Causes.{place-eq}
 use Rattle.working_back.specs.Admitted.{over, Admitted}
 use Rattle.working_back.specs.Trying.{Midway}
-use Rattle.working_back.specs.Back.{Ripe, TriesPlace}
+use Rattle.working_back.specs.Back.{Few, Ripe, TriesPlace}
 use Rattle.working_back.specs.laws.Trying.{settling}
 use Rattle.working_back.specs.laws.Places.{tried-lost, tried-kept}
-use Rattle.working_back.specs.Bare.{bareOn, Bare, struckBy}
+use Rattle.working_back.specs.Bare.{bareOn, Bare, struckBy, byteOn, Knows, QuietLoss}
 use Rattle.working_back.specs.laws.BareMoves.{place-is, complete, only-king, goals-are}
 
 even-draw : (k : ℕ) → k % 2 ≡ 0 → refutes (2 + k) 1 ≡ true
@@ -220,7 +221,7 @@ module _ (m : Men) (q : Place) (taken to white x y : ℕ) (v : Bare m q taken to
   pub bare-drawn : 4 ≤ m .second → x < 64 → T (has goals x) → TriesPlace m first second k q (placeBefore q taken s to) u u 0
   bare-drawn i j g =
       tried-kept m (placeBefore q taken s to) q s to l first second k u a n z h one
-      (ap (λ (o : Place). eqb (requiredAt chess (bytesIn m first second u) (boardIn m o)) (2 + k)) same
+      (λ t w r. ap (λ (o : Place). eqb (requiredAt chess (bytesIn m first second u) (boardIn m o)) (2 + k)) same
       ∙ bare-draws m q taken to white x y v s l first second u k (λ e. omega (arith, some, e)) i (goal-can x j g) even)
 
   pub first-on : x < 64
@@ -253,7 +254,7 @@ module _ (m : Men) (q : Place) (taken to white x y : ℕ) (v : Bare m q taken to
         → TriesPlace m first second k q (placeBefore q taken s to) u u 0
     bare-saved w =
         tried-kept m (placeBefore q taken s to) q s to l first second k u a n z h one
-        (ap (λ (o : Place). eqb (requiredAt chess (bytesIn m first second u) (boardIn m o)) (2 + k)) same
+        (λ t i r. ap (λ (o : Place). eqb (requiredAt chess (bytesIn m first second u) (boardIn m o)) (2 + k)) same
         ∙ bare-kept m q taken to white x y v s l first second u k (λ e. omega (arith, some, e)) (w .0) (goal-can (w .0) (w .1) (w .2))
         (off (w .0) x (w .2) no-first) (off (w .0) y (w .2) no-second) (w .3))
 
@@ -282,3 +283,45 @@ module _ (m : Men) (q : Place) (taken to white x y : ℕ) (v : Bare m q taken to
                 → reads chess (over m first second) u (boardIn m q) ≡ 1 + k
             go (inl e) = e ∙ r .byte
             go (inr e) = absurd (omega (arith, some, e .0, r .byte))
+
+    -- no square saves him, or one does
+    pub bare-quiet : (w : List ℕ) (did : ℕ) → QuietLoss m k white x y goals n u w did → TriesPlace m first second k q (placeBefore q taken s to) u w did
+    bare-quiet w did (QuietLoss.saved f e) =
+        subst⁻¹ (λ (t : List ℕ). TriesPlace m first second k q (placeBefore q taken s to) u t 0) e (bare-saved (f .one refl))
+    bare-quiet w did (QuietLoss.lost f e) =
+        subst⁻¹ (λ (t : List ℕ). TriesPlace m first second k q (placeBefore q taken s to) u t 1) e (bare-settled (f .none refl))
+
+-- ---- what is known of his squares
+
+pub knows-none : (m : Men) (k white x y : ℕ) (t : List ℕ) → Knows m k white x y t 0 0
+knows-none m k white x y t = record { saves = λ s h g. absurd (refuted (has-none s) g); clears = λ s h g. absurd (refuted (has-none s) g) }
+
+even-loss : (k : ℕ) → k % 2 ≡ 0 → refutes (2 + k) (2 + k) ≡ true
+unfolding refutes spoils winning
+even-loss k e =
+    rw (lt-leb (2 + k) 1 (omega arith), back k, eq-eqb (k % 2) 0 e, ne-eqb ((2 + k) % 2) 1 (λ z. omega (arith, e, z)))
+    (ap (λ (b : Bool). not (b && leb (2 + k) (1 + k))) (and-false (leb 3 (2 + k))))
+  where
+    back : (k : ℕ) → 2 + k - 2 ≡ k
+    back k = omega arith
+
+-- it is true of the table as settled: 1 and a loss in k save him alike
+pub knows-kept : (m : Men) (k white x y : ℕ) → k % 2 ≡ 0 → (u v : List ℕ) (most did saving harmless : ℕ) → Few k most u v did
+    → Knows m k white x y u saving harmless → Knows m k white x y v saving harmless
+knows-kept m k white x y even u v most did saving harmless f w = record {
+  saves = λ s h g. same s ∙ w .saves s h g;
+  clears = λ s h g. same s ∙ w .clears s h g;
+}
+  where
+    go : (n : ℕ) → (getD v n 0 ≡ getD u n 0) ⊎ ((getD u n 0 ≡ 1) × (getD v n 0 ≡ 2 + k))
+        → refutes (2 + k) (getD v n 0) ≡ refutes (2 + k) (getD u n 0)
+    go n (inl e) = ap (refutes (2 + k)) e
+    go n (inr e) = ap (refutes (2 + k)) (e .1) ∙ even-loss k even ∙ sym (ap (refutes (2 + k)) (e .0) ∙ even-draw k even)
+
+    same : (s : ℕ) → refutes (2 + k) (byteOn m v white x y s) ≡ refutes (2 + k) (byteOn m u white x y s)
+    same s = go (numberOf (boardIn m (bareOn 0 white s x y))) (f .byte (numberOf (boardIn m (bareOn 0 white s x y))))
+
+-- a number that holds 1 is the table's
+pub held-inside : (u : List ℕ) (n c : ℕ) → c ≡ getD u n 0 → c ≡ 1 → n < length u
+held-inside u n c e h = ⊎-elim
+    (λ z. let y : getD u n 0 ≡ 0 = List·getD-eq-default u 0 z in absurd (omega (arith, e, h, y))) (λ z. z) (le-or-lt (length u) n)

@@ -31,7 +31,7 @@ use Rattle.retracting.specs.Retracting.{LegalLeft, loneOf, leftPlace}
 use Rattle.retracting.specs.laws.Leaving.{left-lone, left-number, left-legal}
 use Rattle.working_back.specs.Admitted.{over, Admitted}
 use Rattle.working_back.specs.Trying.{Midway, Went, Ready}
-use Rattle.working_back.specs.Back.{Ripe, TriesInto, Which, lentOf, TriedLone, TriesLone, Sweeps, SweepsAll}
+use Rattle.working_back.specs.Back.{NoneFrom, Ripe, TriesInto, Which, lentOf, TriedLone, TriesLone, Sweeps, SweepsAll}
 use Rattle.working_back.specs.laws.Admitted.{sized, lent-long}
 use Rattle.working_back.specs.laws.Few.{few-none, few-then, few-most}
 use Rattle.working_back.specs.laws.Trying.{went-none, went-then, tried-kept}
@@ -128,12 +128,6 @@ module _ (m : Men) (first second : List ℕ) (k : ℕ) (u : List ℕ) (a : Admit
             (p .0, λ e live. (t, w .1, w .2 ∙ ap (λ (x : Material). boardAt (menOf x) j) lone-is, p .1)),
       )
 
-    pub lone-other : (getD (lentOf m first second taken) j 0 ≡ 1 + k → ⊥) → TriesLone m first second k taken j u u 0
-    lone-other n = (
-      few-none k _ u,
-      λ x y r. (went-none chess G k x (long-of x y) u y, λ e. absurd (n e)),
-    )
-
     pub lone-nothing : legalNumberOf (materialFor (loneOf m taken)) j ≡ false → TriesLone m first second k taken j u u 0
     lone-nothing z = (
       few-none k _ u,
@@ -147,12 +141,6 @@ module _ (m : Men) (first second : List ℕ) (k : ℕ) (u : List ℕ) (a : Admit
     module _ (small : List ℕ) (es : small ≡ lentOf m first second taken) (h : j < length small) where
       pub lone-in : j < 59136
       lone-in = let z = lent-of-long m first second u a two taken in omega (arith, h, ap length es ∙ z)
-
-      pub lone-byte : getD small j 0 ≡ 1 + k → getD (lentOf m first second taken) j 0 ≡ 1 + k
-      lone-byte e = subst (λ (l : List ℕ). getD l j 0 ≡ 1 + k) es e
-
-      pub lone-byte-not : (getD small j 0 ≡ 1 + k → ⊥) → getD (lentOf m first second taken) j 0 ≡ 1 + k → ⊥
-      lone-byte-not n e = n (subst⁻¹ (λ (l : List ℕ). getD l j 0 ≡ 1 + k) es e)
 
       pub lone-standing : (men : Men) (s : Standing) → men ≡ loneOf m taken
           → (T (known (materialFor men)) → men .colour < 2 → j < sizeOf (materialFor men) → StandingAt men j s)
@@ -179,6 +167,18 @@ module _ (m : Men) (first second : List ℕ) (k : ℕ) (u : List ℕ) (a : Admit
     sweep-start = (
       few-none k _ u,
       λ t w r. (went-none chess G k t (long-of t w) u w, λ i h. absurd (omega arith)),
+    )
+
+    -- numbers passed over do not hold depth k - 1
+    pub sweep-skip : (v small : List ℕ) (j i did : ℕ) → small ≡ lentOf m first second taken → j ≤ i → NoneFrom small (1 + k) j i
+        → Sweeps m first second k taken j u v did → Sweeps m first second k taken i u v did
+    sweep-skip v small j i did e h none f = (
+      few-most k (192 * j) (192 * i) u v did (omega (arith, h)) (f .0),
+      λ t w r.
+          let p = f .1 t w r in (
+            p .0,
+            λ n g z. ⊎-elim (λ x. absurd (none n x g (ap (λ (l : List ℕ). getD l n 0) e ∙ z))) (λ x. p .1 n x z) (le-or-lt j n),
+          ),
     )
 
     pub sweep-turn : (v x : List ℕ) (j did more : ℕ) → Sweeps m first second k taken j u v did

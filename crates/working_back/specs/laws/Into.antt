@@ -1,6 +1,6 @@
 -- The three pieces that may have moved into a position.
 use Rattle.finite.specs.Truth.{of-true, and-left, and-right}
-use mathlib.Core.Path.{_≡_, sym, ap, subst, subst⁻¹, _∙_}
+use mathlib.Core.Path.{_≡_, refl, sym, ap, subst, subst⁻¹, _∙_}
 use mathlib.Core.Bool.{Bool, true, false, cond, _&&_}
 use mathlib.Core.Logic.{_⊎_, inl, inr, ⊎-elim}
 use mathlib.Core.List.{List}
@@ -20,10 +20,12 @@ use Rattle.successors.specs.Successors.{kingAt}
 use Rattle.successors.specs.laws.PlaceLaws.{starts}
 use Rattle.retracting.specs.Retracting.{Leads, LegalLeft, Seat}
 use Rattle.retracting.specs.laws.Sources.{moves-on}
+use Rattle.retracting.specs.laws.Code.{no-source}
 use Rattle.working_back.specs.Admitted.{over, Admitted}
 use Rattle.working_back.specs.Back.{TriesTo, TriesInto}
-use Rattle.working_back.specs.laws.Admitted.{sized}
+use Rattle.working_back.specs.laws.Admitted.{sized, admitted-kept}
 use Rattle.working_back.specs.laws.Few.{few-then}
+use Rattle.working_back.specs.laws.Sources.{taken-start, taken-end}
 use Rattle.working_back.specs.laws.Trying.{went-then, tried-kept}
 
 king-went : (o : Place) (from to : ℕ) → o .side < 2 → from ≡ kingAt o
@@ -115,3 +117,25 @@ module _ (m : Men) (q : Place) (taken : ℕ) (w : LegalLeft m q taken) where
                 (went-to o from to l),
           ),
     )
+
+    -- the man of the side to move has not just moved
+    own-none : (kind owner to : ℕ) → Seat m q kind owner to → owner ≡ q .side → TriesTo m first second k q to u u 0
+    own-none kind owner to seat e =
+        taken-end m first second k q taken to u a 0 u 0 0 refl (taken-start m first second k q taken to u a 0)
+        (no-source m q taken kind owner to w seat e)
+
+-- Black has no men: his king alone
+pub into-king : (m : Men) (q : Place) (taken : ℕ) → LegalLeft m q taken → (first second : List ℕ) (k : ℕ) (u : List ℕ) → Admitted m first second u
+    → (v : List ℕ) (did : ℕ) → (eqb (q .side) 0 && eqb (m .colour) 0) ≡ true
+    → TriesTo m first second k q (cond (eqb (1 - q .side) 0) (q .white) (q .black)) u v did → TriesInto m first second k q u v did
+into-king m q taken w first second k u a v did e f =
+    let x = of-true e in
+    let s = eqb→eq (q .side) 0 (and-left (eqb (q .side) 0) (eqb (m .colour) 0) x) in
+    let c = eqb→eq (m .colour) 0 (and-right (eqb (q .side) 0) (eqb (m .colour) 0) x) in
+    let b = admitted-kept m first second u a v (f .0 .long) in
+    subst (TriesInto m first second k q u v) (none did)
+    (into-all m q taken w first second k u a v v v did 0 0 f (own-none m q taken w first second k v b (m .first) 0 (q .first) Seat.first (sym s))
+    (own-none m q taken w first second k v b (m .second) (m .colour) (q .second) Seat.second (c ∙ sym s)))
+  where
+    none : (i : ℕ) → i + 0 + 0 ≡ i
+    none i = omega arith

@@ -40,14 +40,6 @@ within r a b c h e f = omega arith
 pub not-last : (j a b : ℕ) → j < b → a ≡ b → j + 1 ≤ a
 not-last j a b h e = omega arith
 
--- none of these numbers holds the byte
-abbrev pub NoneFrom : List ℕ → ℕ → ℕ → ℕ → Type 0
-NoneFrom t byte from to = (i : ℕ) → from ≤ i → i < to → getD t i 0 ≡ byte → ⊥
-
-pub none-more : (t : List ℕ) (byte from n : ℕ) → NoneFrom t byte from n → (getD t n 0 ≡ byte → ⊥) → NoneFrom t byte from (n + 1)
-none-more t byte from n f d i h g e = ⊎-elim
-    (λ x. let z : i ≡ n = omega (arith, x, g) in d (subst (λ (j : ℕ). getD t j 0 ≡ byte) z e)) (λ x. f i h x e) (le-or-lt n i)
-
 -- what stands at a live number
 pub standing-live : (m : Men) (j : ℕ) (q : Place) → T (known (materialFor m)) → StandsAt m j q → T (legalNumberOf (materialFor m) j)
     → StandingAt m j (Standing.Legal q)

@@ -140,12 +140,13 @@ module _ (m : Men) (o q : Place) (from to : ℕ) (l : Leads m o from to q) where
         place-lost f =
             settled (λ t w r. subst T (settles-midway chess N k t u w (numberOf b) e) (subst⁻¹ T (place-settles u e) (of-true (f t w r))))
 
-        pub place-kept : eqb (requiredAt chess (reads chess N u) b) (2 + k) ≡ false → TriesPlace m first second k q o u u 0
+        pub place-kept : ((t : List ℕ) → Midway chess N k t u → Ripe m first second k t q → eqb (requiredAt chess (reads chess N u) b) (2 + k) ≡ false)
+            → TriesPlace m first second k q o u u 0
         place-kept f = (
           few-none k 1 u,
           λ t w r. (
             went-none chess N k t (long-t t w) u w,
-            λ s z. refuted (sym (settles-midway chess N k t u w (numberOf b) e) ∙ place-settles u e ∙ f) s,
+            λ s z. refuted (sym (settles-midway chess N k t u w (numberOf b) e) ∙ place-settles u e ∙ f t w r) s,
           ),
         )
 
@@ -177,7 +178,8 @@ module _ (m : Men) (o q : Place) (from to : ℕ) (l : Leads m o from to q) (firs
         → TriesPlace m first second k q o u (set u n (2 + k)) 1
     tried-lost f = written (place-lost m o q from to l first second k u a here one f)
 
-    pub tried-kept : eqb (requiredAt chess (reads chess (over m first second) u) (boardIn m o)) (2 + k) ≡ false
+    pub tried-kept : ((t : List ℕ) → Midway chess (over m first second) k t u → Ripe m first second k t q
+        → eqb (requiredAt chess (reads chess (over m first second) u) (boardIn m o)) (2 + k) ≡ false)
         → TriesPlace m first second k q o u u 0
     tried-kept f = place-kept m o q from to l first second k u a here one f
 

@@ -66,7 +66,7 @@ module _ (G : Game) (N : Numbering G) (k : ℕ) (t : List ℕ) where
   midway-start = record { long = refl; byte = λ n. inl refl }
 
   -- a settled number held 1
-  held-one : (n : ℕ) → T (settles G N k t n) → getD t n 0 ≡ 1
+  pub held-one : (n : ℕ) → T (settles G N k t n) → getD t n 0 ≡ 1
   unfolding settles
   held-one n s = eqb→eq (getD t n 0) 1 (and-left (eqb (getD t n 0) 1) _ s)
 

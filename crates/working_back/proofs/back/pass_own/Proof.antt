@@ -27,16 +27,16 @@ add-byte : tie.Need-add-byte Inv-loop μ-loop
 add-byte c = search needs
 
 next-at-requires : tie.Need-next-at-requires Inv-loop μ-loop
-next-at-requires c κs = tt
+next-at-requires c κs = omega arith
 
 loop-holds : tie.Need-loop-holds Inv-loop μ-loop
 loop-holds c =
     let p = c .before .before .before .before .before .pre in
     let x = c .before .before .before .before .before .args in
     let n = c .next-at .ensures in (
-      n .inside (omega arith),
+      n .passes .inside,
       n .here,
-      own-skip (x .m) (x .first .now) (x .second .now) (x .k) _ (p .2) (p .0) _ 0 _ 0 (n .later) (n .none)
+      own-skip (x .m) (x .first .now) (x .second .now) (x .k) _ (p .2) (p .0) _ 0 _ 0 (n .passes .later) (n .passes .none)
           (own-start (x .m) (x .first .now) (x .second .now) (x .k) _ (p .2)),
       p .4,
     )
@@ -75,10 +75,11 @@ add-next-at : tie.Need-add-next-at Inv-loop μ-loop
 add-next-at c = omega (arith, most _ _ _ _ (c .before .before .before .before .before .before .before .before .before .before .before .before .pre .2), c .before .before .before .before .before .before .loop .inv .2 .0 .long, c .before .before .before .before .before .loop-test .taken)
 
 next-at-requires-2 : tie.Need-next-at-requires-2 Inv-loop μ-loop
-next-at-requires-2 c κs = tt
+next-at-requires-2 c κs =
+    not-last _ _ _ (c .before .before .before .before .before .before .loop-test .taken) (c .before .before .before .try-into .ensures .0 .long)
 
 loop-less : tie.Need-loop-less Inv-loop μ-loop
-loop-less c = omega (arith, c .before .before .before .before .before .before .before .before .loop .inv .2 .0 .long, c .before .before .before .before .before .before .before .loop-test .taken, c .next-at2 .ensures .later)
+loop-less c = omega (arith, c .before .before .before .before .before .before .before .before .loop .inv .2 .0 .long, c .before .before .before .before .before .before .before .loop-test .taken, c .next-at2 .ensures .passes .later)
 
 loop-again : tie.Need-loop-again Inv-loop μ-loop
 loop-again c =
@@ -93,9 +94,9 @@ loop-again c =
     let s = standing-live (x .m) j _ (p .3)
     (c .before .before .before .before .before .before .place-at .ensures (p .3) (a .colour) (in-size (x .m) (x .first .now) (x .second .now) _ a _ h))
     (alive-number (x .m) (x .first .now) (x .second .now) _ a j (x .k) (l .3) (l .1 h)) in (
-      within _ _ _ _ (n .inside (not-last _ _ _ h (f .0 .long))) (f .0 .long) (l .2 .0 .long),
+      within _ _ _ _ (n .passes .inside) (f .0 .long) (l .2 .0 .long),
       n .here,
-      own-skip (x .m) (x .first .now) (x .second .now) (x .k) _ (p .2) (p .0) _ (j + 1) _ _ (n .later) (n .none)
+      own-skip (x .m) (x .first .now) (x .second .now) (x .k) _ (p .2) (p .0) _ (j + 1) _ _ (n .passes .later) (n .passes .none)
           (own-turn (x .m) (x .first .now) (x .second .now) (x .k) _ (p .2) _ _ j _ _ (l .2)
           (at-legal (x .m) (x .first .now) (x .second .now) (x .k) j _ a _ _ _ h (l .1 h) s f)),
       alive-kept chess (over (x .m) (x .first .now) (x .second .now)) (x .k) 192 _ _ _ (f .0) (l .3),

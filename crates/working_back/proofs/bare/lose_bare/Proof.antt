@@ -7,18 +7,21 @@ use lib.ListN.{length}
 use Rattle.finite.specs.Truth.{or-right}
 use Rattle.board.specs.Sets.{has, members}
 use Rattle.board.specs.laws.LowestLaws.{lowest-of}
+use Rattle.working_back.specs.Bare.{Knows}
+use Rattle.working_back.specs.laws.BareLost.{knows-none}
 use Rattle.working_back.specs.laws.Admitted.{admitted-kept}
 use Rattle.working_back.specs.laws.Sources.{Taken, taken-start, taken-turn, taken-end, lowest-in}
 use Rattle.working_back.proofs.bare.lose_bare.Statement.{statement}
 use Rattle.working_back.proofs.bare.lose_bare.Tie as tie
 
 abbrev Inv-loop : tie.InvT-loop
-Inv-loop m k q taken to squares first second table₀ white x y shut settled₀ rest₀ table settled rest = (rest < 2 ^ 64)
+Inv-loop m k q taken to squares first second table₀ white x y shut settled₀ saving₀ harmless₀ rest₀ table settled saving harmless rest = (rest < 2 ^ 64)
     × ((s : ℕ) → s < 64 → T (has rest s) → T (has squares s))
     × Taken m first second k q taken to squares table₀ table rest settled
+    × Knows m k white x y table saving harmless
 
 abbrev μ-loop : tie.MeasureT-loop
-μ-loop m k q taken to squares first second table₀ white x y shut settled₀ rest₀ table settled rest = length (members rest)
+μ-loop m k q taken to squares first second table₀ white x y shut settled₀ saving₀ harmless₀ rest₀ table settled saving harmless rest = length (members rest)
 
 again-requires : tie.Need-again-requires Inv-loop μ-loop
 again-requires c κs = tt
@@ -35,6 +38,7 @@ loop-holds c =
       c .before .before .before .before .before .before .fits .squares .fits,
       (λ i h t. t),
       taken-start (x .m) (x .first .now) (x .second .now) (x .k) (x .q) (x .taken) (x .to) _ (c .before .before .before .before .before .before .pre .3) _,
+      knows-none _ _ _ _ _ _,
     )
 
 lowest-requires : tie.Need-lowest-requires Inv-loop μ-loop
@@ -61,29 +65,32 @@ lose-one-requires c κs =
       },
       c .before .before .before .before .struck .ensures,
       p .4 .sound (c .before .lowest .result) (z .0) (l .inv .1 (c .before .lowest .result) (z .0) (z .1)),
+      l .inv .3,
     )
 
 add-settled : tie.Need-add-settled Inv-loop μ-loop
-add-settled c = omega (arith, c .before .before .before .before .before .before .loop .inv .2 .0 .few, c .before .before .lose-one .ensures .0 .few)
+add-settled c = omega (arith, c .before .before .before .before .before .before .before .loop .inv .2 .0 .few, c .before .before .before .lose-one .ensures .0 .0 .few)
 
 without-requires : tie.Need-without-requires Inv-loop μ-loop
 without-requires c κs = tt
 
 loop-less : tie.Need-loop-less Inv-loop μ-loop
 loop-less c =
-    let l = c .before .before .before .before .before .before .before .loop in
-    lowest-of (l .rest) _ _ (l .inv .0) (c .before .before .before .before .before .before .loop-test .taken) (c .before .before .before .before .before .lowest .ensures) (c .without .ensures) .fewer
+    let l = c .before .before .before .before .before .before .before .before .loop in
+    lowest-of (l .rest) _ _ (l .inv .0) (c .before .before .before .before .before .before .before .loop-test .taken) (c .before .before .before .before .before .before .lowest .ensures) (c .without .ensures) .fewer
 
 loop-again : tie.Need-loop-again Inv-loop μ-loop
 loop-again c =
-    let x = c .before .before .before .before .before .before .before .before .before .before .before .before .before .before .args in
-    let l = c .before .before .before .before .before .before .before .loop in
-    let w = lowest-of (l .rest) (c .before .before .before .before .before .lowest .result) (c .without .result) (l .inv .0) (c .before .before .before .before .before .before .loop-test .taken) (c .before .before .before .before .before .lowest .ensures)
-    (c .without .ensures) in (
+    let x = c .before .before .before .before .before .before .before .before .before .before .before .before .before .before .before .args in
+    let l = c .before .before .before .before .before .before .before .before .loop in
+    let t = c .before .before .before .before .before .before .lowest .result in
+    let w = lowest-of (l .rest) t (c .without .result) (l .inv .0) (c .before .before .before .before .before .before .before .loop-test .taken) (c .before .before .before .before .before .before .lowest .ensures) (c .without .ensures) in
+    let e = c .before .before .before .before .lose-one .ensures in (
       c .without .ok,
-      (λ j h u. l .inv .1 j h (subst⁻¹ T (w .others j h) (or-right (eqb j (c .before .before .before .before .before .lowest .result)) (has (c .without .result) j) u))),
-      taken-turn (x .m) (x .first .now) (x .second .now) (x .k) (x .q) (x .taken) (x .to) _ (c .before .before .before .before .before .before .before .before .before .before .before .before .before .before .pre .3) _ _ _ (l .rest)
-          (c .without .result) (c .before .before .before .before .before .lowest .result) (l .settled) _ (l .inv .2) w (c .before .before .before .lose-one .ensures),
+      (λ j h u. l .inv .1 j h (subst⁻¹ T (w .others j h) (or-right (eqb j t) (has (c .without .result) j) u))),
+      taken-turn (x .m) (x .first .now) (x .second .now) (x .k) (x .q) (x .taken) (x .to) _ (c .before .before .before .before .before .before .before .before .before .before .before .before .before .before .before .pre .3) _ _ _ (l .rest)
+          (c .without .result) t (l .settled) _ (l .inv .2) w (e .0),
+      e .1,
     )
 
 same-length : tie.Need-same-length Inv-loop μ-loop

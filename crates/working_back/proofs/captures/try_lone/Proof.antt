@@ -1,37 +1,22 @@
 -- `working_back::try_lone` meets its contract.
-use mathlib.Core.Path.{subst⁻¹}
+use mathlib.Core.Path.{refl, subst⁻¹}
 use native.Mathlib.Omega.{arith}
 use borrow.Author.Needs.{needs}
 use Rattle.position.specs.declared.Place.{Place}
 use Rattle.successors.specs.laws.NumberLaws.{told-legal, told-nothing}
 use Rattle.retracting.specs.Retracting.{LegalLeft, loneOf}
-use Rattle.working_back.specs.laws.Captures.{lone-in, lone-byte, lone-byte-not, lone-standing, lone-left, lone-tried, lone-other, lone-nothing, into-at}
+use Rattle.working_back.specs.laws.Captures.{lone-in, lone-standing, lone-left, lone-tried, lone-nothing, into-at}
 use Rattle.working_back.proofs.captures.try_lone.Statement.{statement}
 use Rattle.working_back.proofs.captures.try_lone.Tie as tie
-
-shared-slice-read-if1 : tie.Need-shared-slice-read-if1
-shared-slice-read-if1 c = search needs
-
-add-if1 : tie.Need-add-if1
-add-if1 c = search needs
-
-returns : tie.Need-returns
-returns c =
-    let s = c .before .before .before .before .before .before in
-    let x = s .args in
-    lone-other (x .m) (x .first .now) (x .second .now) (x .k) _ (s .pre .2) (s .pre .3) (x .taken) (s .pre .4) (x .j)
-    (lone-byte-not (x .m) (x .first .now) (x .second .now) (x .k) _ (s .pre .2) (s .pre .3) (x .taken) (s .pre .4) (x .j)
-    _ (s .pre .5) (s .pre .6) (c .if1 .taken))
 
 lone-men-requires : tie.Need-lone-men-requires
 lone-men-requires c κs = tt
 
 cast-legal-at : tie.Need-cast-legal-at
 cast-legal-at c =
-    let s = c .before .before .before .before .before .before .before in
+    let s = c .before .before .before .before in
     let x = s .args in
-    let h = lone-in (x .m) (x .first .now) (x .second .now) (x .k) _ (s .pre .2) (s .pre .3) (x .taken) (s .pre .4) (x .j)
-    _ (s .pre .5) (s .pre .6) in
+    let h = lone-in (x .m) (x .first .now) (x .second .now) (x .k) _ (s .pre .2) (s .pre .3) (x .taken) (s .pre .4) (x .j) _ refl (s .pre .5) in
     omega (arith, h)
 
 legal-at-requires : tie.Need-legal-at-requires
@@ -45,7 +30,7 @@ left-place-requires c κs = tt
 
 try-into-requires : tie.Need-try-into-requires
 try-into-requires c κs =
-    let s = c .before .before .before .before .before .before .before .before .before .before .before .before .before in
+    let s = c .before .before .before .before .before .before .before .before .before .before in
     let x = s .args in (
       s .pre .0,
       s .pre .1,
@@ -54,7 +39,7 @@ try-into-requires c κs =
           (lone-left (x .m) (x .first .now) (x .second .now) (x .k) _ (s .pre .2) (s .pre .3) (x .taken) (s .pre .4) (x .j) _
           (told-legal (loneOf (x .m) (x .taken)) (x .j) _ _ (c .before .before .before .standing .given .1)
           (lone-standing (x .m) (x .first .now) (x .second .now) (x .k) _ (s .pre .2) (s .pre .3) (x .taken) (s .pre .4) (x .j)
-          _ (s .pre .5) (s .pre .6) _ (c .before .before .before .before .before .legal-at .result) (c .before .before .before .before .before .before .lone-men .ensures) (c .before .before .before .before .before .legal-at .ensures)))),
+          _ refl (s .pre .5) _ (c .before .before .before .before .before .legal-at .result) (c .before .before .before .before .before .before .lone-men .ensures) (c .before .before .before .before .before .legal-at .ensures)))),
     )
 
 enum-told : tie.Need-enum-told
@@ -63,32 +48,28 @@ enum-told c = search needs
 same-length : tie.Need-same-length
 same-length c = search needs
 
-returns-2 : tie.Need-returns-2
-returns-2 c =
-    let s = c .before .before .before .before .before .before .before .before .before .before .before .before .before .before .before .before in
+returns : tie.Need-returns
+returns c =
+    let s = c .before .before .before .before .before .before .before .before .before .before .before .before .before in
     let x = s .args in
     lone-tried (x .m) (x .first .now) (x .second .now) (x .k) _ (s .pre .2) (s .pre .3) (x .taken) (s .pre .4) (x .j) _
     (told-legal (loneOf (x .m) (x .taken)) (x .j) _ _ (c .before .before .before .before .before .before .standing .given .1)
-    (lone-standing (x .m) (x .first .now) (x .second .now) (x .k) _ (s .pre .2) (s .pre .3) (x .taken) (s .pre .4) (x .j)
-    _ (s .pre .5) (s .pre .6) _ (c .before .before .before .before .before .before .before .before .legal-at .result) (c .before .before .before .before .before .before .before .before .before .lone-men .ensures) (c .before .before .before .before .before .before .before .before .legal-at .ensures)))
-    (lone-in (x .m) (x .first .now) (x .second .now) (x .k) _ (s .pre .2) (s .pre .3) (x .taken) (s .pre .4) (x .j)
-    _ (s .pre .5) (s .pre .6))
-    (lone-byte (x .m) (x .first .now) (x .second .now) (x .k) _ (s .pre .2) (s .pre .3) (x .taken) (s .pre .4) (x .j)
-    _ (s .pre .5) (s .pre .6) (c .before .before .before .before .before .before .before .before .before .before .if1 .left)) _ _
+    (lone-standing (x .m) (x .first .now) (x .second .now) (x .k) _ (s .pre .2) (s .pre .3) (x .taken) (s .pre .4) (x .j) _ refl (s .pre .5) _ (c .before .before .before .before .before .before .before .before .legal-at .result) (c .before .before .before .before .before .before .before .before .before .lone-men .ensures) (c .before .before .before .before .before .before .before .before .legal-at .ensures)))
+    (lone-in (x .m) (x .first .now) (x .second .now) (x .k) _ (s .pre .2) (s .pre .3) (x .taken) (s .pre .4) (x .j) _ refl (s .pre .5))
+    (s .pre .6) _ _
     (into-at (x .m) (x .first .now) (x .second .now) (x .k) _ _ _ _ _ (c .before .before .before .before .left-place .ensures)
     (c .before .before .try-into .ensures))
 
-returns-3 : tie.Need-returns-3
-returns-3 c =
-    let s = c .before .before .before .before .before .before .before .before .before .before in
+returns-2 : tie.Need-returns-2
+returns-2 c =
+    let s = c .before .before .before .before .before .before .before in
     let x = s .args in
     lone-nothing (x .m) (x .first .now) (x .second .now) (x .k) _ (s .pre .2) (s .pre .3) (x .taken) (s .pre .4) (x .j)
     (told-nothing (loneOf (x .m) (x .taken)) (x .j) _ (c .enum-told .given .1)
-    (lone-standing (x .m) (x .first .now) (x .second .now) (x .k) _ (s .pre .2) (s .pre .3) (x .taken) (s .pre .4) (x .j)
-    _ (s .pre .5) (s .pre .6) _ (c .before .before .legal-at .result) (c .before .before .before .lone-men .ensures) (c .before .before .legal-at .ensures)))
+    (lone-standing (x .m) (x .first .now) (x .second .now) (x .k) _ (s .pre .2) (s .pre .3) (x .taken) (s .pre .4) (x .j) _ refl (s .pre .5) _ (c .before .before .legal-at .result) (c .before .before .before .lone-men .ensures) (c .before .before .legal-at .ensures)))
 
 pub try-lone-spec : {M : Type 1} → statement M
 try-lone-spec =
     tie.close
-    (tie.spec shared-slice-read-if1 add-if1 returns lone-men-requires cast-legal-at legal-at-requires enum-known-standing
-    left-place-requires try-into-requires enum-told same-length returns-2 returns-3)
+    (tie.spec lone-men-requires cast-legal-at legal-at-requires enum-known-standing
+    left-place-requires try-into-requires enum-told same-length returns returns-2)

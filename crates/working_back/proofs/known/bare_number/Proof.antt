@@ -1,7 +1,7 @@
 -- `working_back::bare_number` meets its contract.
 use borrow.Author.Needs.{needs}
-use Rattle.working_back.proofs.bare.bare_number.Statement.{statement}
-use Rattle.working_back.proofs.bare.bare_number.Tie as tie
+use Rattle.working_back.proofs.known.bare_number.Statement.{statement}
+use Rattle.working_back.proofs.known.bare_number.Tie as tie
 
 number-at-requires : tie.Need-number-at-requires
 number-at-requires c κs = tt

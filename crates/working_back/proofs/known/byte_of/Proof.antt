@@ -1,8 +1,8 @@
 -- `working_back::byte_of` meets its contract.
 use borrow.Author.Needs.{needs}
 use Rattle.successors.specs.laws.ByteLaws.{read-beyond}
-use Rattle.working_back.proofs.bare.byte_of.Statement.{statement}
-use Rattle.working_back.proofs.bare.byte_of.Tie as tie
+use Rattle.working_back.proofs.known.byte_of.Statement.{statement}
+use Rattle.working_back.proofs.known.byte_of.Tie as tie
 
 returns : tie.Need-returns
 returns c = read-beyond (c .before .args .table .now) _ (c .if1 .taken)

@@ -1,0 +1,212 @@
+-- A piece's other move spares its side the loss: a byte that is not 0 stands at a legal number, so that the move is legal.
+use mathlib.Core.Path.{_≡_, refl, sym, ap, subst, subst⁻¹, _∙_}
+use mathlib.Core.Bool.{Bool, true, false, cond, not, _&&_}
+use mathlib.Core.Logic.{_⊎_, inl, inr}
+use mathlib.Core.List.{List}
+use Prim.Native.Nat.{ℕ, zero, suc, _+_, _-_, _<_}
+use native.Mathlib.Omega.{arith}
+use lib.Dec.{T, eqb}
+use lib.ListN.{length, getD}
+use borrow.Author.Tests.{eq-eqb, ne-eqb}
+use Rattle.finite.specs.Truth.{and-left, and-right, of-true, true-of, false-of, refuted}
+use Rattle.theory.specs.Required.{requiredAt}
+use Rattle.theory.specs.Judge.{refutes}
+use Rattle.board.specs.Reach.{reaches}
+use Rattle.board.specs.Sets.{has, setOf}
+use Rattle.board.specs.laws.SetLaws.{set-has}
+use Rattle.board.specs.laws.ReachLaws.{reaches-squares, reaches-same, king-reaches}
+use Rattle.symmetry.specs.laws.Opposite.{reaches-sym}
+use Rattle.rules.specs.Rules.{occupied, touching, legal, moved, canMove, carried}
+use Rattle.rules.specs.Chess.{chess}
+use Rattle.rules.specs.laws.Legal.{legal-facts}
+use Rattle.rules.specs.laws.CanMove.{can-on}
+use Rattle.table_theory.specs.Tables.{settles}
+use Rattle.numbering.specs.Keys.{boardAt}
+use Rattle.numbering.specs.Number.{numberOf, used}
+use Rattle.numbering.specs.Material.{menOf}
+use Rattle.numbering.specs.declared.Material.{Material}
+use Rattle.numbering.specs.laws.AtLaws.{image-at}
+use Rattle.position.specs.declared.Men.{Men}
+use Rattle.position.specs.declared.Place.{Place}
+use Rattle.position.specs.Keyed.{boardOf}
+use Rattle.position.specs.Posed.{posed, boardIn, materialFor, Complete}
+use Rattle.index.specs.Seats.{Seated}
+use Rattle.index.specs.laws.CompleteLaws.{complete-has, complete-seated}
+use Rattle.movegen.specs.Places.{placeAfter}
+use Rattle.four_men.specs.Reading.{legalNumberOf, numbered}
+use Rattle.four_men.specs.laws.Numbered.{live-is, legal-by}
+use Rattle.four_men.specs.laws.Materials.{own-material}
+use Rattle.successors.specs.Successors.{bytesIn}
+use Rattle.successors.specs.laws.PlaceVerdicts.{plain}
+use Rattle.successors.specs.laws.ByteLaws.{all-there, byte-own, byte-moved}
+use Rattle.successors.specs.laws.VerdictLaws.{depth-refuted}
+use Rattle.retracting.specs.Retracting.{Leads, LegalLeft, Seat, putAgain, placeBefore}
+use Rattle.retracting.specs.laws.Back.{Free, there-and-back, free-after, occupied-else, reaches-again}
+use Rattle.retracting.specs.laws.Placing.{complete-before}
+use Rattle.retracting.specs.laws.Sources.{free-of, seat-free, seat-before, side-before, all-left, leads-back, moves-on}
+use Rattle.working_back.specs.Admitted.{over, Admitted}
+use Rattle.working_back.specs.Trying.{Midway, Alive}
+use Rattle.working_back.specs.Back.{TriesPlace}
+use Rattle.working_back.specs.Spared.{Quietly, Spared}
+use Rattle.working_back.specs.laws.Trying.{held-one}
+use Rattle.working_back.specs.laws.Places.{tried-kept}
+
+module _ (m : Men) (o : Place) (kind s t : ℕ) (c : Complete m o) (l : T (legal (boardIn m o))) (seat : Seat m o kind (o .side) s)
+    (w : Quietly m o kind s t) where
+  abbrev a : Place
+  a = placeAfter o s t
+
+  squares : (s < 64) × (t < 64)
+  squares = reaches-squares (occupied (boardIn m o)) kind s t (w .reached)
+
+  f : Free o t
+  f = free-of m o t (squares .1) (w .free)
+
+  differ : s ≡ t → ⊥
+  differ = seat-free m o kind (o .side) s t seat f
+
+  here : LegalLeft m o 0
+  here = all-left m o c l
+
+  far : reaches (has 0) 5 (o .white) (o .black) ≡ false
+  far = (unfold touching boardOf posed in king-reaches (has 0) (λ s. false) (o .white) (o .black) ∙ legal-facts (boardIn m o) l .kings)
+
+  -- the kings do not touch then
+  kings-apart : reaches (has 0) 5 (a .white) (a .black) ≡ false
+  unfolding placeAfter
+  kings-apart = by kind (o .side) s refl seat (w .apart)
+    where
+      by : (kind side s : ℕ) → side ≡ o .side → Seat m o kind side s
+          → (kind ≡ 5 → reaches (has 0) 5 (cond (eqb (o .side) 0) (o .black) (o .white)) t ≡ false)
+          → reaches (has 0) 5 (carried s t (o .white)) (carried s t (o .black)) ≡ false
+      by kind side s e Seat.white n =
+          rw (eq-eqb (o .white) (o .white) refl, ne-eqb (o .black) (o .white) (λ z. here .white-black (sym z)))
+          (reaches-sym (has 0) 5 t (o .black) ∙ subst (λ (x : ℕ). reaches (has 0) 5 (cond (eqb x 0) (o .black) (o .white)) t ≡ false) (sym e) (n refl))
+      by kind side s e Seat.black n =
+          rw (eq-eqb (o .black) (o .black) refl, ne-eqb (o .white) (o .black) (here .white-black))
+          (subst (λ (x : ℕ). reaches (has 0) 5 (cond (eqb x 0) (o .black) (o .white)) t ≡ false) (sym e) (n refl))
+      by kind side s e Seat.first n = rw (ne-eqb (o .white) (o .first) (here .white-first), ne-eqb (o .black) (o .first) (here .black-first)) far
+      by kind side s e Seat.second n = rw (ne-eqb (o .white) (o .second) (here .white-second), ne-eqb (o .black) (o .second) (here .black-second)) far
+
+  pub whole : Complete m a
+  unfolding putAgain
+  whole =
+      complete-before s t (squares .0) (squares .1) differ m o 0 here f
+      (unfold touching boardOf posed in king-reaches (λ s. false) (has 0) (a .white) (a .black) ∙ kings-apart)
+
+  abbrev M : Material
+  M = materialFor m
+
+  -- a live number's boards are legal
+  number-legal : T (legalNumberOf M (numberOf (boardIn m a))) → T (legal (boardIn m a))
+  number-legal live =
+      let n = numberOf (boardIn m a) in
+      let i = image-at (own-material M (c .ending)) (boardIn m a) (complete-has m a whole) in
+      subst T (ap legal (i .1) ∙ legal-by (i .0) (boardIn m a))
+      (and-right (used (boardAt (menOf M) n)) (legal (boardAt (menOf M) n)) (subst T (live-is M (c .ending) n) live))
+
+  module _ (live : T (legalNumberOf M (numberOf (boardIn m a)))) where
+    side-of : o .side ≡ 1 - a .side
+    unfolding placeAfter
+    side-of = let h = here .side in omega arith
+
+    back : placeBefore a 0 s t ≡ o
+    unfolding putAgain
+    back = there-and-back o s t f differ (here .side)
+
+    can : T (canMove (boardIn m o) s t)
+    can =
+        subst (λ (p : Place). T (canMove (boardIn m p) s t)) back
+        (leads-back m a 0 (all-left m a whole (number-legal live)) kind (o .side) s t
+        (unfold putAgain in seat-before m o 0 kind (o .side) s t (here .missing) differ (squares .0) seat)
+        side-of (λ n. absurd (n refl))
+        (reaches-again (occupied (boardIn m o)) (occupied (boardIn m a)) kind s t (λ u h x y. occupied-else m o s t u h x y) (w .reached))
+        (free-after o s t (squares .0) differ)
+        (subst⁻¹ (Complete m) back c) (subst⁻¹ (λ (p : Place). T (legal (boardIn m p))) back l) .can)
+
+    pub unrequired : (first second u : List ℕ) (k : ℕ) → (k ≡ 0 → ⊥) → refutes (2 + k) (getD u (numberOf (boardIn m a)) 0) ≡ true
+        → eqb (requiredAt chess (bytesIn m first second u) (boardIn m o)) (2 + k) ≡ false
+    unrequired first second u k some e =
+        sym (depth-refuted (bytesIn m first second u) (boardIn m o) (plain m o c) k some
+        (s, t, can, of-true (ap (refutes (2 + k)) (sym byte) ∙ e)))
+      where
+        byte : getD u (numberOf (boardIn m a)) 0 ≡ bytesIn m first second u (moved (boardIn m o) s t)
+        byte = byte-moved m o c first second u s t _ a can refl (λ r. byte-own m a r first second u (all-there m a whole) _ _ refl refl)
+
+-- ---- as code has it
+
+-- the squares gathered
+pub quiet-reached : (m : Men) (o : Place) (kind s occ reach free : ℕ) → occ ≡ setOf (occupied (boardIn m o)) → reach ≡ setOf (reaches (has occ) kind s)
+    → free ≡ setOf (λ (u : ℕ). has reach u && not (has occ u)) → (t : ℕ) → t < 64 → T (has free t)
+    → T (reaches (occupied (boardIn m o)) kind s t) × (occupied (boardIn m o) t ≡ false)
+quiet-reached m o kind s occ reach free eo er ef t h g =
+    let x = subst T (set-has _ ef t h) g in (
+      subst T (set-has _ er t h ∙ reaches-same (has occ) (occupied (boardIn m o)) (set-has _ eo) kind s t) (and-left (has reach t) (not (has occ t)) x),
+      sym (set-has _ eo t h) ∙ false-of (and-right (has reach t) (not (has occ t)) x),
+    )
+
+-- a man's
+pub quiet-man : (m : Men) (o : Place) (kind s t : ℕ) → (kind ≡ 5 → ⊥) → T (reaches (occupied (boardIn m o)) kind s t) × (occupied (boardIn m o) t ≡ false)
+    → Quietly m o kind s t
+quiet-man m o kind s t n w = record { reached = w .0; free = w .1; apart = λ e. absurd (n e) }
+
+-- a king's
+pub quiet-king : (m : Men) (o : Place) (kind s foe near free r t : ℕ) → o .side < 2 → (side : ℕ) → side ≡ 1 - o .side
+    → foe ≡ cond (eqb side 0) (o .white) (o .black) → near ≡ setOf (reaches (has 0) 5 foe) → r ≡ setOf (λ (u : ℕ). has free u && not (has near u))
+    → (T (has free t) → T (reaches (occupied (boardIn m o)) kind s t) × (occupied (boardIn m o) t ≡ false)) → t < 64 → T (has r t)
+    → Quietly m o kind s t
+quiet-king m o kind s foe near free r t hs side e f n er w h g =
+    let x = subst T (set-has _ er t h) g in
+    let y = w (and-left (has free t) (not (has near t)) x) in
+    record {
+      reached = y .0;
+      free = y .1;
+      apart = λ k.
+          ap (λ (z : ℕ). reaches (has 0) 5 z t) (sym (f ∙ by (o .side) side hs e)) ∙ sym (set-has _ n t h)
+          ∙ false-of (and-right (has free t) (not (has near t)) x);
+    }
+  where
+    by : (s side : ℕ) → s < 2 → side ≡ 1 - s → cond (eqb side 0) (o .white) (o .black) ≡ cond (eqb s 0) (o .black) (o .white)
+    by zero side h e = ap (λ (z : ℕ). cond (eqb z 0) (o .white) (o .black)) e
+    by (suc zero) side h e = ap (λ (z : ℕ). cond (eqb z 0) (o .white) (o .black)) e
+    by (suc (suc s)) side h e = absurd (omega arith)
+
+-- the byte read at the number made, and what the test tells
+pub spares : (m : Men) (k : ℕ) (o : Place) (kind s t : ℕ) (u : List ℕ) → Complete m o → T (legal (boardIn m o)) → Seat m o kind (o .side) s
+    → Quietly m o kind s t → (n c : ℕ) (r : Bool) → (Seated m (placeAfter o s t) → n ≡ numberOf (boardIn m (placeAfter o s t))) → c ≡ getD u n 0
+    → r ≡ refutes (2 + k) c → (not (eqb c 0) && r) ≡ true → Spared m k o kind s u
+spares m k o kind s t u w l seat v n c r hn hc hr e =
+    let z = hc ∙ ap (λ (i : ℕ). getD u i 0) (hn (complete-seated m (placeAfter o s t) (whole m o kind s t w l seat v))) in
+    let x = of-true e in
+    record {
+      target = t;
+      quietly = v;
+      some = λ y. refuted (ap not (eq-eqb c 0 (z ∙ y))) (and-left (not (eqb c 0)) r x);
+      refuting = ap (refutes (2 + k)) (sym z) ∙ sym hr ∙ true-of (and-right (not (eqb c 0)) r x);
+    }
+
+-- a byte that is not 0, while the pass goes on
+alive-midway : (m : Men) (first second : List ℕ) (k : ℕ) (t u : List ℕ) → Midway chess (over m first second) k t u
+    → Alive chess (over m first second) t → (n : ℕ) → (getD u n 0 ≡ 0 → ⊥) → T (legalNumberOf (materialFor m) n)
+unfolding numbered
+alive-midway m first second k t u w a n d = go (w .byte n)
+  where
+    go : (getD u n 0 ≡ getD t n 0) ⊎ (T (settles chess (over m first second) k t n) × (getD u n 0 ≡ 2 + k)) → T (legalNumberOf (materialFor m) n)
+    go (inl e) = a n (λ z. d (e ∙ z))
+    go (inr e) = a n (λ z. let y = held-one chess (over m first second) k t n (e .0) in omega (arith, y, z))
+
+-- the piece on `to` put back
+pub seat-then : (m : Men) (q : Place) (taken kind s to : ℕ) → LegalLeft m q taken → Leads m (placeBefore q taken s to) s to q
+    → Seat m q kind (1 - q .side) to → Seat m (placeBefore q taken s to) kind (placeBefore q taken s to .side) s
+seat-then m q taken kind s to g l seat =
+    subst⁻¹ (λ (c : ℕ). Seat m (placeBefore q taken s to) kind c s) (side-before q taken s to)
+    (seat-before m q taken kind (1 - q .side) to s (g .missing) (λ e. moves-on m q (placeBefore q taken s to) s to taken g l (sym e))
+    (can-on (boardIn m (placeBefore q taken s to)) s to (l .can) .1) seat)
+
+pub tried-spared : (m : Men) (o q : Place) (from to : ℕ) (l : Leads m o from to q) (first second : List ℕ) (k : ℕ) (u : List ℕ)
+    (a : Admitted m first second u) (n : ℕ) → n ≡ numberOf (boardIn m o) → n < length u → getD u n 0 ≡ 1 → 0 < k → (kind : ℕ)
+    → Seat m o kind (o .side) from → Spared m k o kind from u → TriesPlace m first second k q o u u 0
+tried-spared m o q from to l first second k u a n z h e some kind seat x =
+    tried-kept m o q from to l first second k u a n z h e
+    (λ t w r. unrequired m o kind from (x .target) (l .complete) (l .legality) seat (x .quietly)
+    (alive-midway m first second k t u w (r .ready .alive) _ (x .some)) first second u k (λ e. omega (arith, some, e)) (x .refuting))
