@@ -1,7 +1,7 @@
 // The pairs of kings packed in words.
 ghost use mathlib.Core.Path.{_≡_};
 ghost use lib.ListN.{getD};
-ghost use Rattle.constants.specs.Packed.{fourPairs, eightBlacks};
+ghost use Rattle.packed_pairs.specs.Packed.{fourPairs, eightBlacks};
 
 // Four entries of the list of pairs.
 pub fn four_pairs(i: u16) -> u64

@@ -2,10 +2,10 @@
 use mathlib.Core.Path.{sym}
 use lib.ListN.{List·getD-eq-default}
 use borrow.Author.Needs.{needs}
 use Rattle.constants.specs.laws.MatchLaws.{past}
-use Rattle.constants.specs.Packed.{fourPairs}
-use Rattle.constants.proofs.packed.four_pairs.Statement.{statement}
-use Rattle.constants.proofs.packed.four_pairs.Tie as tie
+use Rattle.packed_pairs.specs.Packed.{fourPairs}
+use Rattle.packed_pairs.proofs.four_pairs.Statement.{statement}
+use Rattle.packed_pairs.proofs.four_pairs.Tie as tie
 
 past-end : tie.Need-returns-161
 past-end c = sym (List·getD-eq-default fourPairs 0 (past 160 (c .before .args .i) (c .match .rest)))

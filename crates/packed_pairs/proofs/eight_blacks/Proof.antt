@@ -2,10 +2,10 @@
 use mathlib.Core.Path.{sym}
 use lib.ListN.{List·getD-eq-default}
 use borrow.Author.Needs.{needs}
 use Rattle.constants.specs.laws.MatchLaws.{past}
-use Rattle.constants.specs.Packed.{eightBlacks}
-use Rattle.constants.proofs.packed.eight_blacks.Statement.{statement}
-use Rattle.constants.proofs.packed.eight_blacks.Tie as tie
+use Rattle.packed_pairs.specs.Packed.{eightBlacks}
+use Rattle.packed_pairs.proofs.eight_blacks.Statement.{statement}
+use Rattle.packed_pairs.proofs.eight_blacks.Tie as tie
 
 past-end : tie.Need-returns-59
 past-end c = sym (List·getD-eq-default eightBlacks 0 (past 58 (c .before .args .i) (c .match .rest)))
