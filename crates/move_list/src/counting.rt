@@ -2,7 +2,7 @@
 use super::promoting::OUTER_RANKS;
 use super::promoting::is_pawn;
 use board::size;
-use movegen::Movers;
+use position_moves::Movers;
 use position::Position;
 use position::Slot;
 ghost use mathlib.Core.Path.{_≡_};
@@ -11,7 +11,7 @@ ghost use lib.ListN.{length};
 ghost use Rattle.rules.specs.Rules.{allMoves};
 ghost use Rattle.position.specs.Keyed.{boardOf};
 ghost use Rattle.position.specs.Refusals.{placingWith};
-ghost use Rattle.movegen.specs.InPosition.{MoversOf};
+ghost use Rattle.position_moves.specs.InPosition.{MoversOf};
 ghost use Rattle.move_list.specs.Lists.{room};
 ghost use Rattle.move_list.specs.Counting.{manCount};
 

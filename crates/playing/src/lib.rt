@@ -3,7 +3,7 @@ mod promoting;
 
 use board::has;
 use move_list::promoting_set;
-use movegen::legal_targets;
+use position_moves::legal_targets;
 use position::Position;
 use position::Slot;
 use position::standing_with;

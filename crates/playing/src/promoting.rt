@@ -1,5 +1,5 @@
 // A move made that may name what its pawn becomes.
-use movegen::make;
+use position_moves::make;
 use position::Position;
 use position::Slot;
 use rules::Piece;

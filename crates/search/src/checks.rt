@@ -1,7 +1,7 @@
 // Moves that may give check: for the last ply only these are tried, since mate is check. No pawn is on the board.
 use board::targets;
 use board::without;
-use movegen::legal_targets;
+use position_moves::legal_targets;
 use position::Position;
 use position::Slot;
 use position::attacked_over;

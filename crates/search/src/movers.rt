@@ -1,7 +1,7 @@
 // The squares where moves start, and whether there is a move.
 use board::lowest;
 use board::without;
-use movegen::legal_targets;
+use position_moves::legal_targets;
 use position::Position;
 use position::Slot;
 use position::own;

@@ -1,7 +1,7 @@
 // The move list, written to lent bytes.
 use super::move_bytes::write_moves;
 use filling::clear;
-use movegen::movers_of;
+use position_moves::movers_of;
 use position::OTHER_IN_CHECK;
 use position::placing_with;
 use words::position_read;
