@@ -1,5 +1,5 @@
 // The move list, written to lent bytes.
-use super::move_bytes::write_moves;
+use move_bytes::write_moves;
 use filling::clear;
 use position_moves::movers_of;
 use position::OTHER_IN_CHECK;

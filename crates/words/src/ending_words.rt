@@ -1,8 +1,8 @@
 // An ending as one word, and the ending of two men.
-use super::flag;
 use super::men::man_read;
 use index::is_given;
 use index::size_of;
+use move_bytes::flag;
 use numbering::Material;
 use position::Slot;
 use rules::Piece;

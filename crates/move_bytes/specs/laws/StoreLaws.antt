@@ -2,7 +2,7 @@
 use mathlib.Core.Path.{_≡_, refl, sym, ap, _∙_}
 use mathlib.Core.Bool.{Bool, true, false}
 use mathlib.Core.List.{List, [], _∷_, _++_, map, flatMap}
-use Prim.Native.Nat.{ℕ, zero, suc, _+_, _*_, _^_, _≤_, _<_}
+use Prim.Native.Nat.{ℕ, suc, _+_, _*_, _≤_}
 use native.Mathlib.Omega.{arith}
 use lib.ListN.{length, set, length-append}
 use lib.Seq.{sets, length-sets}
@@ -15,9 +15,13 @@ use Rattle.move_list.specs.ListLaws.{targetsMoves}
 use Rattle.move_list.specs.laws.ListLaws.{sets-append}
 use Rattle.move_list.specs.laws.TargetLaws.{targets-next}
 use Rattle.move_list.specs.laws.TurnLaws.{turn-moves}
-use Rattle.sledgewren.specs.Words.{moveBytes, listSize}
-use Rattle.sledgewren.specs.Stored.{Stored}
-use Rattle.sledgewren.specs.laws.Laws.{moves-length}
+use Rattle.move_bytes.specs.MoveBytes.{moveBytes, listSize}
+use Rattle.move_bytes.specs.Stored.{Stored}
+
+pub moves-length : (ms : List Move) → length (flatMap moveBytes ms) ≡ 4 * length ms
+unfolding flatMap
+moves-length [] = refl
+moves-length (m ∷ ms) = let r = moves-length ms in omega arith
 
 -- four bytes, one by one; x is whether the move takes
 pub four-bytes : (l : List ℕ) (i a b c d x : ℕ) → x ≡ c

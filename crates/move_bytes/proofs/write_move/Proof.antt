@@ -1,10 +1,10 @@
--- `sledgewren::write_move` meets its contract.
+-- `move_bytes::write_move` meets its contract.
 use native.Mathlib.Omega.{arith}
 use lib.ListN.{length-set}
-use Rattle.sledgewren.specs.laws.StoreLaws.{four-bytes}
+use Rattle.move_bytes.specs.laws.StoreLaws.{four-bytes}
 use borrow.Author.Needs.{needs}
-use Rattle.sledgewren.proofs.move_bytes.write_move.Statement.{statement}
-use Rattle.sledgewren.proofs.move_bytes.write_move.Tie as tie
+use Rattle.move_bytes.proofs.write_move.Statement.{statement}
+use Rattle.move_bytes.proofs.write_move.Tie as tie
 
 mul-bytes : tie.Need-mul-bytes
 mul-bytes c = search needs

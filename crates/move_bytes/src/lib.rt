@@ -7,7 +7,6 @@ use position_moves::Movers;
 use position_moves::taking_set;
 use position_moves::targets_from;
 use position::Position;
-use words::flag;
 ghost use mathlib.Core.Path.{_≡_};
 ghost use mathlib.Core.List.{[], _∷_, map, flatMap};
 ghost use Prim.Native.Nat.{_+_, _*_, _≤_, _<_};
@@ -19,8 +18,15 @@ ghost use Rattle.position.specs.Keyed.{boardOf};
 ghost use Rattle.position_moves.specs.InPosition.{MoversOf};
 ghost use Rattle.move_list.specs.Lists.{room};
 ghost use Rattle.move_list.specs.ListLaws.{targetsMoves};
-ghost use Rattle.sledgewren.specs.Words.{moveBytes, listSize};
-ghost use Rattle.sledgewren.specs.Stored.{Stored};
+ghost use Rattle.move_bytes.specs.MoveBytes.{flagOf, moveBytes, listSize};
+ghost use Rattle.move_bytes.specs.Stored.{Stored};
+
+// Whether a move takes: 1 for yes, 0 for no.
+pub fn flag(takes: bool) -> u8
+    ensures { λ r. ⌜ (r ≡ flagOf takes) × (r < 2) ⌝ }
+{
+    if takes { 1 } else { 0 }
+}
 
 // A move's from-square, to-square, whether it takes, and what a pawn becomes, at its place.
 fn write_move(from: u8, to: u8, takes: bool, becomes: u8, at: usize, bytes: &mut [u8])

@@ -1,4 +1,4 @@
--- `sledgewren::write_moves` meets its contract: what is stored, with the moves of the rest behind it, is the moves of all.
+-- `move_bytes::write_moves` meets its contract: what is stored, with the moves of the rest behind it, is the moves of all.
 use mathlib.Core.Bool.{not, _&&_}
 use mathlib.Core.List.{flatMap}
 use mathlib.Core.Path.{_≡_, refl, sym, _∙_, subst⁻¹}
@@ -13,9 +13,9 @@ use Rattle.rules.specs.Rules.{movesFrom, allMoves}
 use Rattle.position.specs.Keyed.{boardOf}
 use Rattle.move_list.specs.laws.Served.{few-moves}
 use Rattle.move_list.specs.laws.TurnLaws.{by-movers, movers-end}
-use Rattle.sledgewren.specs.laws.StoreLaws.{Left, left-all, left-end, mover-room, mover-next}
-use Rattle.sledgewren.proofs.move_bytes.write_moves.Statement.{statement}
-use Rattle.sledgewren.proofs.move_bytes.write_moves.Tie as tie
+use Rattle.move_bytes.specs.laws.StoreLaws.{Left, left-all, left-end, mover-room, mover-next}
+use Rattle.move_bytes.proofs.write_moves.Statement.{statement}
+use Rattle.move_bytes.proofs.write_moves.Tie as tie
 
 abbrev Inv-loop : tie.InvT-loop
 Inv-loop p all bytes₀ foes count₀ rest₀ bytes count rest =

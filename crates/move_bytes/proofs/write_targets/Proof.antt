@@ -1,4 +1,4 @@
--- `sledgewren::write_targets` meets its contract: what is stored, with the rest stored behind it, is what is to be stored.
+-- `move_bytes::write_targets` meets its contract: what is stored, with the rest stored behind it, is what is to be stored.
 use mathlib.Core.Path.{refl, sym, _∙_}
 use Prim.Native.Nat.{_+_, _^_, _≤_, _<_}
 use native.Mathlib.Omega.{arith}
@@ -8,9 +8,9 @@ use Rattle.board.specs.laws.LowestLaws.{Lowest, lowest-of}
 use Rattle.move_list.specs.Lists.{room}
 use Rattle.move_list.specs.ListLaws.{targetsMoves}
 use Rattle.move_list.specs.laws.TargetLaws.{targets-end}
-use Rattle.sledgewren.specs.laws.StoreLaws.{Left, left-all, left-end, promotes-room, promotes-next, plain-room, plain-next}
-use Rattle.sledgewren.proofs.move_bytes.write_targets.Statement.{statement}
-use Rattle.sledgewren.proofs.move_bytes.write_targets.Tie as tie
+use Rattle.move_bytes.specs.laws.StoreLaws.{Left, left-all, left-end, promotes-room, promotes-next, plain-room, plain-next}
+use Rattle.move_bytes.proofs.write_targets.Statement.{statement}
+use Rattle.move_bytes.proofs.write_targets.Tie as tie
 
 abbrev Inv-loop : tie.InvT-loop
 Inv-loop foes ends from targets first bytes₀ at₀ rest₀ bytes at rest =

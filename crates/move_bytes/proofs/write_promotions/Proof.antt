@@ -1,8 +1,8 @@
--- `sledgewren::write_promotions` meets its contract.
-use Rattle.sledgewren.specs.laws.StoreLaws.{four-moves}
+-- `move_bytes::write_promotions` meets its contract.
+use Rattle.move_bytes.specs.laws.StoreLaws.{four-moves}
 use borrow.Author.Needs.{needs}
-use Rattle.sledgewren.proofs.move_bytes.write_promotions.Statement.{statement}
-use Rattle.sledgewren.proofs.move_bytes.write_promotions.Tie as tie
+use Rattle.move_bytes.proofs.write_promotions.Statement.{statement}
+use Rattle.move_bytes.proofs.write_promotions.Tie as tie
 
 write-move-requires : tie.Need-write-move-requires
 write-move-requires c κs = search needs
