@@ -2,9 +2,9 @@
 use super::promoting::OUTER_RANKS;
 use super::promoting::is_pawn;
 use board::size;
-use position_moves::Movers;
 use position::Position;
 use position::Slot;
+use position_moves::Movers;
 ghost use mathlib.Core.Path.{_≡_};
 ghost use Prim.Native.Nat.{_≤_};
 ghost use lib.ListN.{length};

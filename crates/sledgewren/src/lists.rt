@@ -1,9 +1,9 @@
 // The move list, written to lent bytes.
-use move_bytes::write_moves;
 use filling::clear;
-use position_moves::movers_of;
+use move_bytes::write_moves;
 use position::OTHER_IN_CHECK;
 use position::placing_with;
+use position_moves::movers_of;
 use words::position_read;
 ghost use Rattle.words.specs.Men.{positionRead};
 ghost use Rattle.sledgewren.specs.Words.{WroteList, listingOf};
