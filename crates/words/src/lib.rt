@@ -1,6 +1,4 @@
-// The word of each answer, and the words that a position and an ending are given in (include/sledgewren.h).
-mod ending_words;
-mod men;
+// The word of each answer (include/sledgewren.h).
 mod played;
 mod version;
 
@@ -8,13 +6,9 @@ use answers::Answer;
 use answers::BestMove;
 use answers::Checked;
 use answers::Filled;
-pub use ending_words::ending_of;
-pub use ending_words::material_read;
-pub use ending_words::table_bytes;
 use fifty::Marked;
 use index::NumberAnswer;
 use index::Placed;
-pub use men::position_read;
 use move_bytes::flag;
 use move_list::Counted;
 pub use played::played_word;
