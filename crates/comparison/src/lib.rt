@@ -1,12 +1,12 @@
 // A fill for comparison alone, as C calls it: every position is tried at every depth. The library has quicker ones with
 // the same promise.
 use filling::fill_every;
+use given_words::material_read;
 use words::filled_word;
-use words::material_read;
 ghost use mathlib.Core.Path.{_≡_};
 ghost use Rattle.four_men.specs.Lending.{lent};
 ghost use Rattle.four_men.specs.Answers.{fillWith};
-ghost use Rattle.words.specs.Endings.{materialRead};
+ghost use Rattle.given_words.specs.Endings.{materialRead};
 ghost use Rattle.words.specs.Words.{filledWord};
 
 // Refusals 1, 7 and 17 leave the table as it was, 10 all zero.

@@ -1,3 +1,2 @@
 pub mod EmptyBoard
-pub mod Packed
 pub mod laws

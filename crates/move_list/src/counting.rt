@@ -2,16 +2,16 @@
 use super::promoting::OUTER_RANKS;
 use super::promoting::is_pawn;
 use board::size;
-use movegen::Movers;
 use position::Position;
 use position::Slot;
+use position_moves::Movers;
 ghost use mathlib.Core.Path.{_≡_};
 ghost use Prim.Native.Nat.{_≤_};
 ghost use lib.ListN.{length};
 ghost use Rattle.rules.specs.Rules.{allMoves};
 ghost use Rattle.position.specs.Keyed.{boardOf};
 ghost use Rattle.position.specs.Refusals.{placingWith};
-ghost use Rattle.movegen.specs.InPosition.{MoversOf};
+ghost use Rattle.position_moves.specs.InPosition.{MoversOf};
 ghost use Rattle.move_list.specs.Lists.{room};
 ghost use Rattle.move_list.specs.Counting.{manCount};
 

@@ -1,5 +1,4 @@
 pub mod After
 pub mod Places
 pub mod Reach
-pub mod InPosition
 pub mod laws

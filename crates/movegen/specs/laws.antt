@@ -8,6 +8,3 @@ pub mod Struck
 pub mod Reach
 pub mod Opening
 pub mod Movers
-pub mod OneThere
-pub mod Unpinned
-pub mod InPosition

@@ -1,21 +1,14 @@
-// Moves of a position: a move made, the legal targets of a piece, and where a move takes.
-mod in_position;
-mod making;
+// Moves on an ending's place: where a piece stands after one, and the legal targets of the side to move's pieces.
 mod places;
 mod reaching;
-mod targets;
 
-pub use in_position::movers_of;
-pub use in_position::targets_from;
-pub use making::make;
+pub use places::carried;
 pub use places::checked;
 pub use places::king_at;
 pub use places::occupied_at;
 pub use places::place_after;
 pub use places::square_after;
 pub use reaching::reach_of;
-pub use targets::legal_targets;
-pub use targets::taking_set;
 
 // The legal targets of the side to move's king, and of an ending's men: none for a man of the other side, or one not
 // there.
@@ -23,14 +16,4 @@ pub struct Reach {
     pub king: u64,
     pub first: u64,
     pub second: u64,
-}
-
-// The squares of the side to move's pieces, the legal targets of its king and of each man (none for a man of the other
-// side, or one not there), and whether it attacks the other king.
-pub struct Movers {
-    pub own: u64,
-    pub king: u64,
-    pub first: u64,
-    pub second: u64,
-    pub check: bool,
 }

@@ -1,5 +1,4 @@
 // An ending's men on a place, with no position made: what stands where, who attacks, and the place after a move.
-use super::making::carried;
 use board::attacks;
 use board::one;
 use board::targets;
@@ -11,7 +10,7 @@ ghost use mathlib.Core.Bool.{cond, false};
 ghost use Prim.Native.Nat.{ℕ, _<_};
 ghost use lib.Dec.{eqb};
 ghost use Rattle.board.specs.Sets.{has, setOf};
-ghost use Rattle.rules.specs.Rules.{pieceOf, occupied, stands, touching, inCheck};
+ghost use Rattle.rules.specs.Rules.{pieceOf, carried as carriedTo, occupied, stands, touching, inCheck};
 ghost use Rattle.position.specs.Posed.{boardIn, Complete};
 ghost use Rattle.position.specs.Spread.{Pawnless};
 ghost use Rattle.movegen.specs.Places.{pieceStrikes, menStrike, squareAfter, placeAfter};
@@ -111,6 +110,13 @@ pub fn checked(m: Men, q: Place, side: u8) -> bool
     ensures { λ r. ⌜ (Complete m q → r ≡ inCheck (boardIn m q) side) ⌝ }
 {
     men_check(m, q, side)
+}
+
+// Where a piece on s stands after a move.
+pub fn carried(from: u8, to: u8, s: u8) -> u8
+    ensures { λ r. ⌜ r ≡ carriedTo from to s ⌝ }
+{
+    if s == from { to } else { s }
 }
 
 // Where a man on s stands after a move: off the board if he is taken.

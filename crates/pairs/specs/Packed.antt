@@ -1,7 +1,7 @@
 -- An entry of the packed pairs. Definitions only.
 use Prim.Native.Nat.{ℕ, _*_, _/_, _%_, _^_}
 use lib.ListN.{getD}
-use Rattle.constants.specs.Packed.{fourPairs, eightBlacks}
+use Rattle.packed_pairs.specs.Packed.{fourPairs, eightBlacks}
 
 -- one of them
 abbrev pub entryOf : ℕ → ℕ

@@ -1,5 +1,5 @@
 // The kings of a pair.
-use constants::eight_blacks;
+use packed_pairs::eight_blacks;
 ghost use mathlib.Core.Path.{_≡_};
 ghost use Rattle.numbering.specs.Kings.{kingsOf};
 ghost use Rattle.pairs.specs.Tables.{rowOf};

@@ -1,6 +1,6 @@
 // The pair of two kings' squares, by a constant list and by the same list packed.
 use super::PairList;
-use constants::four_pairs;
+use packed_pairs::four_pairs;
 ghost use mathlib.Core.Path.{_≡_};
 ghost use Prim.Native.Nat.{_/_, _%_, _<_};
 ghost use lib.Dec.{T};

@@ -3,10 +3,10 @@ mod promoting;
 
 use board::has;
 use move_list::promoting_set;
-use movegen::legal_targets;
 use position::Position;
 use position::Slot;
 use position::standing_with;
+use position_moves::legal_targets;
 use promoting::is_named;
 use promoting::make_as;
 ghost use mathlib.Core.Path.{_≡_};

@@ -1,7 +1,7 @@
 // A move made that may name what its pawn becomes.
-use movegen::make;
 use position::Position;
 use position::Slot;
+use position_moves::make;
 use rules::Piece;
 ghost use mathlib.Core.Path.{_≡_};
 ghost use mathlib.Core.Bool.{cond, _&&_};

@@ -17,7 +17,7 @@ use Rattle.symmetry.specs.Symmetry.{Symmetry, mapped, inverse}
 use Rattle.rules.specs.declared.Move.{Move}
 use Rattle.rules.specs.Rules.{Board, empty, inCheck, knownOrPawn, legal, legalWithPawn, moved, canMove, taking, moveOf, moveOn, promotionOf, promotes, movesTo, allMoves, playedAs, moves, mated}
 use Rattle.rules.specs.laws.MoveLists.{ListedMove, in-allMoves, in-allMoves-to, of-allMoves, none-promotes}
-use Rattle.rules.specs.laws.Legal.{legalOf-facts, legal-facts, legal-pawnless, legal-with-pawn}
+use Rattle.rules.specs.laws.Legal.{legalOf-facts, legal-pawnless, legal-with-pawn}
 use Rattle.rules.specs.laws.CanMove.{can-on}
 use Rattle.rules.specs.laws.Closed.{closed}
 use Rattle.rules.specs.laws.Promotion.{closed-pawn, played-side}

@@ -1,13 +1,13 @@
 // Moves that may give check: for the last ply only these are tried, since mate is check. No pawn is on the board.
 use board::targets;
 use board::without;
-use movegen::legal_targets;
 use position::Position;
 use position::Slot;
 use position::attacked_over;
 use position::king_square;
 use position::occupied;
 use position::other;
+use position_moves::legal_targets;
 use rules::Piece;
 ghost use mathlib.Core.Path.{_≡_};
 ghost use Prim.Native.Nat.{ℕ, _<_};

@@ -1,10 +1,10 @@
 // The squares where moves start, and whether there is a move.
 use board::lowest;
 use board::without;
-use movegen::legal_targets;
 use position::Position;
 use position::Slot;
 use position::own;
+use position_moves::legal_targets;
 ghost use mathlib.Core.Path.{_≡_};
 ghost use mathlib.Core.Bool.{not};
 ghost use Rattle.rules.specs.Rules.{empty, moves};

@@ -1,5 +1,4 @@
 pub mod Words
-pub mod Stored
 pub mod TypedWord
 pub mod OpinionWord
 pub mod PocketWords

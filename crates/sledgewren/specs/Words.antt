@@ -2,7 +2,7 @@
 -- crate words. Definitions only.
 use mathlib.Core.Path.{_≡_}
 use mathlib.Core.Bool.{cond}
-use mathlib.Core.List.{List, [], _∷_, _++_, flatMap}
+use mathlib.Core.List.{List, _++_, flatMap}
 use Prim.Native.Nat.{ℕ, _+_, _-_, _*_, _^_}
 use lib.Dec.{eqb}
 use lib.ListN.{length, replicate}
@@ -11,18 +11,10 @@ use Rattle.position.specs.declared.Position.{Position}
 use Rattle.move_list.specs.Answers.{movesOf, countAnswer}
 use Rattle.slips.specs.Slip.{padded}
 use Rattle.adjudication.specs.Reply.{LineOutcome, replyOf}
-use Rattle.words.specs.Words.{flagOf}
+pub use Rattle.move_bytes.specs.MoveBytes.{moveBytes, listSize}
 pub use Rattle.words.specs.Words.{numberWord, placedWord, countWord, filledWord, checkedWord, markedWord}
 
 -- ---- the move list, over a lent list of bytes
-
--- from-square, to-square, 1 where the move takes and 0 where not, and what a pawn becomes
-abbrev pub moveBytes : Move → List ℕ
-moveBytes m = m .from ∷ m .to ∷ flagOf (m .takes) ∷ m .becomes ∷ []
-
--- 62 places of four bytes
-abbrev pub listSize : ℕ
-listSize = 248
 
 -- the moves; the places after them hold 0
 unfoldable pub listBytes : List Move → List ℕ

@@ -1,6 +1,5 @@
 pub mod TypedLaws
 pub mod Laws
-pub mod StoreLaws
 pub mod LineTrue
 pub mod PocketWordLaws
 pub mod SetLaws

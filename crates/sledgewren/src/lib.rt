@@ -2,7 +2,6 @@
 // then the lent bytes that are only read, then those that are written to.
 mod desk;
 mod lists;
-mod move_bytes;
 mod numbers;
 mod opinions;
 mod plays;

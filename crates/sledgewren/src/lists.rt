@@ -1,11 +1,11 @@
 // The move list, written to lent bytes.
-use super::move_bytes::write_moves;
 use filling::clear;
-use movegen::movers_of;
+use given_words::position_read;
+use move_bytes::write_moves;
 use position::OTHER_IN_CHECK;
 use position::placing_with;
-use words::position_read;
-ghost use Rattle.words.specs.Men.{positionRead};
+use position_moves::movers_of;
+ghost use Rattle.given_words.specs.Men.{positionRead};
 ghost use Rattle.sledgewren.specs.Words.{WroteList, listingOf};
 
 // A lent list has room for the moves of two men besides the kings, which are four bytes each.

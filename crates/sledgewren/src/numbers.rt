@@ -1,19 +1,19 @@
 // The number of a position, the position of a number, the count of moves, and which ending a position's men are.
+use given_words::ending_of;
+use given_words::material_read;
+use given_words::position_read;
+use given_words::table_bytes;
 use index::number_with;
 use index::position_with;
 use move_list::move_count;
 use words::count_word;
-use words::ending_of;
-use words::material_read;
 use words::number_word;
 use words::placed_word;
-use words::position_read;
-use words::table_bytes;
 ghost use mathlib.Core.Path.{_≡_};
 ghost use Rattle.index.specs.Answers.{numberWith, placedWith};
 ghost use Rattle.move_list.specs.Answers.{countAnswer};
-ghost use Rattle.words.specs.Men.{positionRead};
-ghost use Rattle.words.specs.Endings.{materialRead, endingOf, tableBytes};
+ghost use Rattle.given_words.specs.Men.{positionRead};
+ghost use Rattle.given_words.specs.Endings.{materialRead, endingOf, tableBytes};
 ghost use Rattle.sledgewren.specs.Words.{numberWord, placedWord, countWord};
 
 // Refusals 1 to 5 and 18.

@@ -1,10 +1,10 @@
 // The second opinion on a position, and its word.
+use given_words::position_read;
 use search::Opinion;
 use search::second_opinion;
-use words::position_read;
 ghost use mathlib.Core.Path.{_≡_};
 ghost use Rattle.search.specs.Opinions.{opinionOf};
-ghost use Rattle.words.specs.Men.{positionRead};
+ghost use Rattle.given_words.specs.Men.{positionRead};
 ghost use Rattle.sledgewren.specs.OpinionWord.{opinionWord};
 
 fn opinion_word(o: Opinion) -> u32

@@ -1,10 +1,10 @@
 // A legal move played.
+use given_words::position_read;
 use playing::play;
 use words::played_word;
-use words::position_read;
 ghost use mathlib.Core.Path.{_≡_};
 ghost use Rattle.playing.specs.Playing.{playOf};
-ghost use Rattle.words.specs.Men.{positionRead};
+ghost use Rattle.given_words.specs.Men.{positionRead};
 ghost use Rattle.words.specs.Played.{playedWord};
 
 // `becomes` is what a pawn becomes, 1 + the piece's code, and 0 in every other move. Refusals 1 to 6 and 18.

@@ -2,14 +2,14 @@
 use super::pocket_words::packed_word;
 use super::pocket_words::pocket_word;
 use super::pocket_words::tallied_word;
+use given_words::position_read;
 use pocket::look_up;
 use pocket::pack;
 use pocket::tally;
-use words::position_read;
 ghost use mathlib.Core.Path.{_≡_};
 ghost use Rattle.pocket.specs.Pocket.{packOf, pocketLookUpOf};
 ghost use Rattle.pocket.specs.Tally.{tallyOf};
-ghost use Rattle.words.specs.Men.{positionRead};
+ghost use Rattle.given_words.specs.Men.{positionRead};
 ghost use Rattle.sledgewren.specs.PocketWords.{packedWord, toldWord, talliedWord};
 
 // Refusal 7 leaves the pocket as it was.

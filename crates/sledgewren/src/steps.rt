@@ -4,13 +4,13 @@ use filling::Step;
 use filling::Stepped;
 use filling::start_with;
 use filling::step_with;
+use given_words::material_read;
 use table_theory::Progress;
-use words::material_read;
 ghost use mathlib.Core.Path.{_≡_};
 ghost use Prim.Native.Nat.{_^_, _<_, _≤_};
 ghost use Rattle.four_men.specs.Lending.{lent};
 ghost use Rattle.filling.specs.Steps.{settledOf};
-ghost use Rattle.words.specs.Endings.{materialRead};
+ghost use Rattle.given_words.specs.Endings.{materialRead};
 ghost use Rattle.sledgewren.specs.StepWord.{progressOf, progressWord, endWord, saidWord, stepWord, startFor, stepFor};
 
 fn progress_of(word: u32) -> Progress

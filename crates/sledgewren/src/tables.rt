@@ -5,18 +5,18 @@ use checking::check_with;
 use fifty::look_up_at_with;
 use filling::fill_back;
 use filling::fill_with;
+use given_words::material_read;
+use given_words::position_read;
 use words::checked_word;
 use words::filled_word;
 use words::marked_word;
-use words::material_read;
-use words::position_read;
 ghost use mathlib.Core.Path.{_≡_};
 ghost use Rattle.four_men.specs.Lending.{lent};
 ghost use Rattle.four_men.specs.Answers.{fillWith, checkWith};
 ghost use Rattle.filling.specs.FillPromise.{fillBackWith};
 ghost use Rattle.fifty.specs.Marks.{lookUpAtWith};
-ghost use Rattle.words.specs.Men.{positionRead};
-ghost use Rattle.words.specs.Endings.{materialRead};
+ghost use Rattle.given_words.specs.Men.{positionRead};
+ghost use Rattle.given_words.specs.Endings.{materialRead};
 ghost use Rattle.sledgewren.specs.Words.{filledWord, checkedWord, markedWord};
 
 // Refusals 1, 7 and 17 leave the table as it was, 10 all zero.

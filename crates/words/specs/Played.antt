@@ -5,7 +5,7 @@ use lib.Dec.{eqb}
 use Rattle.position.specs.declared.Position.{Position}
 use Rattle.playing.specs.declared.Played.{Played}
 use Rattle.words.specs.Reading.{bits, unlessRefused, Byte, RefusalFits}
-use Rattle.words.specs.Men.{shortMan, shortRead, ShortFits}
+use Rattle.given_words.specs.Men.{shortMan, shortRead, ShortFits}
 
 -- bits 0-7 refusal, bit 8 side, bit 15 the move is not legal, 16-23 white king, 24-31 black king, 32-47 the first man,
 -- 48-63 the second; with bare kings both men are absent, and bits 32-63 are 0

@@ -3,7 +3,7 @@
 use mathlib.Core.Path.{_≡_}
 use mathlib.Core.Bool.{Bool, cond}
 use mathlib.Core.List.{List}
-use Prim.Native.Nat.{ℕ, _/_, _%_, _^_, _≤_, _<_}
+use Prim.Native.Nat.{ℕ, _^_, _≤_, _<_}
 use lib.Dec.{eqb}
 use lib.ListN.{getD}
 use Rattle.rules.specs.Rules.{pieceOf, promotionOf}
@@ -21,10 +21,7 @@ use Rattle.index.specs.declared.Placed.{Placed}
 use Rattle.move_list.specs.declared.Counted.{Counted}
 use Rattle.four_men.specs.Lending.{Lent}
 use Rattle.words.specs.Words.{secondSquare}
-
--- the bits of a word from the first on, as many as the width
-abbrev pub bits : ℕ → ℕ → ℕ → ℕ
-bits first width word = word / 2 ^ first % 2 ^ width
+pub use Rattle.given_words.specs.Bits.{bits, Byte, ReadBack, OneWord}
 
 -- "bits 0-7 refusal": another answer where they are 0
 abbrev pub unlessRefused : {A : Type 0} → A → (ℕ → A) → ℕ → A
@@ -91,9 +88,6 @@ markedRead word = record { answer = answerRead word; «within_fifty» = markRead
 
 -- ---- the answers that a word has room for: a byte is below 256, and a refusal's number is 1 or more
 
-abbrev pub Byte : ℕ → Type 0
-Byte n = n < 2 ^ 8
-
 abbrev pub RefusalFits : ℕ → Type 0
 RefusalFits k = (1 ≤ k) × Byte k
 
@@ -150,11 +144,3 @@ abbrev pub MarkedFits : Marked → Type 0
 MarkedFits m = AnswerFits (m .answer)
 
 -- ---- what is promised of a word and its reader
-
--- reading the word of an answer that fits gives the answer back
-abbrev pub ReadBack : {A : Type 0} → (A → Type 0) → (A → ℕ) → (ℕ → A) → Type 0
-ReadBack {A} Fits word read = (a : A) → Fits a → read (word a) ≡ a
-
--- no two answers that fit have one word
-abbrev pub OneWord : {A : Type 0} → (A → Type 0) → (A → ℕ) → Type 0
-OneWord {A} Fits word = (a b : A) → Fits a → Fits b → word a ≡ word b → a ≡ b

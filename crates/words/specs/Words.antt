@@ -1,5 +1,4 @@
 -- The word of each answer (include/sledgewren.h): which bits hold its refusal and its values. Definitions only.
-use mathlib.Core.Bool.{Bool, true, false}
 use Prim.Native.Nat.{ℕ, _+_, _*_, _^_}
 use Rattle.answers.specs.declared.BestMove.{BestMove}
 use Rattle.answers.specs.declared.BestMove.the-variants.{Play, NoMove}
@@ -12,6 +11,7 @@ use Rattle.position.specs.Keyed.{manIn, manSquare}
 use Rattle.index.specs.declared.NumberAnswer.{NumberAnswer}
 use Rattle.index.specs.declared.Placed.{Placed}
 use Rattle.move_list.specs.declared.Counted.{Counted}
+pub use Rattle.move_bytes.specs.MoveBytes.{flagOf}
 
 -- the number; or bit 31 and the refusal
 abbrev pub numberWord : NumberAnswer → ℕ
@@ -44,11 +44,6 @@ abbrev pub checkedWord : Checked → ℕ
 checkedWord Checked.Accepted = 0
 checkedWord (Checked.Wrong n) = 2 ^ 8 + n * 2 ^ 32
 checkedWord (Checked.Refused k) = k
-
--- 1 for yes, 0 for no
-abbrev pub flagOf : Bool → ℕ
-flagOf true = 1
-flagOf false = 0
 
 -- bit 24 a move is given, 32-39 from, 40-47 to, bit 48 it takes, 56-63 what a pawn becomes
 abbrev pub adviceWord : BestMove → ℕ

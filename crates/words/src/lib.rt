@@ -1,6 +1,4 @@
-// The word of each answer, and the words that a position and an ending are given in (include/sledgewren.h).
-mod ending_words;
-mod men;
+// The word of each answer (include/sledgewren.h).
 mod played;
 mod version;
 
@@ -8,13 +6,10 @@ use answers::Answer;
 use answers::BestMove;
 use answers::Checked;
 use answers::Filled;
-pub use ending_words::ending_of;
-pub use ending_words::material_read;
-pub use ending_words::table_bytes;
 use fifty::Marked;
 use index::NumberAnswer;
 use index::Placed;
-pub use men::position_read;
+use move_bytes::flag;
 use move_list::Counted;
 pub use played::played_word;
 use position::Position;
@@ -23,7 +18,7 @@ use rules::Move;
 pub use version::version_word;
 ghost use mathlib.Core.Path.{_≡_};
 ghost use Prim.Native.Nat.{_+_, _*_, _^_, _≤_, _<_};
-ghost use Rattle.words.specs.Words.{numberWord, placedWord, countWord, filledWord, checkedWord, flagOf, adviceWord, answerWord, markedWord};
+ghost use Rattle.words.specs.Words.{numberWord, placedWord, countWord, filledWord, checkedWord, adviceWord, answerWord, markedWord};
 
 pub fn number_word(n: NumberAnswer) -> u32
     ensures { λ r. ⌜ r ≡ numberWord n ⌝ }
@@ -84,13 +79,6 @@ pub fn checked_word(c: Checked) -> u64
         Checked::Wrong(n) => 0x100 + n as u64 * 0x1_0000_0000,
         Checked::Refused(k) => k as u64,
     }
-}
-
-// Whether a move takes: 1 for yes, 0 for no.
-pub fn flag(takes: bool) -> u8
-    ensures { λ r. ⌜ (r ≡ flagOf takes) × (r < 2) ⌝ }
-{
-    if takes { 1 } else { 0 }
 }
 
 fn move_word(m: Move) -> u64

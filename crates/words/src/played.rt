@@ -1,5 +1,5 @@
 // The position after a move as one word.
-use super::men::short_man;
+use given_words::short_man;
 use playing::Played;
 use position::Position;
 ghost use mathlib.Core.Path.{_≡_};

@@ -15,7 +15,6 @@ use Rattle.numbering.specs.Keys.{leading, menAt, boardAt}
 use Rattle.numbering.specs.Material.{menOf}
 use Rattle.position.specs.declared.Men.{Men}
 use Rattle.position.specs.declared.Place.{Place}
-use Rattle.position.specs.Posed.{materialFor}
 use Rattle.index.specs.Seats.{StandsAt, alone}
 use Rattle.index.specs.laws.NormalKey.{oneBoard, pairBoard}
 use Rattle.index.specs.laws.SeatLaws.{board-one, board-two}

@@ -23,7 +23,7 @@ use Rattle.rules.specs.declared.Move.{Move}
 use Rattle.rules.specs.Rules.{Board, legal, moves}
 use Rattle.rules.specs.Changed.{mappedMove}
 use Rattle.rules.specs.Chess.{chess, played}
-use Rattle.numbering.specs.Number.{normalBy, normalised}
+use Rattle.numbering.specs.Number.{normalised}
 use Rattle.position.specs.declared.Position.{Position}
 use Rattle.position.specs.Keyed.{boardOf, manKind}
 use Rattle.position.specs.Refusals.{standingRefusal}

@@ -15,7 +15,6 @@ use Rattle.rules.specs.declared.Piece.{Piece}
 use Rattle.rules.specs.declared.Move.{Move}
 use Rattle.rules.specs.Rules.{Board, empty, legal, moves}
 use Rattle.rules.specs.Chess.{chess, played}
-use Rattle.numbering.specs.Men.{materialOf}
 use Rattle.answers.specs.declared.Answer.{Answer}
 use Rattle.answers.specs.declared.Checked.{Checked}
 use Rattle.endings.specs.Ending.{Lone, Ending, byteOf}
@@ -25,7 +24,6 @@ use Rattle.position.specs.Keyed.{keyed}
 use Rattle.endings.specs.GamePromise.{moveOfAnswer, deskMove, Told, GamePromise}
 use Rattle.endings.specs.laws.EndingDrawn.{ending-closed}
 use Rattle.numbering.specs.declared.Material.{Material}
-use Rattle.numbering.specs.Material.{OfMaterial}
 use Rattle.four_men.specs.Steps.{nothing}
 use Rattle.four_men.specs.GamePromise.{lookedUp, deskMoveWith, GamePromiseWith}
 use Rattle.four_men.specs.laws.Alone.{check-alone, reads-alone, lone-piece, look-up-alone}

@@ -1,6 +1,6 @@
 -- Turning a position with a pawn turns its move, with no exception: the reversal of the files and the exchange of
 -- colours, which turns the ranks round, on every table (02, P5, P9 and P12).
-use mathlib.Core.Path.{_≡_, refl, sym, ap, ap₂, subst, subst⁻¹, _∙_}
+use mathlib.Core.Path.{_≡_, refl, sym, ap, ap₂, subst⁻¹, _∙_}
 use mathlib.Core.Bool.{Bool, true, false, cond, not, xor}
 use mathlib.Core.Logic.{inl}
 use mathlib.Core.List.{List, [], _∷_, map}
@@ -12,7 +12,7 @@ use Rattle.theory.specs.Required.{requiredAt}
 use Rattle.theory.specs.Play.{firstSuited}
 use Rattle.theory.specs.laws.Alike.{alike-required}
 use Rattle.table_theory.specs.laws.Acceptance.{reads-same}
-use Rattle.symmetry.specs.Symmetry.{Symmetry, inverse, composed}
+use Rattle.symmetry.specs.Symmetry.{inverse, composed}
 use Rattle.symmetry.specs.laws.SymmetryLaws.{undone-by}
 use Rattle.rules.specs.declared.Piece.{Piece}
 use Rattle.rules.specs.Rules.{Board, pieceOf, legalWithPawn}
@@ -36,7 +36,7 @@ use Rattle.answers.specs.declared.Answer.{Answer}
 use Rattle.endings.specs.Answers.{adviceOf, answerOf, mappedAdvice, mappedAnswer, chosenBy}
 use Rattle.endings.specs.laws.MoveTurned.{advice-by, mapped-only}
 use Rattle.four_men.specs.Lending.{Lent}
-use Rattle.four_men.specs.Reading.{Within, numbered}
+use Rattle.four_men.specs.Reading.{numbered}
 use Rattle.four_men.specs.Answers.{lengthsFit, lookUpWith}
 use Rattle.four_men.specs.laws.PawnWithin.{lone-pawn}
 use Rattle.four_men.specs.laws.PawnLawful.{mapBy, SamePawn, pawn-alike, men-flipped, has-pawn, lawful-pawn}

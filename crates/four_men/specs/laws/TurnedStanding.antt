@@ -9,7 +9,6 @@ use lib.Dec.{T, leb, ltb, eqb}
 use borrow.Author.Tests.{leb-false}
 use Rattle.finite.specs.Truth.{refuted}
 use Rattle.finite.specs.Members.{all}
-use Rattle.symmetry.specs.Symmetry.{Symmetry}
 use Rattle.symmetry.specs.laws.SymmetryLaws.{ltb-mapped}
 use Rattle.rules.specs.Pawn.{pawn}
 use Rattle.rules.specs.Rules.{Board, pieces, apart, touching, inCheck}

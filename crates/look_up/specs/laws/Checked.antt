@@ -9,7 +9,7 @@ use borrow.Author.Tests.{ne-eqb}
 use Rattle.finite.specs.Members.{all}
 use Rattle.rules.specs.Pawn.{pawn}
 use Rattle.rules.specs.Rules.{Board, inCheck}
-use Rattle.rules.specs.Changed.{swapped, changed}
+use Rattle.rules.specs.Changed.{changed}
 use Rattle.rules.specs.laws.Changed.{across}
 use Rattle.rules.specs.laws.ChangedRules.{pawnless-fits, check-changed}
 use Rattle.rules.specs.Reordered.{reordered}

@@ -25,10 +25,10 @@ use Rattle.position.specs.Keyed.{slotMen, boardOf, manIn}
 use Rattle.position.specs.Refusals.{badMenOf, badSide, badSquare, badPawn, sharedSquare, kingsTouch, slotOn, slotsShare, placingWith}
 use Rattle.position.specs.laws.BothSizes.{six}
 use Rattle.position.specs.laws.SlotLaws.{shared-by-slots}
-use Rattle.movegen.specs.declared.Movers.{Movers}
-use Rattle.movegen.specs.InPosition.{Placed, Held, MoversOf}
-use Rattle.movegen.specs.laws.OneThere.{placed-board, first-held, second-held, man-piece, one-there, no-king}
-use Rattle.movegen.specs.laws.InPosition.{nobody-moves}
+use Rattle.position_moves.specs.declared.Movers.{Movers}
+use Rattle.position_moves.specs.InPosition.{Placed, Held, MoversOf}
+use Rattle.position_moves.specs.laws.OneThere.{placed-board, first-held, second-held, man-piece, one-there, no-king}
+use Rattle.position_moves.specs.laws.InPosition.{nobody-moves}
 use Rattle.move_list.specs.Counting.{slotPawn, outerRanks, manCount}
 use Rattle.move_list.specs.laws.PawnIn.{pawnOn, set-pawn, set-none}
 use Rattle.move_list.specs.laws.SumLaws.{length-total, three-squares}

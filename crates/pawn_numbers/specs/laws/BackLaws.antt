@@ -1,5 +1,5 @@
 -- Each number below 196,608 leads back to a board with a pawn that bears it, the normal board of its class.
-use mathlib.Core.Path.{_≡_, refl, ap, subst, subst⁻¹, sym, _∙_}
+use mathlib.Core.Path.{_≡_, refl, ap, subst⁻¹, sym, _∙_}
 use mathlib.Core.Bool.{false}
 use Prim.Native.Nat.{ℕ, _+_, _-_, _*_, _/_, _%_, _<_}
 use native.Mathlib.Omega.{arith}

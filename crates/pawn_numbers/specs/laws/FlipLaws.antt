@@ -1,6 +1,6 @@
 -- The four flips of a board: they compose, each takes itself back, and a board with a pawn stays one. A flip fits every
 -- board, so a legal board and its flipped one have one value.
-use mathlib.Core.Path.{_≡_, refl, ap, subst, subst⁻¹, sym, _∙_}
+use mathlib.Core.Path.{_≡_, refl, ap, subst⁻¹, sym, _∙_}
 use mathlib.Core.Bool.{Bool, true, false, cond, not, _&&_, xor}
 use mathlib.Core.Logic.{⊎-elim}
 use mathlib.Core.List.{List, [], _∷_, map, List·Memᴰ·head, List·Memᴰ·tail}

@@ -1,11 +1,11 @@
 -- A piece put on a free square: the ending's men are still all there, no two on one square.
-use mathlib.Core.Path.{_≡_, refl, sym, ap, subst, subst⁻¹, _∙_}
+use mathlib.Core.Path.{_≡_, refl, sym, ap, subst⁻¹, _∙_}
 use mathlib.Core.Bool.{Bool, true, false, cond, not}
 use Prim.Native.Nat.{ℕ, _<_}
 use native.Mathlib.Omega.{arith}
 use lib.Dec.{T, leb, eqb}
 use borrow.Author.Tests.{lt-ltb, lt-leb, ne-eqb, eqb-true}
-use Rattle.rules.specs.Rules.{apart, touching, carried}
+use Rattle.rules.specs.Rules.{touching, carried}
 use Rattle.numbering.specs.Kings.{separate}
 use Rattle.position.specs.declared.Men.{Men}
 use Rattle.position.specs.declared.Place.{Place}

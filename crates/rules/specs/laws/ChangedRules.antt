@@ -15,9 +15,9 @@ use Rattle.symmetry.specs.laws.SymmetryLaws.{eqb-mapped, ltb-mapped}
 use Rattle.symmetry.specs.laws.ReachMapped.{reaches-mapped}
 use Rattle.symmetry.specs.laws.Opposite.{reaches-sym}
 use Rattle.rules.specs.declared.Piece.{Piece}
-use Rattle.rules.specs.Pawn.{pawn, inner}
+use Rattle.rules.specs.Pawn.{pawn}
 use Rattle.rules.specs.Rules.{Board, pieceOf, pieces, empty, occupied, attacks, attacked, king, inCheck, known, knownOrPawn, apart, touching, legalOf, legal, legalWithPawn, stands, goesTo, goes, carried, carriedPiece, left, moved, canMove, taking}
-use Rattle.rules.specs.laws.Legal.{legal-facts, legalOf-facts, facts-legalOf, legal-pawnless}
+use Rattle.rules.specs.laws.Legal.{legalOf-facts, facts-legalOf, legal-pawnless}
 use Rattle.rules.specs.Changed.{other, swapped, changedPiece, changed, upright, allows, fits}
 use Rattle.rules.specs.laws.PawnLaws.{upright-back, inner-kept, attacks-kept, goesTo-kept}
 use Rattle.rules.specs.laws.Changed.{eqb-swapped, ltb-swapped, across, board-eq, changed-back}

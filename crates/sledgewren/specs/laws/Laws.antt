@@ -1,7 +1,7 @@
 -- Laws for the code: bytes written one after the other, and the answers by the test of a lent length.
 use mathlib.Core.Path.{_≡_, refl, sym, ap, _∙_, subst}
 use mathlib.Core.Bool.{Bool, true, false, cond}
-use mathlib.Core.List.{List, [], _∷_, _++_, flatMap, append-nil}
+use mathlib.Core.List.{List, [], _++_, flatMap, append-nil}
 use Prim.Native.Nat.{ℕ, _+_, _-_, _*_, _≤_, _<_}
 use native.Mathlib.Nat.{zero-add, add-zero}
 use native.Mathlib.Numerals.{add-one}
@@ -24,7 +24,8 @@ use Rattle.slips.specs.Slip.{padded}
 use Rattle.adjudication.specs.declared.Reply.{Reply}
 use Rattle.adjudication.specs.Reply.{LineOutcome, Gives, replyOf}
 use Rattle.adjudication.specs.TrueSlip.{LinePromise}
-use Rattle.sledgewren.specs.Stored.{Stored}
+use Rattle.move_bytes.specs.Stored.{Stored}
+use Rattle.move_bytes.specs.laws.StoreLaws.{moves-length}
 use Rattle.sledgewren.specs.Words.{countWord, moveBytes, listSize, listBytes, WroteList, listingOf, WroteSlip, replied, lineAnswer}
 
 -- ---- bytes written one after the other
@@ -42,11 +43,6 @@ pub copy-end : (xs l : List ℕ) (i : ℕ) → length xs ≡ i → sets l i (dro
 copy-end xs l i e = rw (← e, drop-length xs)
 
 -- ---- the bytes of a move list
-
-pub moves-length : (ms : List Move) → length (flatMap moveBytes ms) ≡ 4 * length ms
-unfolding flatMap
-moves-length [] = refl
-moves-length (m ∷ ms) = let r = moves-length ms in omega arith
 
 -- written over bytes that are cleared
 zeros : (l : List ℕ) → length l ≡ listSize → mapFrom (λ n b. 0) 0 l ≡ replicate listSize 0

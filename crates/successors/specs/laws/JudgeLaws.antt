@@ -4,7 +4,7 @@ use mathlib.Core.Bool.{Bool}
 use Prim.Native.Nat.{ℕ}
 use native.Mathlib.Omega.{arith}
 use Rattle.board.specs.Sets.{setOf}
-use Rattle.rules.specs.Rules.{Board, canMove}
+use Rattle.rules.specs.Rules.{Board}
 use Rattle.successors.specs.declared.Sifted.{Sifted}
 use Rattle.successors.specs.declared.Judged.{Judged}
 use Rattle.successors.specs.Successors.{siftedBy, siftedFrom, joined, judgedFrom}

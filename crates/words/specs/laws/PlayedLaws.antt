@@ -25,7 +25,7 @@ use Rattle.playing.specs.declared.Played.{Played}
 use Rattle.playing.specs.Playing.{playOf}
 use Rattle.playing.specs.laws.PlayTrue.{played-true, refused-played}
 use Rattle.words.specs.Reading.{bits, Byte, RefusalFits, ReadBack, OneWord}
-use Rattle.words.specs.Men.{shortMan, shortRead, ShortFits}
+use Rattle.given_words.specs.Men.{shortMan, shortRead, ShortFits}
 use Rattle.words.specs.Played.{playedWord, playedRead, AfterFits, PlayedFits}
 use Rattle.words.specs.laws.ReadingLaws.{field, one-word}
 use Rattle.words.specs.laws.AnswersFit.{refusal-fits}

@@ -2,7 +2,6 @@
 use mathlib.Core.Path.{_≡_, refl, sym, ap, _∙_}
 use mathlib.Core.Bool.{Bool, true, false}
 use Prim.Native.Nat.{ℕ, _+_, _*_, _^_, _<_}
-use native.Mathlib.Nat.{zero-add, add-mul-div-right, add-mul-mod-self-right, div-eq-of-lt, mod-eq-of-lt}
 use native.Mathlib.Omega.{arith}
 use lib.Dec.{eqb}
 use borrow.Author.Tests.{ne-eqb}
@@ -17,23 +16,9 @@ use Rattle.index.specs.declared.NumberAnswer.{NumberAnswer}
 use Rattle.index.specs.declared.Placed.{Placed}
 use Rattle.move_list.specs.declared.Counted.{Counted}
 use Rattle.endings.specs.GamePromise.{given, moveOfAnswer}
+pub use Rattle.given_words.specs.laws.BitLaws.{field}
 use Rattle.words.specs.Words.{numberWord, secondSquare, placedWord, countWord, filledWord, checkedWord, flagOf, adviceWord, answerWord, markedWord}
 use Rattle.words.specs.Reading.{bits, unlessRefused, numberRead, placedRead, countRead, filledRead, checkedRead, adviceRead, valueRead, markedRead, Byte, RefusalFits, NumberFits, PlacedFits, CountFits, FilledFits, CheckedFits, AdviceFits, AnswerFits, MarkedFits, ReadBack, OneWord}
-
--- ---- one field of any word
-
--- a value above what lies below it, with anything above
-pub field : (first width low value high word : ℕ) → word ≡ low + (value + high * 2 ^ width) * 2 ^ first
-    → low < 2 ^ first → value < 2 ^ width → bits first width word ≡ value
-field first width low value high word e l v =
-    rw (
-      e,
-      add-mul-div-right low (value + high * 2 ^ width) {z = 2 ^ first} (omega arith),
-      div-eq-of-lt l,
-      zero-add (value + high * 2 ^ width),
-      add-mul-mod-self-right value high (2 ^ width),
-    )
-    (mod-eq-of-lt v)
 
 -- ---- a refusal and any other answer
 

@@ -1,11 +1,10 @@
 -- `filling::pass_over` meets its contract. The loop's invariant: the pass is done below n, in place, how many numbers it
 -- settled there is kept, and so is the place at the row's first number.
-use mathlib.Core.Path.{_≡_, _∙_}
-use Prim.Native.Nat.{ℕ, _%_, _<_, _≤_, _-_}
+use mathlib.Core.Path.{_≡_}
+use Prim.Native.Nat.{_%_, _<_, _≤_, _-_}
 use native.Mathlib.Omega.{arith}
 use lib.Dec.{T}
-use lib.ListN.{length}
-use Rattle.finite.specs.Mapped.{Upto, upto-none}
+use Rattle.finite.specs.Mapped.{Upto}
 use Rattle.table_theory.specs.Tables.{passByte}
 use Rattle.rules.specs.Chess.{chess}
 use Rattle.numbering.specs.Material.{known}
@@ -13,7 +12,7 @@ use Rattle.position.specs.Posed.{materialFor}
 use Rattle.working_back.specs.Admitted.{over}
 use Rattle.working_back.specs.laws.Admitted.{most, sized, in-size, admitted-kept}
 use Rattle.deciding.specs.Rows.{RowOf}
-use Rattle.filling.specs.laws.Laws.{settledBelow, settled-none, settled-low, settle-one, pass-turn, pass-done}
+use Rattle.filling.specs.laws.Laws.{settledBelow, settled-low, settle-one, pass-turn, pass-done}
 use Rattle.filling.specs.laws.Outside.{begins, ends}
 use Rattle.deciding.specs.laws.Rows.{row-next}
 use Rattle.filling.proofs.pass.pass_over.Statement.{statement}

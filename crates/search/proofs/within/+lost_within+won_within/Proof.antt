@@ -23,8 +23,8 @@ use Rattle.search.proofs.within.won_within.Kinds as won-within-kinds
 use Rattle.search.proofs.within.+lost_within+won_within.Lts-won_within as won-within-lts
 use Rattle.board.proofs.lowest.Reads as lowest-reads
 use Rattle.board.proofs.without.Reads as without-reads
-use Rattle.movegen.proofs.make.Reads as make-reads
-use Rattle.movegen.proofs.legal_targets.Reads as legal-targets-reads
+use Rattle.position_moves.proofs.make.Reads as make-reads
+use Rattle.position_moves.proofs.legal_targets.Reads as legal-targets-reads
 use Rattle.position.proofs.in_check.Reads as in-check-reads
 use Rattle.search.proofs.movers.can_move.Reads as can-move-reads
 use Rattle.search.proofs.movers.movers.Reads as movers-reads

@@ -1,7 +1,7 @@
 -- `sledgewren::sledgewren_table_bytes` meets its contract.
 use mathlib.Core.Path.{ap, _∙_}
 use Rattle.numbering.specs.declared.Material.{Material}
-use Rattle.words.specs.Endings.{tableBytes}
+use Rattle.given_words.specs.Endings.{tableBytes}
 use borrow.Author.Needs.{needs}
 use Rattle.sledgewren.proofs.numbers.sledgewren_table_bytes.Statement.{statement}
 use Rattle.sledgewren.proofs.numbers.sledgewren_table_bytes.Tie as tie

@@ -1,6 +1,6 @@
 -- `successors::sift_steps` meets its contract: the king's moves that take a man, and those that take none.
 use borrow.Author.Needs.{needs}
-use mathlib.Core.Path.{_∙_, ap, sym}
+use mathlib.Core.Path.{_∙_}
 use Rattle.successors.specs.laws.SiftLaws.{parts-refuted, parts-suited}
 use Rattle.successors.specs.laws.TakingLaws.{taking-set, quiet-set, taking-at}
 use Rattle.successors.proofs.quiet.sift_steps.Statement.{statement}

@@ -1,0 +1,4 @@
+pub mod Bits
+pub mod Men
+pub mod Endings
+pub mod laws

@@ -1,0 +1,3 @@
+pub mod MoveBytes
+pub mod Stored
+pub mod laws

@@ -1,0 +1,2 @@
+pub mod InPosition
+pub mod laws

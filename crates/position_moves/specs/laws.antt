@@ -1,0 +1,3 @@
+pub mod OneThere
+pub mod Unpinned
+pub mod InPosition
