@@ -258,6 +258,7 @@ pub fn check(ending: impl Into<u32>, lent: Lent, table: &[u8]) -> Result<Checked
 
 /// A position's value, depth and move from the table of its ending and, with two men or a pawn, the
 /// lent ones; they do not hang on the count. Refusals 1 to 7, 11 and 18.
+#[inline]
 pub fn look_up(keyed: impl Into<Keyed>, lent: Lent, table: &[u8]) -> Result<Answer, Refusal> {
     look_up_at(keyed, 0, lent, table).map(|marked| marked.answer)
 }
@@ -265,6 +266,7 @@ pub fn look_up(keyed: impl Into<Keyed>, lent: Lent, table: &[u8]) -> Result<Answ
 /// The same with the plies since the last capture, 0 to 99, and whether a win or a loss comes
 /// before a fifty-move claim at that count, which is not told with a pawn. Refusals 1 to 7, 11, 18,
 /// and 19 for more than 99 plies.
+#[inline]
 pub fn look_up_at(
     keyed: impl Into<Keyed>,
     plies: u32,

@@ -28,6 +28,7 @@ pub struct Move {
 impl Move {
     /// The move of its four bytes: from-square, to-square, whether it takes, and what a pawn
     /// becomes.
+    #[inline]
     pub(crate) fn from_bytes(bytes: [u8; 4]) -> Option<Move> {
         let [from, to, takes @ (0 | 1), becomes @ 0..=4] = bytes else {
             return None;

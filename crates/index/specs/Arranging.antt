@@ -31,27 +31,17 @@ goesAfter a c = cond (eqb (a .kind) (c .kind)) (ltb (c .colour) (a .colour)) (lt
 -- the first man White's: colours, kings and side to move are exchanged where he is Black's
 unfoldable pub whiteFirst : Piece → Piece → Position → Arranged
 whiteFirst a c p =
-    cond (eqb (a .colour) 1)
-    (record {
-      men = record { first = a .kind; second = c .kind; colour = 1 - c .colour };
+    let black = eqb (a .colour) 1 in
+    record {
+      men = record { first = a .kind; second = c .kind; colour = cond black (1 - c .colour) (c .colour) };
       place = record {
-        side = 1 - p .side;
-        white = p .«black_king»;
-        black = p .«white_king»;
+        side = cond black (1 - p .side) (p .side);
+        white = cond black (p .«black_king») (p .«white_king»);
+        black = cond black (p .«white_king») (p .«black_king»);
         first = a .square;
         second = c .square;
       };
-    })
-    (record {
-      men = record { first = a .kind; second = c .kind; colour = c .colour };
-      place = record {
-        side = p .side;
-        white = p .«white_king»;
-        black = p .«black_king»;
-        first = a .square;
-        second = c .square;
-      };
-    })
+    }
 
 unfoldable pub arrangedAs : Position → Arranged
 arrangedAs p =

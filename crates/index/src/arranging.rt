@@ -15,6 +15,7 @@ use position::man_in;
 use position::other;
 use rules::Piece;
 ghost use mathlib.Core.Path.{_≡_};
+ghost use mathlib.Core.Bool.{cond};
 ghost use Rattle.position.specs.Keyed.{manKind};
 ghost use Rattle.position.specs.Refusals.{placingWith};
 ghost use Rattle.index.specs.Arranging.{goesAfter, whiteFirst, arrangedAs, normalBy, normalAs, Normalises};
@@ -29,36 +30,35 @@ fn goes_after(a: Piece, c: Piece) -> bool
     c.kind < a.kind
 }
 
+// One of two men. Which is asked in one place, so that what follows is written out once.
+fn either_man(former: bool, a: Piece, c: Piece) -> Piece
+    ensures { λ r. ⌜ r ≡ cond former a c ⌝ }
+{
+    if former { a } else { c }
+}
+
+// One of two bytes.
+fn either(former: bool, a: u8, c: u8) -> u8
+    ensures { λ r. ⌜ r ≡ cond former a c ⌝ }
+{
+    if former { a } else { c }
+}
+
 // The first man White's: the colours, the kings and the side to move are exchanged where he is Black's.
 fn white_first(a: Piece, c: Piece, p: Position) -> Arranged
     ensures { λ r. ⌜ r ≡ whiteFirst a c p ⌝ }
 {
-    if a.colour == 1 {
-        return Arranged {
-            men: Men {
-                first: a.kind,
-                second: c.kind,
-                colour: other(c.colour),
-            },
-            place: Place {
-                side: other(p.side),
-                white: p.black_king,
-                black: p.white_king,
-                first: a.square,
-                second: c.square,
-            },
-        };
-    }
+    let black = a.colour == 1;
     Arranged {
         men: Men {
             first: a.kind,
             second: c.kind,
-            colour: c.colour,
+            colour: either(black, other(c.colour), c.colour),
         },
         place: Place {
-            side: p.side,
-            white: p.white_king,
-            black: p.black_king,
+            side: either(black, other(p.side), p.side),
+            white: either(black, p.black_king, p.white_king),
+            black: either(black, p.white_king, p.black_king),
             first: a.square,
             second: c.square,
         },
@@ -73,10 +73,8 @@ pub fn arrange(p: Position) -> Arranged
     let second = p.second;
     let a = man_in(first);
     let c = man_in(second);
-    if goes_after(a, c) {
-        return white_first(c, a, p);
-    }
-    white_first(a, c, p)
+    let after = goes_after(a, c);
+    white_first(either_man(after, c, a), either_man(after, a, c), p)
 }
 
 // The normal place of an arranged position, by its key and the one with file and rank exchanged.

@@ -5,6 +5,7 @@ use deciding::PAWN;
 use deciding::pawn_verdict;
 use four_men::lengths_fit;
 use four_men::material_for;
+use index::NormalPlace;
 use index::normal_place;
 use index::pawn_normal_place;
 use movegen::checked;
@@ -30,6 +31,7 @@ ghost use Rattle.position.specs.Keyed.{manKind};
 ghost use Rattle.position.specs.Refusals.{placingWith};
 ghost use Rattle.position.specs.Maps.{symmetryOf};
 ghost use Rattle.endings.specs.Answers.{mappedAdvice, answerOf, lookUpOf};
+ghost use Rattle.index.specs.Arranging.{Normalises};
 ghost use Rattle.four_men.specs.Lending.{lent};
 ghost use Rattle.four_men.specs.Answers.{lookUpWith};
 ghost use Rattle.look_up.specs.Told.{toldOf};
@@ -72,10 +74,14 @@ fn told(via: Map, byte: u8, verdict: Verdict) -> Answer
     }
 }
 
-// A position with a pawn that only refusal 6 may meet; the tables that it borrows are one run, the first.
+// A position with a pawn; the tables that it borrows are one run, the first.
 fn look_up_pawn(p: Position, table: &[u8], first: &[u8], second: &[u8]) -> Answer
-    ensures { λ r. ⌜ (placingWith p ≡ 0 → manKind p ≡ 4 → r ≡ lookUpWith (lent (now (first .entry)) (now (second .entry))) (now (table .entry)) p) ⌝ }
+    ensures { λ r. ⌜ (manKind p ≡ 4 → r ≡ lookUpWith (lent (now (first .entry)) (now (second .entry))) (now (table .entry)) p) ⌝ }
 {
+    let refusal = placing_with(p);
+    if refusal != 0 {
+        return Answer::Refused(refusal);
+    }
     if in_check(p, other(p.side)) {
         return Answer::Refused(OTHER_IN_CHECK);
     }
@@ -89,13 +95,13 @@ fn look_up_pawn(p: Position, table: &[u8], first: &[u8], second: &[u8]) -> Answe
     told(normal.via, byte, pawn_verdict(q, byte, table, first))
 }
 
-// One of pieces: whether the side that does not move is in check is asked of the normal place.
-fn look_up_pieces(p: Position, table: &[u8], first: &[u8], second: &[u8]) -> Answer
-    ensures { λ r. ⌜ (placingWith p ≡ 0 → (manKind p ≡ 4 → ⊥) → r ≡ lookUpWith (lent (now (first .entry)) (now (second .entry))) (now (table .entry)) p) ⌝ }
+// One of pieces that only refusal 6 may meet, by its normal place: whether the side that does not move is in check is asked there too.
+fn look_up_normal(normal: NormalPlace, table: &[u8], first: &[u8], second: &[u8]) -> Answer
+    ensures { λ r. ⌜ ((p : Position) → placingWith p ≡ 0 → (manKind p ≡ 4 → ⊥) → Normalises p normal → r ≡ lookUpWith (lent (now (first .entry)) (now (second .entry))) (now (table .entry)) p) ⌝ }
 {
-    let normal = normal_place(p);
     let m = normal.men;
     let q = normal.place;
+    let via = normal.via;
     if checked(m, q, other(q.side)) {
         return Answer::Refused(OTHER_IN_CHECK);
     }
@@ -104,24 +110,26 @@ fn look_up_pieces(p: Position, table: &[u8], first: &[u8], second: &[u8]) -> Ans
     }
     let byte = byte_at(m, q, table);
     let verdict = verdict_on(m, q, byte, table, first, second);
-    told(normal.via, byte, verdict)
+    told(via, byte, verdict)
 }
 
 // The value, the depth and a move, by the table of the position's own ending and the lent ones; or a refusal, 1 to 7,
-// 11 or 18. It asks the normal position, so that one study has one move.
+// 11 or 18. It asks the normal position, so that one study has one move. The normal place is made before the refusals are
+// asked, from the bytes as they were handed over: a copy kept for later would be waited for.
 pub fn look_up_with(p: Position, table: &[u8], first: &[u8], second: &[u8]) -> Answer
     ensures { λ r. ⌜ r ≡ lookUpWith (lent (now (first .entry)) (now (second .entry))) (now (table .entry)) p ⌝ }
 {
-    let refusal = placing_with(p);
-    if refusal != 0 {
-        return Answer::Refused(refusal);
-    }
     let slot = p.first;
     let man = man_in(slot);
     if man.kind == PAWN {
         return look_up_pawn(p, table, first, second);
     }
-    look_up_pieces(p, table, first, second)
+    let normal = normal_place(p);
+    let refusal = placing_with(p);
+    if refusal != 0 {
+        return Answer::Refused(refusal);
+    }
+    look_up_normal(normal, table, first, second)
 }
 
 // The same for the parts that keep to three men, whose tables borrow none: two men are refused 1, and so is a

@@ -47,6 +47,11 @@ module _ (p : Position) (a c : Piece) (e : a ≡ manIn (p .first)) (f : c ≡ ma
   unfolding arrangedAs
   arranged-before t = sym (rw (← e, ← f, t))
 
+  pub arranged-chosen : (after : Bool) → after ≡ goesAfter a c → (x y : Piece) → x ≡ cond after c a → y ≡ cond after a c
+      → whiteFirst x y p ≡ arrangedAs p
+  arranged-chosen true g x y u v = ap₂ (λ (i j : Piece). whiteFirst i j p) u v ∙ arranged-after (sym g)
+  arranged-chosen false g x y u v = ap₂ (λ (i j : Piece). whiteFirst i j p) u v ∙ arranged-before (sym g)
+
 -- ---- the first man White's, in standard order: kinds j and k, colours c and d
 
 in-place : (s : ℕ) → mapped (swapping false) s ≡ s
