@@ -44,10 +44,11 @@ pub record Passes (t : List ℕ) (byte from r : ℕ) : Type 0 where
   pub inside : r ≤ length t
   pub none : NoneFrom t byte from r
 
--- the first number from `from` on that holds the byte; the table's end where there is none
-pub record FirstAt (t : List ℕ) (byte from r : ℕ) : Type 0 where
+-- the first number from `from` on that holds the byte, before `end`; `end` where there is none
+pub record FirstAt (t : List ℕ) (byte from end r : ℕ) : Type 0 where
   pub passes : Passes t byte from r
-  pub here : r < length t → getD t r 0 ≡ byte
+  pub upto : r ≤ end
+  pub here : r < end → getD t r 0 ≡ byte
 
 -- what a pass that works back is given: the men are pieces, and below depth k nothing is left to settle
 abbrev pub Backwards : Men → List ℕ → List ℕ → ℕ → List ℕ → Type 0
