@@ -105,7 +105,7 @@ fn others_strike(m: Men, q: Place, occ: u64, owner: u8, to: u8, t: u8) -> bool
 }
 
 // What stood there before the move, but for the piece that moved: where it took a man, he stood on its target.
-fn stood_before(occ: u64, taken: u8, to: u8) -> u64
+pub fn stood_before(occ: u64, taken: u8, to: u8) -> u64
     ensures { λ r. ⌜ ((u : ℕ) → u < 64 → has r u ≡ (has occ u && not (eqb taken 0 && eqb u to))) ⌝ }
 {
     if taken == 0 {

@@ -23,12 +23,12 @@ use Rattle.retracting.specs.laws.Back.{Free, free-after, occupied-before
 use Rattle.retracting.specs.laws.Sources.{free-empty, seat-free, side-before}
 use Rattle.retracting.specs.laws.Checks.{line-cut, line-own, quiet-man, legal-men, legal-kings}
 
-or-none : (a b : Bool) → (a || b) ≡ false → (a ≡ false) × (b ≡ false)
+pub or-none : (a b : Bool) → (a || b) ≡ false → (a ≡ false) × (b ≡ false)
 or-none true b e = absurd (subst T e tt)
 or-none false b e = (refl, e)
 
 -- the side to move's king is not the piece that moved
-off : (m : Men) (q : Place) (taken : ℕ) → LegalLeft m q taken → (kind owner to side : ℕ) → Seat m q kind owner to → side < 2 → owner ≡ 1 - side
+pub off : (m : Men) (q : Place) (taken : ℕ) → LegalLeft m q taken → (kind owner to side : ℕ) → Seat m q kind owner to → side < 2 → owner ≡ 1 - side
     → cond (eqb side 0) (q .white) (q .black) ≡ to → ⊥
 off m q taken w kind owner to zero Seat.white h e z = absurd (omega (arith, e))
 off m q taken w kind owner to (suc zero) Seat.white h e z = w .white-black (sym z)
@@ -40,7 +40,7 @@ off m q taken w kind owner to zero Seat.second h e z = w .white-second z
 off m q taken w kind owner to (suc zero) Seat.second h e z = w .black-second z
 off m q taken w kind owner to (suc (suc n)) seat h e z = absurd (omega arith)
 
-still-king : (q : Place) (to s side k : ℕ) → k ≡ cond (eqb side 0) (q .white) (q .black) → (k ≡ to → ⊥)
+pub still-king : (q : Place) (to s side k : ℕ) → k ≡ cond (eqb side 0) (q .white) (q .black) → (k ≡ to → ⊥)
     → cond (eqb side 0) (carried to s (q .white)) (carried to s (q .black)) ≡ k
 still-king q to s side k e n = go (eqb side 0) e
   where
@@ -73,6 +73,45 @@ seat-there m q kind owner to h seat = occupied-men m q to h ∙ go kind owner to
           or-true (eqb (q .second) (q .black)),
         ) (or-true (eqb (q .second) (q .white)))
 
+-- what stands before the move, but for the piece that moved
+module _ (m : Men) (q : Place) (taken : ℕ) (w : LegalLeft m q taken) (kind owner to s : ℕ) (seat : Seat m q kind owner to) (lt : to < 64)
+    (ls : s < 64) (f : Free q s) (stood : ℕ → Bool)
+    (et : (u : ℕ) → u < 64 → stood u ≡ (occupied (boardIn m q) u && not (eqb taken 0 && eqb u to))) where
+  abbrev held : ℕ → Bool
+  held = occupied (boardIn m (placeBefore q taken s to))
+
+  -- the target before the move: free, or the man taken stood there
+  at-target : (i : ℕ) → Missing m q i
+      → occupied (boardIn m (placeBefore q i s to)) to ≡ (occupied (boardIn m q) to && not (eqb i 0 && eqb to to))
+  unfolding putAgain placeAfter
+  at-target i (Missing.nobody a b) =
+      free-empty m (placeAfter q to s) to lt (free-after q to s lt (seat-free m q kind owner to s seat f))
+      ∙ sym (rw (eq-eqb to to refl) (and-false (occupied (boardIn m q) to)))
+  at-target i (Missing.first a b c) =
+      seat-there m (placeBefore q 1 s to) (m .first) 0 to lt Seat.first
+      ∙ sym (and-true (occupied (boardIn m q) to) ∙ seat-there m q kind owner to lt seat)
+  at-target i (Missing.second a b c) =
+      seat-there m (placeBefore q 2 s to) (m .second) (m .colour) to lt Seat.second
+      ∙ sym (and-true (occupied (boardIn m q) to) ∙ seat-there m q kind owner to lt seat)
+
+  pub stood-then : (u : ℕ) → u < 64 → (u ≡ s → ⊥) → held u ≡ stood u
+  stood-then u l n = go (decided (eqb u to))
+    where
+      off-target : (x : Bool) → (x && eqb u to) ≡ false → (occupied (boardIn m q) u && not (x && eqb u to)) ≡ occupied (boardIn m q) u
+      off-target x e = rw e (and-true (occupied (boardIn m q) u))
+
+      go : T (eqb u to) ⊎ T (not (eqb u to)) → held u ≡ stood u
+      go (inl x) =
+          let e = eqb→eq u to x in
+          subst⁻¹ (λ (v : ℕ). held v ≡ stood v) e (at-target taken (w .missing) ∙ sym (et to lt))
+      go (inr x) =
+          let z : eqb u to ≡ false = false-of x in
+          occupied-before m q taken s to u (w .missing) l (eqb-false u to z) n
+          ∙ sym (et u l ∙ off-target (eqb taken 0) (rw z (and-false (eqb taken 0))))
+
+  pub stood-free : stood s ≡ false
+  stood-free = et s ls ∙ rw (free-empty m q s ls f)
+
 module _ (m : Men) (q : Place) (taken : ℕ) (w : LegalLeft m q taken) (kind owner to s : ℕ) (seat : Seat m q kind owner to)
     (mover : owner ≡ 1 - q .side) (lost : (taken ≡ 0 → ⊥) → loser m taken ≡ q .side)
     (h : T (reaches (occupied (boardIn m q)) kind to s)) (f : Free q s) (k : ℕ)
@@ -97,37 +136,11 @@ module _ (m : Men) (q : Place) (taken : ℕ) (w : LegalLeft m q taken) (kind own
   king-off : k ≡ to → ⊥
   king-off z = off m q taken w kind owner to (q .side) seat (w .side) mover (sym ek ∙ z)
 
-  -- the target before the move: free, or the man taken stood there
-  at-target : (i : ℕ) → Missing m q i
-      → occupied (boardIn m (placeBefore q i s to)) to ≡ (occupied (boardIn m q) to && not (eqb i 0 && eqb to to))
-  unfolding putAgain placeAfter
-  at-target i (Missing.nobody a b) =
-      free-empty m (placeAfter q to s) to lt (free-after q to s lt differ)
-      ∙ sym (rw (eq-eqb to to refl) (and-false (occupied (boardIn m q) to)))
-  at-target i (Missing.first a b c) =
-      seat-there m (placeBefore q 1 s to) (m .first) 0 to lt Seat.first
-      ∙ sym (and-true (occupied (boardIn m q) to) ∙ seat-there m q kind owner to lt seat)
-  at-target i (Missing.second a b c) =
-      seat-there m (placeBefore q 2 s to) (m .second) (m .colour) to lt Seat.second
-      ∙ sym (and-true (occupied (boardIn m q) to) ∙ seat-there m q kind owner to lt seat)
-
   same : (u : ℕ) → u < 64 → (u ≡ s → ⊥) → occ u ≡ stood u
-  same u l n = go (decided (eqb u to))
-    where
-      off-target : (x : Bool) → (x && eqb u to) ≡ false → (occupied (boardIn m q) u && not (x && eqb u to)) ≡ occupied (boardIn m q) u
-      off-target x e = rw e (and-true (occupied (boardIn m q) u))
-
-      go : T (eqb u to) ⊎ T (not (eqb u to)) → occ u ≡ stood u
-      go (inl x) =
-          let e = eqb→eq u to x in
-          subst⁻¹ (λ (v : ℕ). occ v ≡ stood v) e (at-target taken (w .missing) ∙ sym (et to lt))
-      go (inr x) =
-          let z : eqb u to ≡ false = false-of x in
-          occupied-before m q taken s to u (w .missing) l (eqb-false u to z) n
-          ∙ sym (et u l ∙ off-target (eqb taken 0) (rw z (and-false (eqb taken 0))))
+  same = stood-then m q taken w kind owner to s seat lt ls f stood et
 
   gone : stood s ≡ false
-  gone = et s ls ∙ rw (free-empty m q s ls f)
+  gone = stood-free m q taken w kind owner to s seat lt ls f stood et
 
   side-there : o .side ≡ 1 - q .side
   side-there = side-before q taken s to
