@@ -1,12 +1,13 @@
--- Where no other man of the mover has a line to the king, the place before a move is legal exactly if the piece did not attack him from there.
+-- Where no other man of the mover has a line to the king, the place before a move is legal exactly if the piece did not attack him from there; where one has,
+-- only if the piece stood between.
 use mathlib.Core.Path.{_≡_, refl, sym, ap, ap₂, subst, subst⁻¹, _∙_}
 use mathlib.Core.Bool.{Bool, true, false, cond, not, _&&_, _||_, or-true, or-false, and-true, and-false}
-use mathlib.Core.Logic.{_⊎_, inl, inr}
+use mathlib.Core.Logic.{_⊎_, inl, inr, ⊎-elim}
 use Prim.Native.Nat.{ℕ, zero, suc, _-_, _<_}
 use native.Mathlib.Omega.{arith}
 use lib.Dec.{T, eqb, eqb→eq}
 use borrow.Author.Tests.{eq-eqb, ne-eqb, eqb-false}
-use Rattle.finite.specs.Truth.{decided, false-of}
+use Rattle.finite.specs.Truth.{decided, true-of, false-of, fails, refuted}
 use Rattle.board.specs.Reach.{reaches}
 use Rattle.board.specs.laws.ReachLaws.{reaches-squares, king-reaches}
 use Rattle.symmetry.specs.laws.Opposite.{reaches-sym}
@@ -21,7 +22,7 @@ use Rattle.movegen.specs.laws.Places.{occupied-men}
 use Rattle.retracting.specs.Retracting.{Missing, LegalLeft, Seat, loser, putAgain, placeBefore, CompleteApart, othersStrike}
 use Rattle.retracting.specs.laws.Back.{Free, free-after, occupied-before}
 use Rattle.retracting.specs.laws.Sources.{free-empty, seat-free, side-before}
-use Rattle.retracting.specs.laws.Checks.{line-cut, line-own, quiet-man, legal-men, legal-kings}
+use Rattle.retracting.specs.laws.Checks.{line-cut, line-own, reaches-met, quiet-man, legal-men, legal-kings}
 
 pub or-none : (a b : Bool) → (a || b) ≡ false → (a ≡ false) × (b ≡ false)
 or-none true b e = absurd (subst T e tt)
@@ -116,8 +117,7 @@ module _ (m : Men) (q : Place) (taken : ℕ) (w : LegalLeft m q taken) (kind own
     (mover : owner ≡ 1 - q .side) (lost : (taken ≡ 0 → ⊥) → loser m taken ≡ q .side)
     (h : T (reaches (occupied (boardIn m q)) kind to s)) (f : Free q s) (k : ℕ)
     (ek : k ≡ cond (eqb (q .side) 0) (q .white) (q .black)) (stood : ℕ → Bool)
-    (et : (u : ℕ) → u < 64 → stood u ≡ (occupied (boardIn m q) u && not (eqb taken 0 && eqb u to)))
-    (none : othersStrike m q stood (1 - q .side) to k ≡ false) where
+    (et : (u : ℕ) → u < 64 → stood u ≡ (occupied (boardIn m q) u && not (eqb taken 0 && eqb u to))) where
   abbrev o : Place
   o = placeBefore q taken s to
 
@@ -168,41 +168,6 @@ module _ (m : Men) (q : Place) (taken : ℕ) (w : LegalLeft m q taken) (kind own
       ap₂ (λ (i j : ℕ). (eqb 0 (1 - q .side) && reaches occ (m .first) i k) || (eqb (m .colour) (1 - q .side) && reaches occ (m .second) j k))
       e d
 
-  quiet : ((eqb 0 (1 - q .side) && not (eqb (q .first) to)) && reaches stood (m .first) (q .first) k ≡ false)
-      × ((eqb (m .colour) (1 - q .side) && not (eqb (q .second) to)) && reaches stood (m .second) (q .second) k ≡ false)
-  quiet = or-none _ _ none
-
-  -- the first man, not the one who moved: he stays, or was taken
-  abbrev First : ℕ → Type 0
-  First x = (o .first ≡ x) × ((eqb 0 (1 - q .side) && reaches occ (m .first) x k) ≡ false)
-
-  first-else : (q .first ≡ to → ⊥) → (x : ℕ) × First x
-  unfolding putAgain placeAfter
-  first-else n = go taken (w .missing) refl
-    where
-      go : (i : ℕ) → Missing m q i → i ≡ taken → (x : ℕ) × First x
-      go i (Missing.nobody a b) e =
-          (q .first, (subst (λ (i : ℕ). placeBefore q i s to .first ≡ q .first) e (stays to s (q .first) (f .first) n), other 0 (m .first) (q .first) n (quiet .0)))
-      go i (Missing.first a b c) e =
-          (to, (subst (λ (i : ℕ). placeBefore q i s to .first ≡ to) e refl, victim 0 (m .first) to (subst (λ (i : ℕ). (i ≡ 0 → ⊥) → loser m i ≡ q .side) (sym e) lost (λ z. omega (arith, z)))))
-      go i (Missing.second a b c) e =
-          (q .first, (subst (λ (i : ℕ). placeBefore q i s to .first ≡ q .first) e (stays to s (q .first) (f .first) n), other 0 (m .first) (q .first) n (quiet .0)))
-
-  abbrev Second : ℕ → Type 0
-  Second y = (o .second ≡ y) × ((eqb (m .colour) (1 - q .side) && reaches occ (m .second) y k) ≡ false)
-
-  second-else : (q .second ≡ to → ⊥) → (y : ℕ) × Second y
-  unfolding putAgain placeAfter
-  second-else n = go taken (w .missing) refl
-    where
-      go : (i : ℕ) → Missing m q i → i ≡ taken → (y : ℕ) × Second y
-      go i (Missing.nobody a b) e =
-          (q .second, (subst (λ (i : ℕ). placeBefore q i s to .second ≡ q .second) e (stays to s (q .second) (f .second) n), other (m .colour) (m .second) (q .second) n (quiet .1)))
-      go i (Missing.first a b c) e =
-          (q .second, (subst (λ (i : ℕ). placeBefore q i s to .second ≡ q .second) e (stays to s (q .second) (f .second) n), other (m .colour) (m .second) (q .second) n (quiet .1)))
-      go i (Missing.second a b c) e =
-          (to, (subst (λ (i : ℕ). placeBefore q i s to .second ≡ to) e refl, victim (m .colour) (m .second) to (subst (λ (i : ℕ). (i ≡ 0 → ⊥) → loser m i ≡ q .side) (sym e) lost (λ z. omega (arith, z)))))
-
   -- he is the one who moved
   first-goes : q .first ≡ to → o .first ≡ s
   unfolding putAgain placeAfter
@@ -236,15 +201,6 @@ module _ (m : Men) (q : Place) (taken : ℕ) (w : LegalLeft m q taken) (kind own
   unfolding touching boardOf posed
   touch = ap₂ (reaches (λ u. false) 5) (kings-there .0) (kings-there .1)
 
-  -- the king moved
-  by-king : (q .first ≡ to → ⊥) → (q .second ≡ to → ⊥) → touching (boardIn m o) ≡ reaches stood 5 k s → CompleteApart m o
-      → legal (boardIn m o) ≡ not (reaches stood 5 k s)
-  by-king a b e c =
-      let x = first-else a in
-      let y = second-else b in
-      legal-kings m o (q .side) (w .side) side-there k king-there c
-      (strike-by (x .0) (y .0) (x .1 .0) (y .1 .0) ∙ ap₂ _||_ (x .1 .1) (y .1 .1)) (reaches stood 5 k s) e
-
   -- a man moved
   men-apart : (q .white ≡ to → ⊥) → (q .black ≡ to → ⊥) → touching (boardIn m o) ≡ false
   men-apart a b =
@@ -267,29 +223,114 @@ module _ (m : Men) (q : Place) (taken : ℕ) (w : LegalLeft m q taken) (kind own
   foe-king (suc zero) h e = ((λ z. e), λ z. absurd (omega arith))
   foe-king (suc (suc n)) h e = absurd (omega arith)
 
-  pub legal-before : CompleteApart m o → legal (boardIn m o) ≡ not (reaches stood kind k s)
-  legal-before c = go kind owner to seat refl refl refl
+  -- ---- another man strikes, and the piece does not stand between
+
+  strikes-on : (j a : ℕ) → T (reaches stood j a k) → (T (reaches stood j a s) → T (reaches stood j k s) → ⊥) → T (reaches occ j a k)
+  strikes-on j a r n = ⊎-elim
+      (λ x. x)
+      (λ x. ⊎-elim
+      (λ y. subst T (reaches-sym occ j k a) y) (λ y. absurd (n x y)) (reaches-met occ stood s a same gone j k (subst T (reaches-sym stood j a k) r)))
+      (reaches-met occ stood s k same gone j a r)
+
+  struck : menStrike m o occ (1 - q .side) k ≡ true → CompleteApart m o → legal (boardIn m o) ≡ false
+  struck e c = fails (legal (boardIn m o)) (λ l.
+      refuted (legal-men m o (q .side) (w .side) side-there k king-there c (legal-facts (boardIn m o) l .kings) true e) l)
+
+  pub first-strikes : 0 ≡ 1 - q .side → (q .first ≡ to → ⊥) → T (reaches stood (m .first) (q .first) k)
+      → (T (reaches stood (m .first) (q .first) s) → T (reaches stood (m .first) k s) → ⊥) → CompleteApart m o → legal (boardIn m o) ≡ false
+  unfolding putAgain placeAfter
+  first-strikes e n r d =
+      let y : reaches occ (m .first) (q .first) k ≡ true = true-of (strikes-on (m .first) (q .first) r d) in
+      struck (strike-by (q .first) (o .second) (there taken (w .missing)) refl ∙ rw (eq-eqb 0 (1 - q .side) e, y))
     where
-      go : (i j t : ℕ) → Seat m q i j t → i ≡ kind → j ≡ owner → t ≡ to → legal (boardIn m o) ≡ not (reaches stood kind k s)
-      go i j t Seat.white ei ej et =
-          by-king (λ z. w .white-first (et ∙ sym z)) (λ z. w .white-second (et ∙ sym z))
-          (white-near et (sym (foe-king (q .side) (w .side) ek .0 (ej ∙ mover)))) c
-          ∙ ap (λ (x : ℕ). not (reaches stood x k s)) ei
-      go i j t Seat.black ei ej et =
-          by-king (λ z. w .black-first (et ∙ sym z)) (λ z. w .black-second (et ∙ sym z))
-          (black-near et (sym (foe-king (q .side) (w .side) ek .1 (ej ∙ mover)))) c
-          ∙ ap (λ (x : ℕ). not (reaches stood x k s)) ei
-      go i j t Seat.first ei ej et =
-          let y = second-else (λ z. w .first-second (et ∙ sym z)) in
-          legal-men m o (q .side) (w .side) side-there k king-there c
-          (men-apart (λ z. w .white-first (z ∙ sym et)) (λ z. w .black-first (z ∙ sym et))) (reaches stood (m .first) k s)
-          (strike-by s (y .0) (first-goes et) (y .1 .0)
-          ∙ ap₂ _||_ (own 0 (m .first) (ej ∙ mover)) (y .1 .1) ∙ or-false (reaches stood (m .first) k s))
-          ∙ ap (λ (x : ℕ). not (reaches stood x k s)) ei
-      go i j t Seat.second ei ej et =
-          let x = first-else (λ z. w .first-second (z ∙ sym et)) in
-          legal-men m o (q .side) (w .side) side-there k king-there c
-          (men-apart (λ z. w .white-second (z ∙ sym et)) (λ z. w .black-second (z ∙ sym et))) (reaches stood (m .second) k s)
-          (strike-by (x .0) s (x .1 .0) (second-goes et)
-          ∙ ap₂ _||_ (x .1 .1) (own (m .colour) (m .second) (ej ∙ mover)))
-          ∙ ap (λ (x : ℕ). not (reaches stood x k s)) ei
+      there : (i : ℕ) → Missing m q i → placeBefore q i s to .first ≡ q .first
+      there i (Missing.nobody a b) = stays to s (q .first) (f .first) n
+      there i (Missing.first a b c) = let x = reaches-squares stood (m .first) (q .first) k r .0 in absurd (omega (arith, a, x))
+      there i (Missing.second a b c) = stays to s (q .first) (f .first) n
+
+  pub second-strikes : m .colour ≡ 1 - q .side → (q .second ≡ to → ⊥) → T (reaches stood (m .second) (q .second) k)
+      → (T (reaches stood (m .second) (q .second) s) → T (reaches stood (m .second) k s) → ⊥) → CompleteApart m o → legal (boardIn m o) ≡ false
+  unfolding putAgain placeAfter
+  second-strikes e n r d =
+      let y : reaches occ (m .second) (q .second) k ≡ true = true-of (strikes-on (m .second) (q .second) r d) in
+      struck (strike-by (o .first) (q .second) refl (there taken (w .missing))
+      ∙ rw (eq-eqb (m .colour) (1 - q .side) e, y) (or-true (eqb 0 (1 - q .side) && reaches occ (m .first) (o .first) k)))
+    where
+      there : (i : ℕ) → Missing m q i → placeBefore q i s to .second ≡ q .second
+      there i (Missing.nobody a b) = stays to s (q .second) (f .second) n
+      there i (Missing.first a b c) = stays to s (q .second) (f .second) n
+      there i (Missing.second a b c) = let x = reaches-squares stood (m .second) (q .second) k r .0 in absurd (omega (arith, b, x))
+
+  -- ---- no other man strikes
+
+  module _ (none : othersStrike m q stood (1 - q .side) to k ≡ false) where
+    quiet : ((eqb 0 (1 - q .side) && not (eqb (q .first) to)) && reaches stood (m .first) (q .first) k ≡ false)
+        × ((eqb (m .colour) (1 - q .side) && not (eqb (q .second) to)) && reaches stood (m .second) (q .second) k ≡ false)
+    quiet = or-none _ _ none
+
+    -- the first man, not the one who moved: he stays, or was taken
+    abbrev First : ℕ → Type 0
+    First x = (o .first ≡ x) × ((eqb 0 (1 - q .side) && reaches occ (m .first) x k) ≡ false)
+
+    first-else : (q .first ≡ to → ⊥) → (x : ℕ) × First x
+    unfolding putAgain placeAfter
+    first-else n = go taken (w .missing) refl
+      where
+        go : (i : ℕ) → Missing m q i → i ≡ taken → (x : ℕ) × First x
+        go i (Missing.nobody a b) e =
+            (q .first, (subst (λ (i : ℕ). placeBefore q i s to .first ≡ q .first) e (stays to s (q .first) (f .first) n), other 0 (m .first) (q .first) n (quiet .0)))
+        go i (Missing.first a b c) e =
+            (to, (subst (λ (i : ℕ). placeBefore q i s to .first ≡ to) e refl, victim 0 (m .first) to (subst (λ (i : ℕ). (i ≡ 0 → ⊥) → loser m i ≡ q .side) (sym e) lost (λ z. omega (arith, z)))))
+        go i (Missing.second a b c) e =
+            (q .first, (subst (λ (i : ℕ). placeBefore q i s to .first ≡ q .first) e (stays to s (q .first) (f .first) n), other 0 (m .first) (q .first) n (quiet .0)))
+
+    abbrev Second : ℕ → Type 0
+    Second y = (o .second ≡ y) × ((eqb (m .colour) (1 - q .side) && reaches occ (m .second) y k) ≡ false)
+
+    second-else : (q .second ≡ to → ⊥) → (y : ℕ) × Second y
+    unfolding putAgain placeAfter
+    second-else n = go taken (w .missing) refl
+      where
+        go : (i : ℕ) → Missing m q i → i ≡ taken → (y : ℕ) × Second y
+        go i (Missing.nobody a b) e =
+            (q .second, (subst (λ (i : ℕ). placeBefore q i s to .second ≡ q .second) e (stays to s (q .second) (f .second) n), other (m .colour) (m .second) (q .second) n (quiet .1)))
+        go i (Missing.first a b c) e =
+            (q .second, (subst (λ (i : ℕ). placeBefore q i s to .second ≡ q .second) e (stays to s (q .second) (f .second) n), other (m .colour) (m .second) (q .second) n (quiet .1)))
+        go i (Missing.second a b c) e =
+            (to, (subst (λ (i : ℕ). placeBefore q i s to .second ≡ to) e refl, victim (m .colour) (m .second) to (subst (λ (i : ℕ). (i ≡ 0 → ⊥) → loser m i ≡ q .side) (sym e) lost (λ z. omega (arith, z)))))
+
+    -- the king moved
+    by-king : (q .first ≡ to → ⊥) → (q .second ≡ to → ⊥) → touching (boardIn m o) ≡ reaches stood 5 k s → CompleteApart m o
+        → legal (boardIn m o) ≡ not (reaches stood 5 k s)
+    by-king a b e c =
+        let x = first-else a in
+        let y = second-else b in
+        legal-kings m o (q .side) (w .side) side-there k king-there c
+        (strike-by (x .0) (y .0) (x .1 .0) (y .1 .0) ∙ ap₂ _||_ (x .1 .1) (y .1 .1)) (reaches stood 5 k s) e
+
+    pub legal-before : CompleteApart m o → legal (boardIn m o) ≡ not (reaches stood kind k s)
+    legal-before c = go kind owner to seat refl refl refl
+      where
+        go : (i j t : ℕ) → Seat m q i j t → i ≡ kind → j ≡ owner → t ≡ to → legal (boardIn m o) ≡ not (reaches stood kind k s)
+        go i j t Seat.white ei ej et =
+            by-king (λ z. w .white-first (et ∙ sym z)) (λ z. w .white-second (et ∙ sym z))
+            (white-near et (sym (foe-king (q .side) (w .side) ek .0 (ej ∙ mover)))) c
+            ∙ ap (λ (x : ℕ). not (reaches stood x k s)) ei
+        go i j t Seat.black ei ej et =
+            by-king (λ z. w .black-first (et ∙ sym z)) (λ z. w .black-second (et ∙ sym z))
+            (black-near et (sym (foe-king (q .side) (w .side) ek .1 (ej ∙ mover)))) c
+            ∙ ap (λ (x : ℕ). not (reaches stood x k s)) ei
+        go i j t Seat.first ei ej et =
+            let y = second-else (λ z. w .first-second (et ∙ sym z)) in
+            legal-men m o (q .side) (w .side) side-there k king-there c
+            (men-apart (λ z. w .white-first (z ∙ sym et)) (λ z. w .black-first (z ∙ sym et))) (reaches stood (m .first) k s)
+            (strike-by s (y .0) (first-goes et) (y .1 .0)
+            ∙ ap₂ _||_ (own 0 (m .first) (ej ∙ mover)) (y .1 .1) ∙ or-false (reaches stood (m .first) k s))
+            ∙ ap (λ (x : ℕ). not (reaches stood x k s)) ei
+        go i j t Seat.second ei ej et =
+            let x = first-else (λ z. w .first-second (z ∙ sym et)) in
+            legal-men m o (q .side) (w .side) side-there k king-there c
+            (men-apart (λ z. w .white-second (z ∙ sym et)) (λ z. w .black-second (z ∙ sym et))) (reaches stood (m .second) k s)
+            (strike-by (x .0) s (x .1 .0) (second-goes et)
+            ∙ ap₂ _||_ (x .1 .1) (own (m .colour) (m .second) (ej ∙ mover)))
+            ∙ ap (λ (x : ℕ). not (reaches stood x k s)) ei
