@@ -4,7 +4,7 @@ use super::bare::Bare;
 use super::board::{has, one, squares, targets};
 use super::moves::{checked, mated, required, requires, spoils, Tables};
 use super::numbers::{is_used, number, place, Frame, Line, LARGE, SMALL};
-use super::retract::{before, sources, Taken};
+use super::retract::{before, sources, stood, Taken};
 use super::{Men, Place, KING, OFF};
 
 /// The first depth that no byte holds.
@@ -73,14 +73,19 @@ impl Filling<'_> {
         1
     }
 
-    /// Does another move of a piece that was put back, taking nothing, spare its side the loss? A
+    /// The number of the place before the move from a square.
+    fn number_before(&self, q: Place, moved: Moved, from: u8) -> usize {
+        match moved.line {
+            Some(line) => line.number(from),
+            None => number(self.men, before(q, from, moved.to, moved.taken)),
+        }
+    }
+
+    /// The first of these squares of a piece that was put back which spares its side the loss: a
     /// byte other than 0 stands at legal places only.
-    fn spared(&self, place: Place, k: u8, kind: u8, from: u8, after: Option<Line>) -> bool {
-        let occupied = place.occupied();
-        let free = targets(occupied, kind, from) & !occupied;
-        let near = if kind == KING { targets(0, KING, place.king(1 - place.side)) } else { 0 };
-        squares(free & !near).any(|to| {
-            let n = match after {
+    fn saviour(&self, place: Place, k: u8, from: u8, line: Option<Line>, goals: u64) -> Option<u8> {
+        squares(goals).find(|&to| {
+            let n = match line {
                 Some(line) => line.number(to),
                 None => number(self.men, place.moved(from, to)),
             };
@@ -88,27 +93,54 @@ impl Filling<'_> {
         })
     }
 
-    /// Is the place lost in k? The piece's own other moves are read first.
-    fn confirmed(&self, place: Place, k: u8, kind: u8, from: u8, after: Option<Line>) -> bool {
-        !self.spared(place, k, kind, from, after) && requires(self.men, place, k, self.tables())
-    }
-
-    /// The places before a piece's moves to one of depth k - 1: each that holds 1 is won in k, or
-    /// lost if the others say so.
-    fn try_each(&mut self, q: Place, k: u8, moved: Moved, from: u64) -> u32 {
-        let Moved { kind, to, taken, line, after } = moved;
+    /// The places before a piece's moves to one of depth k - 1, k odd: each that holds 1 is won in k.
+    fn win_each(&mut self, q: Place, k: u8, moved: Moved, from: u64) -> u32 {
         let tried = |from| {
-            let n = match line {
-                Some(line) => line.number(from),
-                None => number(self.men, before(q, from, to, taken)),
-            };
-            let lost = || self.confirmed(before(q, from, to, taken), k, kind, from, after);
-            if self.table[n] != 1 || k % 2 == 0 && !lost() {
-                return 0;
+            let n = self.number_before(q, moved, from);
+            if self.table[n] == 1 {
+                self.settle(n, k)
+            } else {
+                0
             }
-            self.settle(n, k)
         };
         squares(from).map(tried).sum()
+    }
+
+    /// The same, k even: each is lost if the others say so. The piece's own other moves are read
+    /// first: what stands after them is the same wherever it came from, so that a square which
+    /// spares its side does so from all that it is reached from, and none is read twice.
+    fn lose_each(&mut self, q: Place, k: u8, moved: Moved, from: u64) -> u32 {
+        let Moved { kind, to, taken, after, .. } = moved;
+        let stood = stood(q, to, taken);
+        let near = if kind == KING { targets(0, KING, q.king(q.side)) } else { 0 };
+        let (mut settled, mut seen, mut rest) = (0, 0, from);
+        while let Some(from) = squares(rest).next() {
+            rest &= !one(from);
+            let n = self.number_before(q, moved, from);
+            if self.table[n] != 1 {
+                continue;
+            }
+            let place = before(q, from, to, taken);
+            let goals = targets(stood, kind, from) & !stood & !near & !seen;
+            if let Some(square) = self.saviour(place, k, from, after, goals) {
+                seen |= goals & (one(square) - 1);
+                rest &= !targets(stood, kind, square);
+                continue;
+            }
+            seen |= goals;
+            if requires(self.men, place, k, self.tables()) {
+                settled += self.settle(n, k);
+            }
+        }
+        settled
+    }
+
+    fn try_each(&mut self, q: Place, k: u8, moved: Moved, from: u64) -> u32 {
+        if k % 2 == 0 {
+            self.lose_each(q, k, moved, from)
+        } else {
+            self.win_each(q, k, moved, from)
+        }
     }
 
     /// A man's squares: the kings stand still, and where nothing is exchanged the numbers lie at
@@ -164,7 +196,7 @@ impl Filling<'_> {
             }
             if has(goals, bare.first) || has(goals, bare.second) {
                 let place = before(q, from, to, taken);
-                let lost = self.confirmed(place, k, KING, from, None);
+                let lost = requires(men, place, k, self.tables());
                 return if lost { self.settle(n, k) } else { 0 };
             }
             if goals & saving != 0 {

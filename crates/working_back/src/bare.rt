@@ -3,7 +3,6 @@
 use super::known::bare_number;
 use super::known::byte_of;
 use super::known::look;
-use super::lines::no_line;
 use super::trying::confirm;
 use board::has as has_square;
 use board::lowest;
@@ -116,21 +115,7 @@ fn lose_one(
         return kept;
     }
     if takes | has_square(goals, y) {
-        let line = no_line();
-        let settled = confirm(
-            m,
-            k,
-            q,
-            taken,
-            KING,
-            s,
-            to,
-            n,
-            line,
-            first,
-            second,
-            &mut *table,
-        );
+        let settled = confirm(m, k, q, taken, s, to, n, first, second, &mut *table);
         return Lost {
             settled,
             saving,

@@ -5,7 +5,6 @@ use mathlib.Core.Bool.{_||_}
 use borrow.Author.Needs.{needs}
 use Rattle.retracting.specs.Retracting.{placeBefore}
 use Rattle.working_back.specs.laws.Places.{tried-other}
-use Rattle.working_back.specs.laws.BareMoves.{bare-seat}
 use Rattle.working_back.specs.laws.BareLost.{bare-at, both-told, first-on, bare-drawn, goal-seated, bare-quiet, held-inside, knows-kept}
 use Rattle.working_back.proofs.bare.lose_one.Statement.{statement}
 use Rattle.working_back.proofs.bare.lose_one.Tie as tie
@@ -65,27 +64,24 @@ returns-2 c =
 has-requires-2 : tie.Need-has-requires-2
 has-requires-2 c κs = tt
 
-no-line-requires : tie.Need-no-line-requires
-no-line-requires c κs = tt
-
 confirm-requires : tie.Need-confirm-requires
 confirm-requires c κs =
-    let p = c .before .before .before .before .before .before .before .before .before .before .before .before .before .before .before .before .pre in
-    let x = c .before .before .before .before .before .before .before .before .before .before .before .before .before .before .before .before .args in
-    let r = c .before .before .before .before .before .before .before .before .before .before .before .before .bare-number in
+    let p = c .before .before .before .before .before .before .before .before .before .before .before .before .before .before .before .pre in
+    let x = c .before .before .before .before .before .before .before .before .before .before .before .before .before .before .before .args in
+    let r = c .before .before .before .before .before .before .before .before .before .before .before .bare-number in
     let z = bare-at (x .m) (x .q) (x .taken) (x .to) (x .white) (x .x) (x .y) (p .4) (x .s) (p .6) (r .result) (r .ensures) in
-    let b = c .before .before .before .before .before .before .before .before .before .before .byte-of in
-    let h = held-inside (x .table .now) (r .result) (b .result) (b .ensures) (c .before .before .before .before .before .before .before .before .before .if1 .left) in
-    let one = sym (b .ensures) ∙ c .before .before .before .before .before .before .before .before .before .if1 .left in
-    (p .0, p .1, p .3, p .6, p .4 .legal, bare-seat (p .4), c .before .no-line .ensures (x .m) (x .q) (x .taken) (x .to) .1, z, h, one)
+    let b = c .before .before .before .before .before .before .before .before .before .byte-of in
+    let h = held-inside (x .table .now) (r .result) (b .result) (b .ensures) (c .before .before .before .before .before .before .before .before .if1 .left) in
+    let one = sym (b .ensures) ∙ c .before .before .before .before .before .before .before .before .if1 .left in
+    (p .1, p .3, p .6, z, h, one)
 
 same-length-3 : tie.Need-same-length-3
 same-length-3 c = search needs
 
 returns-3 : tie.Need-returns-3
 returns-3 c =
-    let p = c .before .before .before .before .before .before .before .before .before .before .before .before .before .before .before .before .before .before .before .pre in
-    let x = c .before .before .before .before .before .before .before .before .before .before .before .before .before .before .before .before .before .before .before .args in
+    let p = c .before .before .before .before .before .before .before .before .before .before .before .before .before .before .before .before .before .before .pre in
+    let x = c .before .before .before .before .before .before .before .before .before .before .before .before .before .before .before .before .before .before .args in
     let w = c .before .before .confirm .ensures in
     (w, knows-kept (x .m) (x .k) (x .white) (x .x) (x .y) (p .2) (x .table .now) _ 1 _ (x .saving) (x .harmless) (w .0) (p .7))
 
@@ -128,4 +124,4 @@ pub lose-one-spec : {M : Type 1} → statement M
 lose-one-spec =
     tie.close
     (tie.spec bare-number-requires byte-of-requires same-length returns targets-requires minus-requires has-requires same-length-2
-    returns-2 has-requires-2 no-line-requires confirm-requires same-length-3 returns-3 lose-quiet-requires same-length-4 returns-4)
+    returns-2 has-requires-2 confirm-requires same-length-3 returns-3 lose-quiet-requires same-length-4 returns-4)
