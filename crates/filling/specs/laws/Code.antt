@@ -1,6 +1,6 @@
 -- Laws by which filling's code is proved: a number's verdict, and the starting bytes.
 use mathlib.Core.Path.{_≡_, refl, sym, _∙_}
-use mathlib.Core.Bool.{Bool, true, false, cond, not}
+use mathlib.Core.Bool.{Bool, false, cond}
 use mathlib.Core.List.{List}
 use Prim.Native.Nat.{ℕ}
 use lib.ListN.{getD}
@@ -27,12 +27,6 @@ module _ (m : Men) (first second t : List ℕ) (k n : ℕ) where
       → needs ≡ settles chess (over m first second) k t n
   unfolding settles numbered requiredOf
   verdict-required one needs e = e ∙ sym (rw (eq-eqb (getD t n 0) 1 one))
-
--- a position is legal unless the side not to move is in check
-pub not-checked : (check live : Bool) → (check ≡ true → live ≡ false) → (check ≡ false → live ≡ true)
-    → not check ≡ live
-not-checked true live f g = sym (f refl)
-not-checked false live f g = sym (g refl)
 
 -- ---- the starting bytes
 
