@@ -1,6 +1,7 @@
 -- Rows of 64 numbers, in which only the last man's square differs. Definitions only.
 use mathlib.Core.Path.{_≡_}
 use mathlib.Core.Bool.{false, cond, _||_}
+use mathlib.Core.List.{List}
 use Prim.Native.Nat.{ℕ, _+_, _*_, _/_, _<_}
 use lib.Dec.{leb, eqb}
 use Rattle.board.specs.Sets.{has}
@@ -11,6 +12,7 @@ use Rattle.position.specs.Posed.{boardIn, materialFor, Complete}
 use Rattle.index.specs.Least.{exchangeOf}
 use Rattle.index.specs.Seats.{StandsAt, alike}
 use Rattle.four_men.specs.Reading.{legalNumberOf}
+use Rattle.deciding.specs.Deciding.{requiredOf}
 
 -- the place at the first of the 64 numbers among which n is
 abbrev pub RowOf : Men → ℕ → Place → Type 0
@@ -41,6 +43,11 @@ LegalRow m n set = (s : ℕ) → s < 64 → has set s ≡ legalNumberOf (materia
 abbrev pub ChecksIn : Men → Place → ℕ → Type 0
 ChecksIn m q set = (s : ℕ) → s < 64 → Complete m (withLast m q s) → has set s ≡ false
     → inCheck (boardIn m (withLast m q s)) (q .side) ≡ false
+
+-- with the last man on any other square there is no mate, whatever bytes the tables hold
+abbrev pub MateRow : Men → ℕ → ℕ → Type 0
+MateRow m n set = (s : ℕ) → s < 64 → has set s ≡ false → (first second table : List ℕ)
+    → false ≡ requiredOf m first second table 0 (n / 64 * 64 + s)
 
 -- The pieces that stand still are apart, and nothing gives a lower number: no exchange of file and rank, or of men.
 pub record PlainRow (m : Men) (q : Place) : Type 0 where

@@ -21,7 +21,7 @@ ghost use Prim.Native.Nat.{_%_, _<_};
 ghost use lib.Dec.{T};
 ghost use Rattle.numbering.specs.Material.{known, sizeOf};
 ghost use Rattle.position.specs.Posed.{materialFor};
-ghost use Rattle.deciding.specs.Rows.{RowOf, lastKind, lastOwner, LegalRow, ChecksIn, PlainRow};
+ghost use Rattle.deciding.specs.Rows.{RowOf, lastKind, lastOwner, LegalRow, ChecksIn, MateRow, PlainRow};
 
 // Every square.
 const ALL: u64 = 18446744073709551615;
@@ -111,9 +111,9 @@ fn checked_row(m: Men, row: Place) -> u64
     struck_by(occ, last_kind(m), last_owner(m), king, foe)
 }
 
-// The same for the number's row.
+// The same for the number's row: there is no mate without them.
 pub fn checked_row_at(m: Men, row: Place, squares: u64, n: u32) -> u64
-    ensures { λ r. ⌜ (((n % 64 ≡ 0 → ⊥) → ChecksIn m row squares) → ChecksIn m row r) ⌝ }
+    ensures { λ r. ⌜ (RowOf m n row → ((n % 64 ≡ 0 → ⊥) → MateRow m n squares) → MateRow m n r) ⌝ }
 {
     if n % 64 == 0 {
         return checked_row(m, row);

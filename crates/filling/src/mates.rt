@@ -17,12 +17,12 @@ ghost use Rattle.table_theory.specs.Steps.{settledBy};
 ghost use Rattle.rules.specs.Chess.{chess};
 ghost use Rattle.numbering.specs.Material.{known};
 ghost use Rattle.position.specs.Posed.{materialFor};
-ghost use Rattle.deciding.specs.Rows.{RowOf, ChecksIn};
+ghost use Rattle.deciding.specs.Rows.{RowOf, MateRow};
 ghost use Rattle.working_back.specs.Admitted.{over, Admitted};
 ghost use Rattle.filling.specs.Settling.{Settle};
 
-// Settles the number if it is a mate; 1 if it did, and else 0. It looks no further where the row's squares have not the
-// last man's.
+// Settles the number if it is a mate; 1 if it did, and else 0. Where the last man's square is not in the row's set, it
+// is none.
 fn settle_checked(
     m: Men,
     row: Place,
@@ -32,7 +32,7 @@ fn settle_checked(
     second: &[u8],
     table: &mut [u8],
 ) -> u32
-    requires { ⌜ (n < length (now table)) × Admitted m (now first) (now second) (now table) × RowOf m n row × ChecksIn m row squares ⌝ }
+    requires { ⌜ (n < length (now table)) × Admitted m (now first) (now second) (now table) × RowOf m n row × MateRow m n squares ⌝ }
     ensures { λ r. ⌜ Settle chess (over m (now (first .entry)) (now (second .entry))) 0 (now (table .entry)) n r (now (table .exit)) ⌝ }
 {
     if !has(squares, (n % 64) as u8) {

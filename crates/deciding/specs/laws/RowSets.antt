@@ -27,8 +27,8 @@ use Rattle.index.specs.laws.CompleteLaws.{shared-complete, complete-seated}
 use Rattle.four_men.specs.Reading.{legalNumberOf}
 use Rattle.successors.specs.laws.NumberLaws.{found-unused, found-illegal, found-legal}
 use Rattle.deciding.specs.Deciding.{requiredOf}
-use Rattle.deciding.specs.Rows.{RowOf, withLast, lastKind, lastOwner, LegalRow, ChecksIn, PlainRow}
-use Rattle.deciding.specs.laws.Rows.{row-stands, row-square}
+use Rattle.deciding.specs.Rows.{RowOf, withLast, lastKind, lastOwner, LegalRow, ChecksIn, MateRow, PlainRow}
+use Rattle.deciding.specs.laws.Rows.{row-kept, row-square}
 use Rattle.deciding.specs.laws.SettlingLaws.{calm-required}
 use Rattle.deciding.specs.laws.LastMan.{free-square, shared-square, check-last}
 use Rattle.deciding.specs.laws.PlainRows.{plain-used}
@@ -115,17 +115,28 @@ legal-in-row m n set l =
     let e : n / 64 * 64 + n % 64 ≡ n = omega arith in
     l (n % 64) (omega arith) ∙ ap (legalNumberOf (materialFor m)) e
 
--- and at the next, if it is in the row
-pub legal-next : (m : Men) (n set : ℕ) → LegalRow m n set → ((n + 1) % 64 ≡ 0 → ⊥) → LegalRow m (n + 1) set
-legal-next m n set l h =
-    let e : n / 64 ≡ (n + 1) / 64 = omega arith in subst (λ (x : ℕ). (s : ℕ) → s < 64 → has set s ≡ legalNumberOf (materialFor m) (x * 64 + s)) e l
+pub mate-in-row : (m : Men) (n set : ℕ) → MateRow m n set → has set (n % 64) ≡ false → (first second table : List ℕ)
+    → false ≡ requiredOf m first second table 0 n
+mate-in-row m n set l z first second table =
+    let e : n / 64 * 64 + n % 64 ≡ n = omega arith in
+    l (n % 64) (omega arith) z first second table ∙ ap (requiredOf m first second table 0) e
 
-pub calm-in-row : (m : Men) (first second table : List ℕ) (n set : ℕ) (row : Place) → RowOf m n row → ChecksIn m row set
-    → has set (n % 64) ≡ false → false ≡ requiredOf m first second table 0 n
-calm-in-row m first second table n set row r calm z =
-    let a = row-stands m n row r in
-    calm-required m first second table 0 n (a .seated .ending) (withLast m row (n % 64)) a
-    (λ c. calm (n % 64) (omega arith) c z) refl
+-- and at the next, if it is in the row
+module _ (m : Men) (n set : ℕ) (h : (n + 1) % 64 ≡ 0 → ⊥) where
+  pub legal-next : LegalRow m n set → LegalRow m (n + 1) set
+  legal-next = row-kept (λ (x : ℕ). (s : ℕ) → s < 64 → has set s ≡ legalNumberOf (materialFor m) (x + s)) n h
+
+  pub mate-next : MateRow m n set → MateRow m (n + 1) set
+  mate-next =
+      row-kept
+      (λ (x : ℕ). (s : ℕ) → s < 64 → has set s ≡ false → (first second table : List ℕ)
+      → false ≡ requiredOf m first second table 0 (x + s)) n h
+
+-- no mate without a check
+pub mate-row : (m : Men) (n set : ℕ) (row : Place) → RowOf m n row → ChecksIn m row set → MateRow m n set
+mate-row m n set row r calm s h z first second table =
+    let a = row-square m n row r s h in
+    calm-required m first second table 0 (n / 64 * 64 + s) (a .seated .ending) (withLast m row s) a (λ c. calm s h c z) refl
 
 -- ---- a set gathered square by square
 

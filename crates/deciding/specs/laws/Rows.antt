@@ -57,6 +57,10 @@ module _ (side white black n : ℕ) where
       (ap (λ (b : Board). firstSquare (b .men)) e ∙ ap (λ (r : ℕ). r % 64) same-row)
       (ap (λ (b : Board). secondColour (b .men)) e))
 
+-- what is true of a row's first number is at the next number too, if it is in the row
+pub row-kept : (P : ℕ → Type 0) (n : ℕ) → ((n + 1) % 64 ≡ 0 → ⊥) → P (n / 64 * 64) → P ((n + 1) / 64 * 64)
+row-kept P n h p = let e : n / 64 * 64 ≡ (n + 1) / 64 * 64 = omega arith in subst P e p
+
 -- ---- the places of a row
 
 module _ (m : Men) (n : ℕ) (q : Place) (a : RowOf m n q) where
@@ -133,7 +137,7 @@ module _ (m : Men) (n : ℕ) (q : Place) (a : RowOf m n q) where
 
   -- the next number, if it is in the row
   pub row-next : ((n + 1) % 64 ≡ 0 → ⊥) → RowOf m (n + 1) q
-  row-next h = let e : n / 64 * 64 ≡ (n + 1) / 64 * 64 = omega arith in subst (λ (x : ℕ). StandsAt m x q) e a
+  row-next h = row-kept (λ (x : ℕ). StandsAt m x q) n h a
 
 -- another number of the row
 pub row-same : (m : Men) (n : ℕ) (q : Place) → RowOf m n q → (s : ℕ) → s < 64 → RowOf m (n / 64 * 64 + s) q

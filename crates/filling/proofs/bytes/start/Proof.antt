@@ -14,7 +14,10 @@ returns : tie.Need-returns
 returns c = search needs
 
 start-rows-requires : tie.Need-start-rows-requires
-start-rows-requires c κs = ?
+start-rows-requires c κs =
+    let e = c .before in
+    let s = e .before .before .before in
+    let p = s .pre in (given-known (s .args .m) (p .0) (e .if1 .left), p .1, p .2)
 
 same-length-2 : tie.Need-same-length-2
 same-length-2 c = search needs

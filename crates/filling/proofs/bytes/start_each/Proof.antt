@@ -60,7 +60,7 @@ loop-again c =
       simp length-set (omega arith),
       upto-more _ _ _ _ _ u (omega (arith, u .same-length, h))
           (c .first-byte .ensures
-          ∙ start-byte _ _ _ _ (a .is-legal-number .ensures (p .0) (p .1) (omega (arith, h, u .same-length, p .2)))),
+          ∙ start-byte _ _ 0 _ (a .is-legal-number .ensures (p .0) (p .1) (omega (arith, h, u .same-length, p .2)))),
     )
 
 same-length : tie.Need-same-length Inv-loop μ-loop
