@@ -19,10 +19,11 @@ use Rattle.position.specs.Posed.{posed, boardIn}
 use Rattle.movegen.specs.Places.{menStrike, squareAfter, placeAfter}
 use Rattle.rules.specs.laws.Legal.{legal-facts}
 use Rattle.movegen.specs.laws.Places.{occupied-men}
+use Rattle.movegen.specs.laws.Lines.{line-cut, line-own, reaches-met}
 use Rattle.retracting.specs.Retracting.{Missing, LegalLeft, Seat, loser, putAgain, placeBefore, CompleteApart, othersStrike}
 use Rattle.retracting.specs.laws.Back.{Free, free-after, occupied-before}
 use Rattle.retracting.specs.laws.Sources.{free-empty, seat-free, side-before}
-use Rattle.retracting.specs.laws.Checks.{line-cut, line-own, reaches-met, quiet-man, legal-men, legal-kings}
+use Rattle.retracting.specs.laws.Checks.{quiet-man, legal-men, legal-kings}
 
 pub or-none : (a b : Bool) → (a || b) ≡ false → (a ≡ false) × (b ≡ false)
 or-none true b e = absurd (subst T e tt)

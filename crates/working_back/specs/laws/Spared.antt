@@ -31,6 +31,7 @@ use Rattle.position.specs.Keyed.{boardOf}
 use Rattle.position.specs.Posed.{posed, boardIn, materialFor, Complete}
 use Rattle.index.specs.laws.CompleteLaws.{complete-has}
 use Rattle.movegen.specs.Places.{placeAfter}
+use Rattle.movegen.specs.laws.Lines.{reaches-again}
 use Rattle.four_men.specs.Reading.{legalNumberOf, numbered}
 use Rattle.four_men.specs.laws.Numbered.{live-is, legal-by}
 use Rattle.four_men.specs.laws.Materials.{own-material}
@@ -39,7 +40,7 @@ use Rattle.successors.specs.laws.PlaceVerdicts.{plain}
 use Rattle.successors.specs.laws.ByteLaws.{all-there, byte-own, byte-moved}
 use Rattle.successors.specs.laws.VerdictLaws.{depth-refuted}
 use Rattle.retracting.specs.Retracting.{Leads, LegalLeft, Seat, putAgain, placeBefore}
-use Rattle.retracting.specs.laws.Back.{Free, there-and-back, free-after, occupied-else, reaches-again}
+use Rattle.retracting.specs.laws.Back.{Free, there-and-back, free-after, occupied-else}
 use Rattle.retracting.specs.laws.Placing.{complete-before}
 use Rattle.retracting.specs.laws.Sources.{free-of, seat-free, seat-before, side-before, all-left, leads-back, moves-on}
 use Rattle.working_back.specs.Admitted.{over, Admitted}

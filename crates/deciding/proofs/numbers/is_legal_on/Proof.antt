@@ -1,13 +1,13 @@
--- `filling::is_legal_on` meets its contract: not used, in check, or legal.
+-- `numbers::is_legal_on` meets its contract: not used, in check, or legal.
 use mathlib.Core.Path.{sym, _∙_}
 use borrow.Author.Needs.{needs}
 use borrow.Author.Tests.{not-true, not-false}
 use Rattle.finite.specs.Truth.{of-true}
 use Rattle.index.specs.laws.CompleteLaws.{used-complete}
 use Rattle.successors.specs.laws.NumberLaws.{found-unused, found-illegal, found-legal, checked-other}
-use Rattle.filling.specs.laws.Code.{not-checked}
-use Rattle.filling.proofs.turns.is_legal_on.Statement.{statement}
-use Rattle.filling.proofs.turns.is_legal_on.Tie as tie
+use Rattle.deciding.specs.laws.StandingLaws.{not-checked}
+use Rattle.deciding.proofs.numbers.is_legal_on.Statement.{statement}
+use Rattle.deciding.proofs.numbers.is_legal_on.Tie as tie
 
 is-used-requires : tie.Need-is-used-requires
 is-used-requires c κs = search needs
