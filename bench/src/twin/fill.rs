@@ -113,6 +113,7 @@ impl Filling<'_> {
         let Moved { kind, to, taken, after, .. } = moved;
         let stood = stood(q, to, taken);
         let near = if kind == KING { targets(0, KING, q.king(q.side)) } else { 0 };
+        let shut = stood | near | one(to);
         let (mut settled, mut seen, mut rest) = (0, 0, from);
         while let Some(from) = squares(rest).next() {
             rest &= !one(from);
@@ -121,7 +122,7 @@ impl Filling<'_> {
                 continue;
             }
             let place = before(q, from, to, taken);
-            let goals = targets(stood, kind, from) & !stood & !near & !seen;
+            let goals = targets(stood, kind, from) & !shut & !seen;
             if let Some(square) = self.saviour(place, k, from, after, goals) {
                 seen |= goals & (one(square) - 1);
                 rest &= !targets(stood, kind, square);

@@ -44,7 +44,7 @@ placeOn q taken to t = record {
   second = cond (eqb taken 2) to (carried to t (q .second));
 }
 
--- what stands still before its move, and the squares that are shut to it: those, and to a king the ones next to the other
+-- what stands still before its move, and squares that are not looked at: those among them, and for a king the ones next to the other
 pub record Grounds (m : Men) (q : Place) (taken kind to : ℕ) (g : Ground) : Type 0 where
   pub stood : (u : ℕ) → u < 64 → has (g .stood) u ≡ (occupied (boardIn m q) u && not (eqb taken 0 && eqb u to))
   pub free : (u : ℕ) → u < 64 → has (g .shut) u ≡ false → has (g .stood) u ≡ false

@@ -5,6 +5,7 @@ use super::lines::Line;
 use board::lowest;
 use board::minus;
 use board::targets;
+use board::with;
 use board::without;
 use byte_rule::refutes;
 use index::number_at;
@@ -28,7 +29,8 @@ ghost use Rattle.working_back.specs.Spared.{Grounds, Sparing};
 
 const KING: u8 = 5;
 
-// What stands still while a piece is put back, and the squares that are shut to it: it takes nothing, and a king does not go next to the other.
+// What stands still while a piece is put back, and the squares that are not looked at: it takes nothing, a king does not go next to the other, and where
+// it went is known.
 pub struct Ground {
     pub stood: u64,
     pub shut: u64,
@@ -39,13 +41,14 @@ pub fn ground_of(q: Place, taken: u8, kind: u8, to: u8) -> Ground
     ensures { λ r. ⌜ ((m : Men) → Grounds m q taken kind to r) ⌝ }
 {
     let stood = stood_before(occupied_at(q), taken, to);
+    let shut = with(stood, to);
     if kind != KING {
-        return Ground { stood, shut: stood };
+        return Ground { stood, shut };
     }
     let near = targets(0, KING, king_at(q, q.side));
     Ground {
         stood,
-        shut: stood | near,
+        shut: shut | near,
     }
 }
 

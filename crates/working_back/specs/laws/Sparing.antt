@@ -1,6 +1,6 @@
 -- A square that spares a piece's side the loss does so wherever the piece came from: what stands after its move there is the same.
 use mathlib.Core.Path.{_≡_, refl, sym, ap, subst, subst⁻¹, _∙_}
-use mathlib.Core.Bool.{Bool, true, false, cond, not, _&&_}
+use mathlib.Core.Bool.{Bool, true, false, cond, not, _&&_, _||_}
 use mathlib.Core.Logic.{_⊎_, inl, inr}
 use mathlib.Core.List.{List}
 use Prim.Native.Nat.{ℕ, zero, suc, _-_, _<_}
@@ -170,20 +170,24 @@ unsettled-none m first second k q taken to v s h g = absurd (refuted (has-none s
 
 -- ---- the squares shut to a piece
 
-module _ (m : Men) (q : Place) (taken kind to occ stood : ℕ) (eo : occ ≡ setOf (occupied (boardIn m q)))
-    (et : (u : ℕ) → u < 64 → has stood u ≡ (has occ u && not (eqb taken 0 && eqb u to))) where
+module _ (m : Men) (q : Place) (taken kind to occ stood shut : ℕ) (eo : occ ≡ setOf (occupied (boardIn m q)))
+    (et : (u : ℕ) → u < 64 → has stood u ≡ (has occ u && not (eqb taken 0 && eqb u to)))
+    (es : shut ≡ setOf (λ (u : ℕ). has stood u || eqb u to)) where
   stands : (u : ℕ) → u < 64 → has stood u ≡ (occupied (boardIn m q) u && not (eqb taken 0 && eqb u to))
   stands u h = et u h ∙ ap (λ (b : Bool). b && not (eqb taken 0 && eqb u to)) (set-has (occupied (boardIn m q)) eo u h)
 
-  pub grounds-man : (kind ≡ 5 → ⊥) → Grounds m q taken kind to (record { stood = stood; shut = stood })
-  grounds-man n = record { stood = stands; free = λ u h e. e; apart = λ k. absurd (n k) }
+  clear : (u : ℕ) → u < 64 → has shut u ≡ false → has stood u ≡ false
+  clear u h e = or-none (has stood u) (eqb u to) (sym (set-has (λ (u : ℕ). has stood u || eqb u to) es u h) ∙ e) .0
+
+  pub grounds-man : (kind ≡ 5 → ⊥) → Grounds m q taken kind to (record { stood = stood; shut = shut })
+  grounds-man n = record { stood = stands; free = clear; apart = λ k. absurd (n k) }
 
   pub grounds-king : (foe near : ℕ) → foe ≡ cond (eqb (q .side) 0) (q .white) (q .black) → near ≡ setOf (reaches (has 0) 5 foe)
-      → Grounds m q taken kind to (record { stood = stood; shut = bitOr stood near })
+      → Grounds m q taken kind to (record { stood = stood; shut = bitOr shut near })
   grounds-king foe near ef en = record {
     stood = stands;
-    free = λ u h e. or-none (has stood u) (has near u) (sym (has-or stood near u) ∙ e) .0;
+    free = λ u h e. clear u h (or-none (has shut u) (has near u) (sym (has-or shut near u) ∙ e) .0);
     apart = λ k u h e.
         ap (λ (x : ℕ). reaches (has 0) 5 x u) (sym ef) ∙ sym (set-has (reaches (has 0) 5 foe) en u h)
-        ∙ or-none (has stood u) (has near u) (sym (has-or stood near u) ∙ e) .1;
+        ∙ or-none (has shut u) (has near u) (sym (has-or shut near u) ∙ e) .1;
   }
