@@ -10,6 +10,7 @@ pub use places::occupied_at;
 pub use places::place_after;
 pub use places::square_after;
 pub use places::struck_by;
+pub use reaching::king_targets;
 pub use reaching::reach_of;
 
 // The legal targets of the side to move's king, and of an ending's men: none for a man of the other side, or one not
