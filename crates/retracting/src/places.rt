@@ -71,6 +71,24 @@ fn legal_from(m: Men, q: Place, taken: u8, to: u8, squares: u64) -> u64
     kept
 }
 
+// The same, where a man of the mover's on `at` attacks the king: only from the squares between, since from any other he did so already.
+fn legal_between(
+    m: Men,
+    q: Place,
+    taken: u8,
+    to: u8,
+    squares: u64,
+    stood: u64,
+    kind: u8,
+    at: u8,
+    king: u8,
+) -> u64
+    ensures { λ r. ⌜ (((s : ℕ) → s < 64 → T (has squares s) → CompleteApart m (placeBefore q taken s to)) → (s : ℕ) → s < 64 → has r s ≡ ((has squares s && (reaches (has stood) kind at s && reaches (has stood) kind king s)) && legal (boardIn m (placeBefore q taken s to)))) ⌝ }
+{
+    let between = targets(stood, kind, at) & targets(stood, kind, king);
+    legal_from(m, q, taken, to, squares & between)
+}
+
 // The square of a man of the mover's who has not moved; off the board otherwise.
 fn still(colour: u8, owner: u8, to: u8, square: u8) -> u8
     ensures { λ r. ⌜ r ≡ cond (eqb colour owner && not (eqb square to)) square 64 ⌝ }
@@ -104,25 +122,7 @@ pub fn stood_before(occ: u64, taken: u8, to: u8) -> u64
     occ
 }
 
-// The same, where a man of the mover's on `at` attacks the king: only from the squares between, since from any other he did so already.
-fn legal_between(
-    m: Men,
-    q: Place,
-    taken: u8,
-    to: u8,
-    squares: u64,
-    stood: u64,
-    kind: u8,
-    at: u8,
-    king: u8,
-) -> u64
-    ensures { λ r. ⌜ (((s : ℕ) → s < 64 → T (has squares s) → CompleteApart m (placeBefore q taken s to)) → (s : ℕ) → s < 64 → has r s ≡ ((has squares s && (reaches (has stood) kind at s && reaches (has stood) kind king s)) && legal (boardIn m (placeBefore q taken s to)))) ⌝ }
-{
-    let between = targets(stood, kind, at) & targets(stood, kind, king);
-    legal_from(m, q, taken, to, squares & between)
-}
-
-// The same, quicker: where no other man of the mover's attacks the king, all but those from which the piece did.
+// The same as `legal_from`, quicker: where no other man of the mover's attacks the king, all but those from which the piece did.
 fn unchecking(
     m: Men,
     q: Place,
