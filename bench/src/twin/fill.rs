@@ -5,13 +5,15 @@ use super::board::{has, one, squares, targets};
 use super::moves::{checked, mated, required, requires, spoils, Tables};
 use super::numbers::{is_used, number, place, Frame, Line, LARGE, SMALL};
 use super::retract::{before, sources, stood, Taken};
+use super::rows;
 use super::{Men, Place, KING, OFF};
 
 /// The first depth that no byte holds.
 const DEPTHS: u8 = 254;
 
-/// Numbers are passed over so many at a time; both lengths of a table are multiples of it.
-const RUN: usize = 64;
+/// Numbers are passed over so many at a time, in which only the last man's square differs; both
+/// lengths of a table are multiples of it.
+const ROW: usize = 64;
 
 /// The piece that moved: its kind, where it went and what it took; its squares' numbers, before the
 /// move and after another, where they lie at equal steps.
@@ -51,18 +53,25 @@ impl Filling<'_> {
     }
 
     fn start(&mut self) {
-        for n in 0..self.table.len() {
-            self.table[n] = legal_at(self.men, n).is_some() as u8;
+        for (row, bytes) in self.table.chunks_exact_mut(ROW).enumerate() {
+            let n = row * ROW;
+            let legal = rows::legal(self.men, place(self.men, n), n);
+            for (square, byte) in bytes.iter_mut().enumerate() {
+                *byte = (legal >> square & 1) as u8;
+            }
         }
     }
 
-    /// The mates, which have no depth before theirs.
+    /// The mates, which have no depth before theirs; there is none without a check.
     fn mates(&mut self) -> u32 {
         let mut settled = 0;
-        for n in 0..self.table.len() {
-            if self.table[n] == 1 && mated(self.men, place(self.men, n)) {
-                self.table[n] = 2;
-                settled += 1;
+        for n in (0..self.table.len()).step_by(ROW) {
+            let row = place(self.men, n);
+            for square in squares(rows::checks(self.men, row)) {
+                let n = n + square as usize;
+                if self.table[n] == 1 && mated(self.men, rows::with_last(self.men, row, square)) {
+                    settled += self.settle(n, 0);
+                }
             }
         }
         settled
@@ -260,11 +269,11 @@ impl Filling<'_> {
                 settled += self.try_lent(k, second, Taken::First);
             }
         }
-        for run in (0..self.table.len()).step_by(RUN) {
+        for run in (0..self.table.len()).step_by(ROW) {
             // No way out early, so that the compiler compares many at once.
             let held =
-                self.table[run..run + RUN].iter().fold(false, |held, &byte| held | (byte == 1 + k));
-            for n in if held { run..run + RUN } else { 0..0 } {
+                self.table[run..run + ROW].iter().fold(false, |held, &byte| held | (byte == 1 + k));
+            for n in if held { run..run + ROW } else { 0..0 } {
                 if self.table[n] == 1 + k {
                     settled += self.try_into(place(self.men, n), k, Taken::Nothing);
                 }

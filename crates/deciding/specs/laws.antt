@@ -7,3 +7,4 @@ pub mod LastMan
 pub mod PlainRows
 pub mod SettlingLaws
 pub mod RowSets
+pub mod Gathering

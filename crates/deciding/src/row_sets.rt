@@ -112,11 +112,11 @@ fn checked_row(m: Men, row: Place) -> u64
 }
 
 // The same for the number's row: there is no mate without them.
-pub fn checked_row_at(m: Men, row: Place, squares: u64, n: u32) -> u64
-    ensures { λ r. ⌜ (RowOf m n row → ((n % 64 ≡ 0 → ⊥) → MateRow m n squares) → MateRow m n r) ⌝ }
+pub fn checked_row_at(m: Men, squares: u64, n: u32) -> u64
+    ensures { λ r. ⌜ (T (known (materialFor m)) → m .colour < 2 → n < sizeOf (materialFor m) → ((n % 64 ≡ 0 → ⊥) → MateRow m n squares) → MateRow m n r) ⌝ }
 {
     if n % 64 == 0 {
-        return checked_row(m, row);
+        return checked_row(m, place_at(m, n));
     }
     squares
 }

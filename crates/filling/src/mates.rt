@@ -4,10 +4,8 @@ use super::turns::settle;
 use board::has;
 use deciding::PAWN;
 use deciding::checked_row_at;
-use deciding::row_at;
 use index::place_at;
 use position::Men;
-use position::Place;
 ghost use mathlib.Core.Path.{_≡_};
 ghost use Prim.Native.Nat.{_<_};
 ghost use lib.Dec.{T};
@@ -17,7 +15,7 @@ ghost use Rattle.table_theory.specs.Steps.{settledBy};
 ghost use Rattle.rules.specs.Chess.{chess};
 ghost use Rattle.numbering.specs.Material.{known};
 ghost use Rattle.position.specs.Posed.{materialFor};
-ghost use Rattle.deciding.specs.Rows.{RowOf, MateRow};
+ghost use Rattle.deciding.specs.Rows.{MateRow};
 ghost use Rattle.working_back.specs.Admitted.{over, Admitted};
 ghost use Rattle.filling.specs.Settling.{Settle};
 
@@ -25,19 +23,19 @@ ghost use Rattle.filling.specs.Settling.{Settle};
 // is none.
 fn settle_checked(
     m: Men,
-    row: Place,
     squares: u64,
     n: usize,
     first: &[u8],
     second: &[u8],
     table: &mut [u8],
 ) -> u32
-    requires { ⌜ (n < length (now table)) × Admitted m (now first) (now second) (now table) × RowOf m n row × MateRow m n squares ⌝ }
+    requires { ⌜ (n < length (now table)) × Admitted m (now first) (now second) (now table) × MateRow m n squares ⌝ }
     ensures { λ r. ⌜ Settle chess (over m (now (first .entry)) (now (second .entry))) 0 (now (table .entry)) n r (now (table .exit)) ⌝ }
 {
     if !has(squares, (n % 64) as u8) {
         return 0;
     }
+    let row = place_at(m, (n / 64 * 64) as u32);
     settle(m, row, 0, n, first, second, &mut *table)
 }
 
@@ -46,14 +44,12 @@ fn mates_in_rows(m: Men, first: &[u8], second: &[u8], table: &mut [u8]) -> u32
     requires { ⌜ T (known (materialFor m)) × Admitted m (now first) (now second) (now table) ⌝ }
     ensures { λ r. ⌜ (r ≡ settledBy chess (over m (now (first .entry)) (now (second .entry))) 0 (now (table .entry))) × (now (table .exit) ≡ passed chess (over m (now (first .entry)) (now (second .entry))) 0 (now (table .entry))) ⌝ }
 {
-    let mut row = place_at(m, 0);
     let mut squares: u64 = 0;
     let mut settled: u32 = 0;
     let mut n: usize = 0;
     while n < table.len() {
-        row = row_at(m, row, n as u32);
-        squares = checked_row_at(m, row, squares, n as u32);
-        settled += settle_checked(m, row, squares, n, first, second, &mut *table);
+        squares = checked_row_at(m, squares, n as u32);
+        settled += settle_checked(m, squares, n, first, second, &mut *table);
         n += 1;
     }
     settled

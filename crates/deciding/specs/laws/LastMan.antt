@@ -7,7 +7,7 @@ use Prim.Native.Nat.{ℕ, _-_, _<_, _≤_}
 use native.Mathlib.Omega.{arith}
 use lib.Dec.{leb, eqb}
 use borrow.Author.Tests.{ne-eqb, leb-true}
-use Rattle.finite.specs.Truth.{refuted, eqb-sym}
+use Rattle.finite.specs.Truth.{eqb-sym}
 use Rattle.board.specs.Reach.{reaches}
 use Rattle.board.specs.Sets.{has, setOf}
 use Rattle.board.specs.laws.ReachLaws.{reaches-off}
@@ -24,12 +24,9 @@ use Rattle.movegen.specs.Places.{menStrike}
 use Rattle.movegen.specs.laws.Places.{occupied-men}
 use Rattle.movegen.specs.laws.Lines.{line-cut, line-own}
 use Rattle.movegen.specs.laws.Struck.{attacked-king}
+use Rattle.movegen.specs.laws.Opening.{neither}
 use Rattle.index.specs.Seats.{Seated, shares}
 use Rattle.deciding.specs.Rows.{withLast, lastKind, lastOwner}
-
-or-none : (a b : Bool) → (a || b) ≡ false → (a ≡ false) × (b ≡ false)
-or-none true b e = absurd (refuted e tt)
-or-none false b e = (refl, e)
 
 -- one who is off the board stands nowhere
 nowhere : (u y : ℕ) → u < 64 → 64 ≤ y → eqb u y ≡ false
@@ -107,7 +104,7 @@ module _ (m : Men) (row : Place) (s : ℕ) (h : s < 64) (occ : ℕ)
               nowhere (row .black) (row .second) (a .black) l,
             )
         go false e w =
-            let f = or-none (eqb (row .white) (row .first)) (eqb (row .black) (row .first)) e in
+            let f = neither (eqb (row .white) (row .first)) (eqb (row .black) (row .first)) e in
             rw (f .0, f .1, eqb-sym s (row .white), eqb-sym s (row .black), eqb-sym s (row .first), off, or-false (eqb (row .first) s))
 
     -- ---- who strikes a square
@@ -137,7 +134,7 @@ module _ (m : Men) (row : Place) (s : ℕ) (h : s < 64) (occ : ℕ)
                 line-own over (has occ) s t same gone (m .first),
               )
           go false w e =
-              rw (cut (eqb 0 owner) (m .first) (row .first) (or-none _ _ e .0), line-own over (has occ) s t same gone (m .second))
+              rw (cut (eqb 0 owner) (m .first) (row .first) (neither _ _ e .0), line-own over (has occ) s t same gone (m .second))
 
 -- ---- check
 

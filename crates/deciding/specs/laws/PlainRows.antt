@@ -1,9 +1,9 @@
 -- Where no exchange of file and rank, or of like men, gives a lower number, what stands at a number has that number.
 use mathlib.Core.Path.{_≡_, refl, sym, ap, subst⁻¹, _∙_}
 use mathlib.Core.Bool.{Bool, true, false, cond, not, and-false}
-use Prim.Native.Nat.{ℕ, _+_, _*_, _/_, _%_, _≤_}
+use Prim.Native.Nat.{ℕ, _+_, _*_, _/_, _%_}
 use native.Mathlib.Omega.{arith}
-use lib.Bits.{bitXor, xor-zero-r}
+use lib.Bits.{xor-zero-r}
 use lib.Dec.{T, leb, ltb, ltb→lt}
 use borrow.Author.Tests.{le-ltb, ltb-false, eq-eqb}
 use Rattle.finite.specs.Truth.{and-left, and-right, false-of, implies}

@@ -1,14 +1,11 @@
 -- One set of the last man's squares tells for a row of numbers where the position is legal, and where the side to move may
 -- be in check.
 use mathlib.Core.Path.{_≡_, refl, sym, ap, ap₂, subst, _∙_}
-use mathlib.Core.Bool.{Bool, true, false, cond, not, _&&_, _||_, and-false, or-true, or-false}
-use mathlib.Core.Logic.{_⊎_, inl, inr, ⊎-elim}
+use mathlib.Core.Bool.{Bool, true, false, cond, not, _&&_}
 use mathlib.Core.List.{List}
 use Prim.Native.Nat.{ℕ, _+_, _-_, _*_, _/_, _%_, _<_}
 use native.Mathlib.Omega.{arith}
-use lib.Dec.{T, ltb, eqb, eqb→eq}
-use borrow.Author.Tests.{lt-ltb, le-ltb, eqb-false}
-use Rattle.finite.specs.Truth.{decided, true-of, false-of, le-or-lt}
+use lib.Dec.{eqb}
 use Rattle.board.specs.Reach.{reaches}
 use Rattle.board.specs.Sets.{has, setOf}
 use Rattle.board.specs.laws.SetLaws.{has-none, has-not, set-has}
@@ -137,33 +134,3 @@ pub mate-row : (m : Men) (n set : ℕ) (row : Place) → RowOf m n row → Check
 mate-row m n set row r calm s h z first second table =
     let a = row-square m n row r s h in
     calm-required m first second table 0 (n / 64 * 64 + s) (a .seated .ending) (withLast m row s) a (λ c. calm s h c z) refl
-
--- ---- a set gathered square by square
-
-next : (u s : ℕ) → (u ≡ s → ⊥) → ltb u (s + 1) ≡ ltb u s
-next u s n =
-    ⊎-elim (λ h. le-ltb u (s + 1) (omega (arith, h, n)) ∙ sym (le-ltb u s h))
-    (λ h. lt-ltb u (s + 1) (omega (arith, h)) ∙ sym (lt-ltb u s h)) (le-or-lt s u)
-
-module _ (f : ℕ → Bool) (set s u : ℕ) (e : has set u ≡ (ltb u s && f u)) where
-  pub gathered-out : f s ≡ false → has set u ≡ (ltb u (s + 1) && f u)
-  gathered-out z = go (decided (eqb u s))
-    where
-      go : T (eqb u s) ⊎ T (not (eqb u s)) → has set u ≡ (ltb u (s + 1) && f u)
-      go (inl t) =
-          let w = ap f (eqb→eq u s t) ∙ z in
-          e ∙ rw (w, and-false (ltb u s), and-false (ltb u (s + 1)))
-      go (inr t) = e ∙ ap (λ (x : Bool). x && f u) (sym (next u s (eqb-false u s (false-of t))))
-
-  pub gathered-in : (more : ℕ) → has more u ≡ (has set u || eqb u s) → f s ≡ true → has more u ≡ (ltb u (s + 1) && f u)
-  gathered-in more d z = go (decided (eqb u s))
-    where
-      go : T (eqb u s) ⊎ T (not (eqb u s)) → has more u ≡ (ltb u (s + 1) && f u)
-      go (inl t) =
-          let w = ap f (eqb→eq u s t) ∙ z in
-          let l = lt-ltb u (s + 1) (omega (arith, eqb→eq u s t)) in
-          let y : eqb u s ≡ true = true-of t in
-          d ∙ rw (y, or-true (has set u), l, w)
-      go (inr t) =
-          let y : eqb u s ≡ false = false-of t in
-          d ∙ rw (y, or-false (has set u)) (e ∙ ap (λ (x : Bool). x && f u) (sym (next u s (eqb-false u s (false-of t)))))

@@ -9,12 +9,11 @@ use borrow.Author.Needs.{needs}
 use borrow.Author.Tests.{lt-ltb, le-ltb}
 use Rattle.board.specs.Sets.{has}
 use Rattle.board.specs.laws.SetLaws.{has-none, set-has}
-use Rattle.position.specs.declared.Men.{Men}
 use Rattle.position.specs.Posed.{materialFor}
 use Rattle.four_men.specs.Reading.{legalNumberOf}
 use Rattle.deciding.specs.Rows.{RowOf}
 use Rattle.deciding.specs.laws.Rows.{row-same}
-use Rattle.deciding.specs.laws.RowSets.{gathered-in, gathered-out}
+use Rattle.deciding.specs.laws.Gathering.{gathered-in, gathered-out}
 use Rattle.deciding.proofs.row_sets.legal_each.Statement.{statement}
 use Rattle.deciding.proofs.row_sets.legal_each.Tie as tie
 
