@@ -3,8 +3,9 @@ use mathlib.Core.Path.{_≡_}
 use mathlib.Core.Bool.{Bool, cond, _&&_}
 use Prim.Native.Nat.{ℕ, _+_, _*_, _/_, _%_, _^_, _<_, _≤_}
 use lib.Count.{ones}
-use lib.Dec.{ltb}
+use lib.Dec.{T, ltb}
 use Rattle.board.specs.SetLaws.{bit}
+use Rattle.numbering.specs.Kings.{separate}
 use Rattle.numbering.specs.Number.{numberOf}
 use Rattle.pairs.specs.Rows.{partnersOf}
 use Rattle.position.specs.declared.Men.{Men}
@@ -39,11 +40,11 @@ pub record Keyed (q : Place) (unit : ℕ) (place : ℕ → ℕ → Place) : Type
 
 -- what the others fix of the numbers of a piece's squares
 pub record Stands (m : Men) (l : Still) (place : ℕ → ℕ → Place) : Type 0 where
-  pub others-fit : l .others < 2 ^ 27
-  pub unit-fit : l .unit ≤ 262144
+  pub base-fits : l .base < 2 ^ 27
+  pub unit-fits : l .unit ≤ 262144
   pub like-is : l .like ≡ alike m
   pub alone-is : (side s : ℕ) → s < 64 → l .single ≡ alone (place side s)
   pub side-is : (side s : ℕ) → side ≡ place side s .side
-  pub key-is : (side s : ℕ) → s < 64 → l .others + s * l .unit ≡ keyAt (place side s)
-  pub row-is : (side s : ℕ) → s < 64 → l .row / 2 ^ s % 2 ≡ 1 → Seated m (place side s)
-      → (side * 462 + ones (l .row % bit s)) * l .scale + l .base ≡ numberOf (boardIn m (place side s))
+  pub key-is : l .row ≡ 0 → (side s : ℕ) → s < 64 → l .base + s * l .unit ≡ keyAt (place side s)
+  pub row-is : (l .row ≡ 0 → ⊥) → (side s : ℕ) → s < 64 → Seated m (place side s) → T (separate (place side s .white) (place side s .black))
+      → (side * 462 + ones (l .row % bit s)) * l .unit + l .base ≡ numberOf (boardIn m (place side s))

@@ -34,6 +34,7 @@ pub use materials::is_given;
 pub use materials::is_known;
 pub use materials::men_of;
 pub use materials::size_of;
+pub use moving::still_black;
 pub use moving::still_king;
 pub use moving::still_number;
 pub use pawns::pawn_men;
@@ -65,13 +66,11 @@ pub struct Still {
     // There is no second man; both are alike.
     pub single: bool,
     pub like: bool,
-    // The key with the piece on a1, and what a step of one square adds to it.
-    pub others: u32,
-    pub unit: u32,
-    // Its squares at a row of pairs, how far apart the numbers of two pairs lie, and where the row begins.
+    // A row of its squares, each of which forms a pair with the other king: the numbers go from `base` on, `unit` from pair to pair. Or none: `base` is the
+    // key with the piece on a1, to which each step of one square adds `unit`.
     pub row: u64,
-    pub scale: u32,
     pub base: u32,
+    pub unit: u32,
 }
 
 // The men, the normal place of a position's class, and the map that leads to it.

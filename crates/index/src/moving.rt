@@ -14,7 +14,8 @@ use position::Place;
 ghost use mathlib.Core.Path.{_≡_};
 ghost use mathlib.Core.Bool.{cond, false};
 ghost use Prim.Native.Nat.{ℕ, _^_, _≤_, _<_};
-ghost use lib.Dec.{eqb};
+ghost use lib.Dec.{T, eqb};
+ghost use Rattle.numbering.specs.Kings.{separate};
 ghost use Rattle.numbering.specs.Number.{numberOf};
 ghost use Rattle.position.specs.Posed.{boardIn};
 ghost use Rattle.index.specs.Seats.{Seated};
@@ -28,11 +29,9 @@ pub fn still_keyed(m: Men, q: Place, unit: u32) -> Still
     Still {
         single: 64 <= q.second,
         like: alike(m),
-        others: key_at(q),
-        unit,
         row: 0,
-        scale: 0,
-        base: 0,
+        base: key_at(q),
+        unit,
     }
 }
 
@@ -57,40 +56,27 @@ fn pair_scale(single: bool) -> u32
     4096
 }
 
-// The squares of Black's king, who stands on a1 in this place: at the row of the white king's pairs, or by the key.
-fn still_black(m: Men, q: Place) -> Still
-    requires { ⌜ q .black ≡ 0 ⌝ }
+// The squares of Black's king, who stands on a1 in this place, at the row of the white king's pairs.
+fn still_rowed(m: Men, row: u64, q: Place) -> Still
+    requires { ⌜ (row ≡ rowBeside (q .white)) × (row ≡ 0 → ⊥) × (q .black ≡ 0) ⌝ }
     ensures { λ r. ⌜ Stands m r (kingOn false (q .white) 0 (q .first) (q .second)) ⌝ }
 {
     let single = 64 <= q.second;
     let like = alike(m);
-    let others = key_at(q);
     let first = first_of(q.white) as u16;
     Still {
         single,
         like,
-        others,
-        unit: 4096,
-        row: row_beside(q.white),
-        scale: pair_scale(single),
-        base: number_by(single, 0, first, rising_key(like, others)),
+        row,
+        base: number_by(single, 0, first, rising_key(like, key_at(q))),
+        unit: pair_scale(single),
     }
 }
 
-// The squares of a king, White's or Black's, beside the other and the men on these squares.
-pub fn still_king(m: Men, owner: u8, white: u8, black: u8, x: u8, y: u8) -> Still
-    ensures { λ r. ⌜ Stands m r (kingOn (eqb owner 0) white black x y) ⌝ }
+// The squares of Black's king, beside White's and the men on these squares: at the row of the white king's pairs, or by the key.
+pub fn still_black(m: Men, white: u8, x: u8, y: u8) -> Still
+    ensures { λ r. ⌜ Stands m r (kingOn false white 0 x y) ⌝ }
 {
-    if owner == 0 {
-        let q = Place {
-            side: 0,
-            white: 0,
-            black,
-            first: x,
-            second: y,
-        };
-        return still_keyed(m, q, 262144);
-    }
     let q = Place {
         side: 0,
         white,
@@ -98,18 +84,39 @@ pub fn still_king(m: Men, owner: u8, white: u8, black: u8, x: u8, y: u8) -> Stil
         first: x,
         second: y,
     };
-    still_black(m, q)
+    let row = row_beside(white);
+    if row == 0 {
+        return still_keyed(m, q, 4096);
+    }
+    still_rowed(m, row, q)
+}
+
+// The squares of a king, White's or Black's, beside the other and the men on these squares.
+pub fn still_king(m: Men, owner: u8, white: u8, black: u8, x: u8, y: u8) -> Still
+    ensures { λ r. ⌜ Stands m r (kingOn (eqb owner 0) white black x y) ⌝ }
+{
+    if owner != 0 {
+        return still_black(m, white, x, y);
+    }
+    let q = Place {
+        side: 0,
+        white: 0,
+        black,
+        first: x,
+        second: y,
+    };
+    still_keyed(m, q, 262144)
 }
 
 // The number with the piece on one of its squares.
 pub fn still_number(l: Still, side: u8, s: u8) -> usize
-    requires { ⌜ (s < 64) × (l .others < 2 ^ 27) × (l .unit ≤ 262144) ⌝ }
-    ensures { λ r. ⌜ ((m : Men) (place : ℕ → ℕ → Place) → Stands m l place → Seated m (place side s) → r ≡ numberOf (boardIn m (place side s))) ⌝ }
+    requires { ⌜ (s < 64) × (l .base < 2 ^ 27) × (l .unit ≤ 262144) ⌝ }
+    ensures { λ r. ⌜ ((m : Men) (place : ℕ → ℕ → Place) → Stands m l place → Seated m (place side s) → T (separate (place side s .white) (place side s .black)) → r ≡ numberOf (boardIn m (place side s))) ⌝ }
 {
     let row = l.row;
-    if (row >> s) % 2 == 1 {
-        let kings = side as usize * PAIR_COUNT as usize + count_before(row, s) as usize;
-        return kings * l.scale as usize + l.base as usize;
+    if row == 0 {
+        return number_keyed(l.single, l.like, side, l.base + s as u32 * l.unit) as usize;
     }
-    number_keyed(l.single, l.like, side, l.others + s as u32 * l.unit) as usize
+    let kings = side as usize * PAIR_COUNT as usize + count_before(row, s) as usize;
+    kings * l.unit as usize + l.base as usize
 }

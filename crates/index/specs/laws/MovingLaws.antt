@@ -1,30 +1,30 @@
 -- The numbers of a king's squares while all other pieces stand still: his square put into the key of the others; and for Black's, the white king in the
 -- triangle and off its diagonal, the pairs of a row one after the other.
-use mathlib.Core.Path.{_≡_, refl, sym, ap, ap₂, subst, subst⁻¹, _∙_}
-use mathlib.Core.Bool.{Bool, true, false, cond, _&&_, _||_}
-use Prim.Native.Nat.{ℕ, zero, suc, _+_, _*_, _/_, _%_, _^_, _<_, _≤_}
-use native.Mathlib.Nat.{zero-div}
+use mathlib.Core.Path.{_≡_, refl, sym, ap, ap₂, subst⁻¹, _∙_}
+use mathlib.Core.Bool.{Bool, true, false, cond, _&&_}
+use Prim.Native.Nat.{ℕ, _+_, _*_, _/_, _%_, _^_, _<_, _≤_}
 use native.Mathlib.Omega.{arith}
-use lib.Bits.{bitXor, xor-zero-r}
+use lib.Bits.{xor-zero-r}
 use lib.Count.{ones}
-use lib.Dec.{T, leb, ltb, eqb, ltb→lt}
-use borrow.Author.Tests.{le-ltb, leb-false, ne-eqb}
-use Rattle.finite.specs.Truth.{and-left, and-right, of-true}
+use lib.Dec.{T, leb, ltb, ltb→lt}
+use borrow.Author.Tests.{lt-ltb, le-ltb, leb-false, ne-eqb}
+use Rattle.finite.specs.Truth.{and-left, and-right}
 use Rattle.board.specs.SetLaws.{bit}
-use Rattle.symmetry.specs.Symmetry.{mapped, exchange}
-use Rattle.numbering.specs.Kings.{above, onDiagonal, pairOf}
+use Rattle.numbering.specs.Kings.{cornered, separate, kingRule, pairOf}
 use Rattle.numbering.specs.Normal.{swapsKings}
 use Rattle.numbering.specs.Number.{numberOf}
+use Rattle.numbering.specs.laws.Numberable.{separate-white}
+use Rattle.numbering.specs.laws.PairLaws.{pair-lt}
 use Rattle.pairs.specs.Rows.{partnersOf, firstOf}
-use Rattle.pairs.specs.laws.RowLaws.{bit-pair}
+use Rattle.pairs.specs.laws.RowLaws.{no-bit, bit-pair}
 use Rattle.position.specs.declared.Men.{Men}
 use Rattle.position.specs.declared.Place.{Place}
 use Rattle.position.specs.Posed.{boardIn}
 use Rattle.index.specs.declared.Still.{Still}
-use Rattle.index.specs.Least.{flipOf, packed, turnedKey, transposedKey, risingKey, leastOf}
+use Rattle.index.specs.Least.{flipOf, packed, turnedKey, risingKey, leastOf}
 use Rattle.index.specs.Seats.{Seated, alike, alone, keyAt, leastAt, numberBy, numberFrom}
 use Rattle.index.specs.Moving.{atHome, rowBeside, kingOn, Keyed, Stands}
-use Rattle.index.specs.laws.LeastLaws.{menDigits, inOrder, swapsFour, rising-packed, transposed-less}
+use Rattle.index.specs.laws.LeastLaws.{rising-packed, transposed-less}
 use Rattle.index.specs.laws.SeatLaws.{number-place}
 
 -- ---- by the key
@@ -52,20 +52,16 @@ black-keyed white black x y = record {
   key-is = λ side s h. unfold keyAt in black-put white 0 x (cond (leb 64 y) 0 y) s;
 }
 
--- no row
-no-bit : (s : ℕ) → 0 / 2 ^ s % 2 ≡ 1 → ⊥
-no-bit s e = let z : 0 / 2 ^ s % 2 ≡ 0 = rw (zero-div (2 ^ s)) in omega (arith, e, z)
-
 pub keyed-stands : (m : Men) (q : Place) (place : ℕ → ℕ → Place) (l : Still) → Keyed q (l .unit) place → l .single ≡ alone q → l .like ≡ alike m
-    → l .others ≡ keyAt q → l .others < 2 ^ 27 → l .unit ≤ 262144 → l .row ≡ 0 → Stands m l place
-keyed-stands m q place l k hs hl ho fo fu hr = record {
-  others-fit = fo;
-  unit-fit = fu;
+    → l .base ≡ keyAt q → l .base < 2 ^ 27 → l .unit ≤ 262144 → l .row ≡ 0 → Stands m l place
+keyed-stands m q place l k hs hl hb fb fu hr = record {
+  base-fits = fb;
+  unit-fits = fu;
   like-is = hl;
   alone-is = λ side s h. hs ∙ k .alone-is side s h;
   side-is = k .side-is;
-  key-is = λ side s h. ap (λ (n : ℕ). n + s * l .unit) ho ∙ k .key-is side s h;
-  row-is = λ side s h e i. absurd (no-bit s (ap (λ (n : ℕ). n / 2 ^ s % 2) (sym hr) ∙ e));
+  key-is = λ e side s h. ap (λ (n : ℕ). n + s * l .unit) hb ∙ k .key-is side s h;
+  row-is = λ n side s h i k. absurd (n hr);
 }
 
 -- ---- at a row of pairs
@@ -141,24 +137,38 @@ rising-row single like w b x y hw hb hx hy side first below e =
     go true = from-row single w b y x hw hb hy hx side first below e
     go false = from-row single w b x y hw hb hx hy side first below e
 
--- the row has a square only with the white king at home
-home-of : (w s : ℕ) → rowBeside w / 2 ^ s % 2 ≡ 1 → T (atHome w) × (rowBeside w ≡ partnersOf w)
-home-of w s = go (atHome w)
+-- there is a row only with the white king at home
+home-of : (w : ℕ) → (rowBeside w ≡ 0 → ⊥) → T (atHome w) × (rowBeside w ≡ partnersOf w)
+home-of w = go (atHome w)
   where
-    go : (h : Bool) → cond h (partnersOf w) 0 / 2 ^ s % 2 ≡ 1 → T h × (cond h (partnersOf w) 0 ≡ partnersOf w)
-    go true e = (tt, refl)
-    go false e = absurd (no-bit s e)
+    go : (h : Bool) → (cond h (partnersOf w) 0 ≡ 0 → ⊥) → T h × (cond h (partnersOf w) 0 ≡ partnersOf w)
+    go true n = (tt, refl)
+    go false n = absurd (n refl)
+
+-- and then it has every square that does not touch his
+module _ (w s : ℕ) (home : T (atHome w)) (apart : T (separate w s)) where
+  ruled : T (kingRule w s)
+  unfolding kingRule cornered
+  ruled = rw (
+    lt-ltb (w % 8) 4 (file w home),
+    le-ltb (w % 8) (w / 8) (omega (arith, rank w home)),
+    ne-eqb (w % 8) (w / 8) (λ e. absurd (omega (arith, rank w home, e))),
+  ) apart
+
+  on-row : (row : ℕ) → row ≡ partnersOf w → s < 64 → row / 2 ^ s % 2 ≡ 0 → ⊥
+  on-row row e h z = let l = pair-lt w s (separate-white w s apart) h ruled in omega (arith, l, no-bit w s row e h z)
 
 module _ (m : Men) (w x y : ℕ) (l : Still) (hl : l .like ≡ alike m) (hs : l .single ≡ leb 64 y) (hr : l .row ≡ rowBeside w) (fits : l .row < 18446744073709551616)
-    (hc : l .scale ≡ cond (l .single) 64 4096) (hb : l .base ≡ numberBy (l .single) 0 (firstOf w) (risingKey (l .like) (packed w 0 x (cond (leb 64 y) 0 y)))) where
-  pub row-number : (side s : ℕ) → s < 64 → l .row / 2 ^ s % 2 ≡ 1 → Seated m (kingOn false w 0 x y side s)
-      → (side * 462 + ones (l .row % bit s)) * l .scale + l .base ≡ numberOf (boardIn m (kingOn false w 0 x y side s))
+    (hu : l .unit ≡ cond (l .single) 64 4096) (hb : l .base ≡ numberBy (l .single) 0 (firstOf w) (risingKey (l .like) (packed w 0 x (cond (leb 64 y) 0 y)))) where
+  row-number : (l .row ≡ 0 → ⊥) → (side s : ℕ) → s < 64 → Seated m (kingOn false w 0 x y side s) → T (separate w s)
+      → (side * 462 + ones (l .row % bit s)) * l .unit + l .base ≡ numberOf (boardIn m (kingOn false w 0 x y side s))
   unfolding leastAt
-  row-number side s h e i =
-      let home = home-of w s (ap (λ (n : ℕ). n / 2 ^ s % 2) (sym hr) ∙ e) in
+  row-number n side s h i apart =
+      let home = home-of w (λ e. n (hr ∙ e)) in
       let z = cond (leb 64 y) 0 y in
-      let pair = bit-pair w s (l .row) (hr ∙ home .1) h (firstOf w) fits refl (λ n. absurd (omega (arith, e, n))) in
-      ap₂ (λ (c b : ℕ). (side * 462 + ones (l .row % bit s)) * c + b) hc hb
+      let row = hr ∙ home .1 in
+      let pair = bit-pair w s (l .row) row h (firstOf w) fits refl (on-row w s (home .0) apart (l .row) row h) in
+      ap₂ (λ (c b : ℕ). (side * 462 + ones (l .row % bit s)) * c + b) hu hb
       ∙ rising-row (l .single) (l .like) w s x z (i .white) h (i .first) (last (leb 64 y) refl) side (firstOf w) (ones (l .row % bit s)) pair
       ∙ ap₂ (λ (t k : Bool). numberFrom t side (risingKey k (packed w s x z))) hs hl
       ∙ ap (numberFrom (leb 64 y) side)
@@ -169,16 +179,24 @@ module _ (m : Men) (w x y : ℕ) (l : Still) (hl : l .like ≡ alike m) (hs : l 
       last true e = omega arith
       last false e = leb-false 64 y e
 
-  pub black-stands : l .others ≡ packed w 0 x (cond (leb 64 y) 0 y) → l .others < 2 ^ 27 → l .unit ≡ 4096 → Stands m l (kingOn false w 0 x y)
-  black-stands ho fo hu = record {
-    others-fit = fo;
-    unit-fit = omega (arith, hu);
+  pub row-stands : (l .row ≡ 0 → ⊥) → firstOf w ≤ 432 → Stands m l (kingOn false w 0 x y)
+  row-stands n small = record {
+    base-fits = subst⁻¹ (λ (b : ℕ). b < 2 ^ 27) hb (base-lt (l .single) (firstOf w) _ small);
+    unit-fits = subst⁻¹ (λ (u : ℕ). u ≤ 262144) hu (unit-le (l .single));
     like-is = hl;
     alone-is = λ side s h. hs;
     side-is = λ side s. refl;
-    key-is = λ side s h. ap₂ (λ (n u : ℕ). n + s * u) ho hu ∙ (unfold keyAt in black-put w 0 x (cond (leb 64 y) 0 y) s);
+    key-is = λ e side s h. absurd (n e);
     row-is = row-number;
   }
+    where
+      base-lt : (single : Bool) (first n : ℕ) → first ≤ 432 → numberBy single 0 first n < 2 ^ 27
+      base-lt true first n h = omega arith
+      base-lt false first n h = omega arith
+
+      unit-le : (single : Bool) → cond single 64 4096 ≤ 262144
+      unit-le true = omega arith
+      unit-le false = omega arith
 
 -- ---- as code makes them
 

@@ -54,7 +54,7 @@ low c others e = let i = c .before in
 still-number-requires : tie.Need-still-number-requires Inv-loop μ-loop
 still-number-requires c κs =
     let h = c .before .before .before .still-king .ensures in
-    (low c _ refl .square, h .others-fit, h .unit-fit)
+    (low c _ refl .square, h .base-fits, h .unit-fits)
 
 read-at-requires : tie.Need-read-at-requires Inv-loop μ-loop
 read-at-requires c κs = tt
