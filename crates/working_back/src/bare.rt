@@ -27,6 +27,7 @@ ghost use lib.Dec.{T, eqb};
 ghost use lib.ListN.{length, getD};
 ghost use Rattle.board.specs.Sets.{has};
 ghost use Rattle.rules.specs.Rules.{canMove};
+ghost use Rattle.numbering.specs.Kings.{separate};
 ghost use Rattle.numbering.specs.Number.{numberOf};
 ghost use Rattle.position.specs.Posed.{boardIn};
 ghost use Rattle.index.specs.Seats.{Seated};
@@ -69,7 +70,7 @@ fn lose_quiet(
     harmless: u64,
     table: &mut [u8],
 ) -> Lost
-    requires { ⌜ (k < 254) × (n < length (now table)) × ((t : ℕ) → t < 64 → T (has goals t) → Seated m (bareOn 0 white t x y)) × Knows m k white x y (now table) saving harmless × Stands m others (kingOn false white 0 x y) ⌝ }
+    requires { ⌜ (k < 254) × (n < length (now table)) × ((t : ℕ) → t < 64 → T (has goals t) → Seated m (bareOn 0 white t x y) × T (separate white t)) × Knows m k white x y (now table) saving harmless × Stands m others (kingOn false white 0 x y) ⌝ }
     ensures { λ r. ⌜ QuietLoss m k white x y goals n (now (table .entry)) (now (table .exit)) (r .settled) × Knows m k white x y (now (table .entry)) (r .saving) (r .harmless) ⌝ }
 {
     let seen = look(m, k, white, x, y, others, goals, saving, harmless, &*table);

@@ -13,6 +13,7 @@ ghost use Prim.Native.Nat.{ℕ, _<_};
 ghost use lib.Dec.{T};
 ghost use lib.ListN.{getD};
 ghost use Rattle.board.specs.Sets.{has};
+ghost use Rattle.numbering.specs.Kings.{separate};
 ghost use Rattle.index.specs.Seats.{Seated};
 ghost use Rattle.index.specs.Moving.{kingOn, Stands};
 ghost use Rattle.working_back.specs.Bare.{bareOn, Saves, Knows};
@@ -47,7 +48,7 @@ pub fn look(
     harmless: u64,
     table: &[u8],
 ) -> Seen
-    requires { ⌜ ((t : ℕ) → t < 64 → T (has goals t) → Seated m (bareOn 0 white t x y)) × Knows m k white x y (now table) saving harmless × Stands m others (kingOn false white 0 x y) ⌝ }
+    requires { ⌜ ((t : ℕ) → t < 64 → T (has goals t) → Seated m (bareOn 0 white t x y) × T (separate white t)) × Knows m k white x y (now table) saving harmless × Stands m others (kingOn false white 0 x y) ⌝ }
     ensures { λ r. ⌜ Saves m k white x y (now (table .entry)) goals (r .saved) × Knows m k white x y (now (table .entry)) (r .saving) (r .harmless) ⌝ }
 {
     if goals & saving != 0 {
