@@ -5,8 +5,8 @@ use lib.Dec.{eqb}
 use lib.Count.{onesIn}
 
 -- for each of the ten squares of the white king, the set of the black king's squares that form a pair with his
-unfoldable pub rowOf : ℕ → ℕ
-rowOf white =
+unfoldable pub partnersOf : ℕ → ℕ
+partnersOf white =
     cond (eqb white 0) 9277662557957324028
     (cond (eqb white 1) 18446744073709549816
     (cond (eqb white 2) 18446744073709548017
@@ -34,4 +34,4 @@ firstOf white =
 
 -- the pair of a white square and a black one on the board, counted from the first of its row; 65535 where they form none
 unfoldable pub pairByRow : ℕ → ℕ → ℕ
-pairByRow white black = cond (eqb (rowOf white / 2 ^ black % 2) 0) 65535 (firstOf white + onesIn 64 (rowOf white % 2 ^ black))
+pairByRow white black = cond (eqb (partnersOf white / 2 ^ black % 2) 0) 65535 (firstOf white + onesIn 64 (partnersOf white % 2 ^ black))

@@ -1,9 +1,9 @@
--- `pocket::first_of` meets its contract: each arm by the square that it names.
+-- `pairs::first_of` meets its contract: each arm by the square that it names.
 use native.Mathlib.Omega.{arith}
 use borrow.Author.Tests.{ne-eqb}
-use Rattle.pocket.specs.Rows.{firstOf}
-use Rattle.pocket.proofs.rows.first_of.Statement.{statement}
-use Rattle.pocket.proofs.rows.first_of.Tie as tie
+use Rattle.pairs.specs.Rows.{firstOf}
+use Rattle.pairs.proofs.rows.first_of.Statement.{statement}
+use Rattle.pairs.proofs.rows.first_of.Tie as tie
 
 returns : tie.Need-returns
 unfolding firstOf

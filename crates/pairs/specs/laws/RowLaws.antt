@@ -13,9 +13,9 @@ use Rattle.finite.specs.Truth.{le-or-lt}
 use Rattle.finite.specs.Below.{allBelow, below}
 use Rattle.board.specs.SetLaws.{bit}
 use Rattle.numbering.specs.Kings.{pairOf}
 use Rattle.pairs.specs.Tables.{slotOf, pairs, pairIn}
 use Rattle.pairs.specs.laws.TableLaws.{slot-past, slot-above, in-outside, in-off, lent-pair}
-use Rattle.pocket.specs.Rows.{rowOf, firstOf, pairByRow}
+use Rattle.pairs.specs.Rows.{partnersOf, firstOf, pairByRow}
 
 -- ---- set bits, as antt computes them
 
@@ -48,7 +48,7 @@ right k = eqb (pairByRow (k / 64) (k % 64)) (pairIn pairs (k / 64) (k % 64))
 
 -- the white squares a1 to d4
 all-right : T (allBelow right 1792)
-unfolding allBelow right pairByRow rowOf firstOf onesIn pairIn pairs slotOf
+unfolding allBelow right pairByRow partnersOf firstOf onesIn pairIn pairs slotOf
 all-right = tt
 
 near : (white black : ℕ) → white < 28 → black < 64 → pairByRow white black ≡ pairIn pairs white black
@@ -67,8 +67,8 @@ slot-far white h =
     (λ l. let e = slot-past white l in omega arith)
     (le-or-lt (white % 8) 3)
 
-row-far : (white : ℕ) → 28 ≤ white → rowOf white ≡ 0
-unfolding rowOf
+row-far : (white : ℕ) → 28 ≤ white → partnersOf white ≡ 0
+unfolding partnersOf
 row-far white h =
     simp (
       ne-eqb white 0 (λ e. omega arith),
@@ -104,17 +104,17 @@ module _ (white black : ℕ) where
       ⊎-elim (λ l. in-outside pairs white black l) (λ l. in-off pairs white black l h) (le-or-lt 10 (slotOf white))
       ∙ lent-pair pairs white black refl
 
-  module _ (row : ℕ) (e : row ≡ rowOf white) (k : black < 64) where
+  module _ (row : ℕ) (e : row ≡ partnersOf white) (k : black < 64) where
     pub no-bit : row / 2 ^ black % 2 ≡ 0 → 65535 ≡ pairOf white black
     unfolding pairByRow
-    no-bit z = sym (rw (eq-eqb (rowOf white / 2 ^ black % 2) 0 (rw (← e) z))) ∙ rows-pair white black k
+    no-bit z = sym (rw (eq-eqb (partnersOf white / 2 ^ black % 2) 0 (rw (← e) z))) ∙ rows-pair white black k
 
     pub bit-pair : (first : ℕ) → row < 18446744073709551616 → first ≡ firstOf white → (row / 2 ^ black % 2 ≡ 0 → ⊥)
         → first + ones (row % bit black) ≡ pairOf white black
     unfolding pairByRow
     bit-pair first h f z =
-        let b : pairByRow white black ≡ firstOf white + onesIn 64 (rowOf white % 2 ^ black) =
-        rw (ne-eqb (rowOf white / 2 ^ black % 2) 0 (rw (← e) z)) in
+        let b : pairByRow white black ≡ firstOf white + onesIn 64 (partnersOf white % 2 ^ black) =
+        rw (ne-eqb (partnersOf white / 2 ^ black % 2) 0 (rw (← e) z)) in
         ap (λ (m : ℕ). first + ones (row % m)) (bit-power black k)
         ∙ ap (λ (m : ℕ). first + m) (ones-in 64 (row % 2 ^ black) (part-fits row (2 ^ black) h))
         ∙ ap₂ (λ (x y : ℕ). x + onesIn 64 (y % 2 ^ black)) f e
