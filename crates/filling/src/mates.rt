@@ -1,10 +1,9 @@
 // The mates: pass 0, which settles numbers only where the side to move is in check.
 use super::pass::pass;
-use super::turns::settle;
+use super::pass::settles;
 use board::has;
 use deciding::PAWN;
 use deciding::checked_row_at;
-use index::place_at;
 use position::Men;
 ghost use mathlib.Core.Path.{_≡_};
 ghost use Prim.Native.Nat.{_<_};
@@ -35,8 +34,11 @@ fn settle_checked(
     if !has(squares, (n % 64) as u8) {
         return 0;
     }
-    let row = place_at(m, (n / 64 * 64) as u32);
-    settle(m, row, 0, n, first, second, &mut *table)
+    if !settles(m, 0, n, first, second, &*table) {
+        return 0;
+    }
+    table[n] = 2;
+    1
 }
 
 // Of pieces.
