@@ -2,7 +2,7 @@
 
 use super::bare::Bare;
 use super::board::{has, one, squares, targets};
-use super::moves::{checked, mated, required, requires, spoils, Tables};
+use super::moves::{byte_of, checked, mated, required, requires, spoils, Tables};
 use super::numbers::{is_used, number, place, Frame, Line, LARGE, SMALL};
 use super::retract::{before, sources, stood, Taken};
 use super::rows;
@@ -200,13 +200,12 @@ impl Filling<'_> {
                 return 0;
             }
             let goals = targets(0, KING, from) & !shut;
-            // Taking the only man he draws.
-            if men.single() && has(goals, bare.first) {
-                return 0;
-            }
-            if has(goals, bare.first) || has(goals, bare.second) {
+            // A man that he might take: that byte, read first, nearly always saves him.
+            let man = if has(goals, bare.first) { bare.first } else { bare.second };
+            if has(goals, man) {
                 let place = before(q, from, to, taken);
-                let lost = requires(men, place, k, self.tables());
+                let lost = !spoils(k, byte_of(men, place.moved(from, man), self.tables()))
+                    && requires(men, place, k, self.tables());
                 return if lost { self.settle(n, k) } else { 0 };
             }
             if goals & saving != 0 {

@@ -84,7 +84,7 @@ pub struct Tables<'a> {
 }
 
 /// The byte of what is left of an ending's men.
-fn byte_of(men: Men, q: Place, tables: Tables) -> u8 {
+pub fn byte_of(men: Men, q: Place, tables: Tables) -> u8 {
     let [first, second] = tables.small;
     if q.first == OFF && q.second == OFF {
         return 1;

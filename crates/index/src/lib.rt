@@ -23,7 +23,6 @@ pub use answers::position_with;
 pub use arranging::arrange;
 pub use arranging::normal_place;
 pub use framing::exchange_of;
-pub use keys::key_at;
 pub use keys::number_keyed;
 pub use least::alike;
 pub use least::flip_of;

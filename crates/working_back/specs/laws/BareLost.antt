@@ -8,7 +8,7 @@ use native.Mathlib.Omega.{arith}
 use lib.Dec.{T, leb, eqb, eqb→eq}
 use lib.ListN.{getD, length, set, List·getD-eq-default}
 use borrow.Author.Tests.{eq-eqb, ne-eqb, le-leb, lt-leb}
-use Rattle.finite.specs.Truth.{decided, le-or-lt, refuted, of-true, and-both, and-left, and-right}
+use Rattle.finite.specs.Truth.{decided, le-or-lt, refuted, of-true, and-both, and-left}
 use Rattle.theory.specs.Required.{winning, requiredAt}
 use Rattle.theory.specs.Verdict.{spoils}
 use Rattle.theory.specs.laws.InPlace.{Settling}

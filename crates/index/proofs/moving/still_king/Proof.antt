@@ -1,5 +1,5 @@
 -- `index::moving::still_king` meets its contract.
-use mathlib.Core.Path.{refl, subst⁻¹}
+use mathlib.Core.Path.{subst⁻¹}
 use mathlib.Core.Bool.{Bool}
 use native.Mathlib.Omega.{arith}
 use borrow.Author.Tests.{eq-eqb, ne-eqb}

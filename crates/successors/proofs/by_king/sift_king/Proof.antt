@@ -1,6 +1,6 @@
 -- `successors::sift_king` meets its contract. The loop's invariant: the targets left, and what was found among the
 -- others, on any place for whose king it has what stands still.
-use mathlib.Core.Path.{_≡_, refl, sym, ap, _∙_}
+use mathlib.Core.Path.{_≡_, refl, sym, _∙_}
 use mathlib.Core.Bool.{not, _&&_}
 use mathlib.Core.List.{List}
 use Prim.Native.Nat.{ℕ, _-_, _^_, _<_}
