@@ -22,7 +22,7 @@ ghost use Rattle.index.specs.Seats.{Seated};
 ghost use Rattle.index.specs.Moving.{rowBeside, Keyed, Stands, kingOn};
 
 // The squares of a piece that stands on a1 in this place: by the key.
-pub fn still_keyed(m: Men, q: Place, unit: u32) -> Still
+fn still_keyed(m: Men, q: Place, unit: u32) -> Still
     requires { ⌜ unit ≤ 262144 ⌝ }
     ensures { λ r. ⌜ ((place : ℕ → ℕ → Place) → Keyed q unit place → Stands m r place) ⌝ }
 {
