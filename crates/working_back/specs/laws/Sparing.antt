@@ -27,7 +27,7 @@ use Rattle.movegen.specs.Places.{squareAfter, placeAfter}
 use Rattle.retracting.specs.Retracting.{Leads, LegalLeft, Seat, putAgain, placeBefore}
 use Rattle.retracting.specs.laws.Back.{Free}
 use Rattle.retracting.specs.laws.Causes.{place-eq}
-use Rattle.retracting.specs.laws.Checks.{line-own}
+use Rattle.movegen.specs.laws.Lines.{line-own}
 use Rattle.retracting.specs.laws.Sources.{free-of, seat-free, side-before, was-free, moves-on}
 use Rattle.retracting.specs.laws.Unchecked.{or-none, off, still-king, stood-then, stood-free}
 use Rattle.working_back.specs.Admitted.{Admitted}
