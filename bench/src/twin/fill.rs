@@ -2,16 +2,18 @@
 
 use super::bare::Bare;
 use super::board::{has, one, squares, targets};
-use super::moves::{checked, mated, required, requires, spoils, Tables};
+use super::moves::{byte_of, checked, mated, required, requires, spoils, Tables};
 use super::numbers::{is_used, number, place, Frame, Line, LARGE, SMALL};
-use super::retract::{before, sources, Taken};
+use super::retract::{before, sources, stood, Taken};
+use super::rows;
 use super::{Men, Place, KING, OFF};
 
 /// The first depth that no byte holds.
 const DEPTHS: u8 = 254;
 
-/// Numbers are passed over so many at a time; both lengths of a table are multiples of it.
-const RUN: usize = 64;
+/// Numbers are passed over so many at a time, in which only the last man's square differs; both
+/// lengths of a table are multiples of it.
+const ROW: usize = 64;
 
 /// The piece that moved: its kind, where it went and what it took; its squares' numbers, before the
 /// move and after another, where they lie at equal steps.
@@ -51,18 +53,25 @@ impl Filling<'_> {
     }
 
     fn start(&mut self) {
-        for n in 0..self.table.len() {
-            self.table[n] = legal_at(self.men, n).is_some() as u8;
+        for (row, bytes) in self.table.chunks_exact_mut(ROW).enumerate() {
+            let n = row * ROW;
+            let legal = rows::legal(self.men, place(self.men, n), n);
+            for (square, byte) in bytes.iter_mut().enumerate() {
+                *byte = (legal >> square & 1) as u8;
+            }
         }
     }
 
-    /// The mates, which have no depth before theirs.
+    /// The mates, which have no depth before theirs; there is none without a check.
     fn mates(&mut self) -> u32 {
         let mut settled = 0;
-        for n in 0..self.table.len() {
-            if self.table[n] == 1 && mated(self.men, place(self.men, n)) {
-                self.table[n] = 2;
-                settled += 1;
+        for n in (0..self.table.len()).step_by(ROW) {
+            let row = place(self.men, n);
+            for square in squares(rows::checks(self.men, row)) {
+                let n = n + square as usize;
+                if self.table[n] == 1 && mated(self.men, rows::with_last(self.men, row, square)) {
+                    settled += self.settle(n, 0);
+                }
             }
         }
         settled
@@ -73,14 +82,19 @@ impl Filling<'_> {
         1
     }
 
-    /// Does another move of a piece that was put back, taking nothing, spare its side the loss? A
+    /// The number of the place before the move from a square.
+    fn number_before(&self, q: Place, moved: Moved, from: u8) -> usize {
+        match moved.line {
+            Some(line) => line.number(from),
+            None => number(self.men, before(q, from, moved.to, moved.taken)),
+        }
+    }
+
+    /// The first of these squares of a piece that was put back which spares its side the loss: a
     /// byte other than 0 stands at legal places only.
-    fn spared(&self, place: Place, k: u8, kind: u8, from: u8, after: Option<Line>) -> bool {
-        let occupied = place.occupied();
-        let free = targets(occupied, kind, from) & !occupied;
-        let near = if kind == KING { targets(0, KING, place.king(1 - place.side)) } else { 0 };
-        squares(free & !near).any(|to| {
-            let n = match after {
+    fn saviour(&self, place: Place, k: u8, from: u8, line: Option<Line>, goals: u64) -> Option<u8> {
+        squares(goals).find(|&to| {
+            let n = match line {
                 Some(line) => line.number(to),
                 None => number(self.men, place.moved(from, to)),
             };
@@ -88,27 +102,55 @@ impl Filling<'_> {
         })
     }
 
-    /// Is the place lost in k? The piece's own other moves are read first.
-    fn confirmed(&self, place: Place, k: u8, kind: u8, from: u8, after: Option<Line>) -> bool {
-        !self.spared(place, k, kind, from, after) && requires(self.men, place, k, self.tables())
-    }
-
-    /// The places before a piece's moves to one of depth k - 1: each that holds 1 is won in k, or
-    /// lost if the others say so.
-    fn try_each(&mut self, q: Place, k: u8, moved: Moved, from: u64) -> u32 {
-        let Moved { kind, to, taken, line, after } = moved;
+    /// The places before a piece's moves to one of depth k - 1, k odd: each that holds 1 is won in k.
+    fn win_each(&mut self, q: Place, k: u8, moved: Moved, from: u64) -> u32 {
         let tried = |from| {
-            let n = match line {
-                Some(line) => line.number(from),
-                None => number(self.men, before(q, from, to, taken)),
-            };
-            let lost = || self.confirmed(before(q, from, to, taken), k, kind, from, after);
-            if self.table[n] != 1 || k % 2 == 0 && !lost() {
-                return 0;
+            let n = self.number_before(q, moved, from);
+            if self.table[n] == 1 {
+                self.settle(n, k)
+            } else {
+                0
             }
-            self.settle(n, k)
         };
         squares(from).map(tried).sum()
+    }
+
+    /// The same, k even: each is lost if the others say so. The piece's own other moves are read
+    /// first: what stands after them is the same wherever it came from, so that a square which
+    /// spares its side does so from all that it is reached from, and none is read twice.
+    fn lose_each(&mut self, q: Place, k: u8, moved: Moved, from: u64) -> u32 {
+        let Moved { kind, to, taken, after, .. } = moved;
+        let stood = stood(q, to, taken);
+        let near = if kind == KING { targets(0, KING, q.king(q.side)) } else { 0 };
+        let shut = stood | near | one(to);
+        let (mut settled, mut seen, mut rest) = (0, 0, from);
+        while let Some(from) = squares(rest).next() {
+            rest &= !one(from);
+            let n = self.number_before(q, moved, from);
+            if self.table[n] != 1 {
+                continue;
+            }
+            let place = before(q, from, to, taken);
+            let goals = targets(stood, kind, from) & !shut & !seen;
+            if let Some(square) = self.saviour(place, k, from, after, goals) {
+                seen |= goals & (one(square) - 1);
+                rest &= !targets(stood, kind, square);
+                continue;
+            }
+            seen |= goals;
+            if requires(self.men, place, k, self.tables()) {
+                settled += self.settle(n, k);
+            }
+        }
+        settled
+    }
+
+    fn try_each(&mut self, q: Place, k: u8, moved: Moved, from: u64) -> u32 {
+        if k % 2 == 0 {
+            self.lose_each(q, k, moved, from)
+        } else {
+            self.win_each(q, k, moved, from)
+        }
     }
 
     /// A man's squares: the kings stand still, and where nothing is exchanged the numbers lie at
@@ -158,13 +200,12 @@ impl Filling<'_> {
                 return 0;
             }
             let goals = targets(0, KING, from) & !shut;
-            // Taking the only man he draws.
-            if men.single() && has(goals, bare.first) {
-                return 0;
-            }
-            if has(goals, bare.first) || has(goals, bare.second) {
+            // A man that he might take: that byte, read first, nearly always saves him.
+            let man = if has(goals, bare.first) { bare.first } else { bare.second };
+            if has(goals, man) {
                 let place = before(q, from, to, taken);
-                let lost = self.confirmed(place, k, KING, from, None);
+                let lost = !spoils(k, byte_of(men, place.moved(from, man), self.tables()))
+                    && requires(men, place, k, self.tables());
                 return if lost { self.settle(n, k) } else { 0 };
             }
             if goals & saving != 0 {
@@ -227,11 +268,11 @@ impl Filling<'_> {
                 settled += self.try_lent(k, second, Taken::First);
             }
         }
-        for run in (0..self.table.len()).step_by(RUN) {
+        for run in (0..self.table.len()).step_by(ROW) {
             // No way out early, so that the compiler compares many at once.
             let held =
-                self.table[run..run + RUN].iter().fold(false, |held, &byte| held | (byte == 1 + k));
-            for n in if held { run..run + RUN } else { 0..0 } {
+                self.table[run..run + ROW].iter().fold(false, |held, &byte| held | (byte == 1 + k));
+            for n in if held { run..run + ROW } else { 0..0 } {
                 if self.table[n] == 1 + k {
                     settled += self.try_into(place(self.men, n), k, Taken::Nothing);
                 }

@@ -7,6 +7,7 @@ mod fill;
 mod moves;
 mod numbers;
 mod retract;
+mod rows;
 
 pub use fill::fill;
 

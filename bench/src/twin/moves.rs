@@ -54,10 +54,14 @@ fn king_reach(men: Men, q: Place, strike: u64) -> u64 {
     free & !(targets(0, KING, q.king(1 - q.side)) | strike)
 }
 
+/// What the foes attack with the mover's king lifted off.
+fn strike(men: Men, q: Place) -> u64 {
+    struck(men, q, q.occupied() & !one(q.king(q.side)), 1 - q.side)
+}
+
 /// The pieces of the side to move, each with its legal targets: the king, the first man, the second.
 fn reach(men: Men, q: Place) -> [(u8, u64); 3] {
-    let king = q.king(q.side);
-    let strike = struck(men, q, q.occupied() & !one(king), 1 - q.side);
+    let (king, strike) = (q.king(q.side), strike(men, q));
     [
         (king, king_reach(men, q, strike)),
         (q.first, man_reach(men, q, strike, men.first, 0, q.first)),
@@ -65,8 +69,11 @@ fn reach(men: Men, q: Place) -> [(u8, u64); 3] {
     ]
 }
 
+/// A king who may move is not mated, as most that are in check may.
 pub fn mated(men: Men, q: Place) -> bool {
-    checked(men, q, q.side) && reach(men, q).iter().all(|&(_, targets)| targets == 0)
+    checked(men, q, q.side)
+        && king_reach(men, q, strike(men, q)) == 0
+        && reach(men, q).iter().all(|&(_, targets)| targets == 0)
 }
 
 /// The tables that are read: the ending's own, and those of a man left alone.
@@ -77,7 +84,7 @@ pub struct Tables<'a> {
 }
 
 /// The byte of what is left of an ending's men.
-fn byte_of(men: Men, q: Place, tables: Tables) -> u8 {
+pub fn byte_of(men: Men, q: Place, tables: Tables) -> u8 {
     let [first, second] = tables.small;
     if q.first == OFF && q.second == OFF {
         return 1;

@@ -27,12 +27,12 @@ fn is_legal(men: Men, q: Place) -> bool {
     !attacks(0, KING, q.white, q.black) && !checked(men, q, 1 - q.side)
 }
 
-/// Does a man of the mover's, apart from the piece on `to`, attack the square?
-fn others_strike(men: Men, q: Place, occupied: u64, to: u8, square: u8) -> bool {
-    let mover = 1 - q.side;
-    let still = |owner: u8, man: u8| if owner == mover && man != to { man } else { OFF };
-    attacks(occupied, men.first, still(0, q.first), square)
-        || attacks(occupied, men.second, still(men.colour, q.second), square)
+/// What stood there before the move, but for the piece that moved.
+pub fn stood(q: Place, to: u8, taken: Taken) -> u64 {
+    match taken {
+        Taken::Nothing => q.occupied() & !one(to),
+        _ => q.occupied(),
+    }
 }
 
 /// The squares from which the piece on `to` may have come: put back there, with what it took, the
@@ -43,15 +43,16 @@ pub fn sources(men: Men, q: Place, kind: u8, to: u8, taken: Taken) -> u64 {
     if free == 0 {
         return 0;
     }
-    let king = q.king(q.side);
-    let stood = match taken {
-        Taken::Nothing => occupied & !one(to),
-        _ => occupied,
-    };
-    if others_strike(men, q, stood, to, king) {
-        return squares(free)
-            .filter(|&from| is_legal(men, before(q, from, to, taken)))
-            .fold(0, |set, from| set | one(from));
+    let (king, mover) = (q.king(q.side), 1 - q.side);
+    let stood = stood(q, to, taken);
+    let still = |owner: u8, man: u8| if owner == mover && man != to { man } else { OFF };
+    // Where another man of the mover's attacks the king, the piece stood between them.
+    for (kind, man) in [(men.first, still(0, q.first)), (men.second, still(men.colour, q.second))] {
+        if attacks(stood, kind, man, king) {
+            return squares(free & targets(stood, kind, man) & targets(stood, kind, king))
+                .filter(|&from| is_legal(men, before(q, from, to, taken)))
+                .fold(0, |set, from| set | one(from));
+        }
     }
     free & !targets(stood, kind, king)
 }

@@ -3,4 +3,8 @@ pub mod VerdictLists
 pub mod PawnVerdicts
 pub mod StandingLaws
 pub mod Rows
+pub mod LastMan
+pub mod PlainRows
 pub mod SettlingLaws
+pub mod RowSets
+pub mod Gathering

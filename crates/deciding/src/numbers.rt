@@ -16,6 +16,7 @@ ghost use lib.Dec.{T};
 ghost use Rattle.numbering.specs.declared.Material.{Material};
 ghost use Rattle.numbering.specs.Material.{known, given, sizeOf};
 ghost use Rattle.position.specs.Posed.{materialFor};
+ghost use Rattle.index.specs.Seats.{StandsAt};
 ghost use Rattle.four_men.specs.Reading.{legalNumberOf};
 ghost use Rattle.deciding.specs.Deciding.{StandingFor};
 ghost use Rattle.deciding.specs.Rows.{RowOf};
@@ -29,6 +30,16 @@ fn legal_of_pawn(n: u32) -> Standing
         return Standing::Nothing;
     }
     Standing::Legal(q)
+}
+
+// Whether the number is used and its position legal, by what stands there.
+pub fn is_legal_on(m: Men, q: Place, n: u32) -> bool
+    ensures { λ r. ⌜ (StandsAt m n q → r ≡ legalNumberOf (materialFor m) n) ⌝ }
+{
+    if !is_used(m, q, n) {
+        return false;
+    }
+    !checked(m, q, other(q.side))
 }
 
 // The place at the number, if the number is used and its position legal.

@@ -8,7 +8,7 @@ ghost use lib.Dec.{T};
 ghost use Rattle.numbering.specs.Material.{known, sizeOf};
 ghost use Rattle.position.specs.Posed.{materialFor};
 ghost use Rattle.index.specs.Seats.{StandsAt};
-ghost use Rattle.deciding.specs.Rows.{RowOf};
+ghost use Rattle.deciding.specs.Rows.{RowOf, withLast};
 
 // The place at the first number of a row: found anew there, and kept within the row.
 pub fn row_at(m: Men, row: Place, n: u32) -> Place
@@ -20,17 +20,16 @@ pub fn row_at(m: Men, row: Place, n: u32) -> Place
     row
 }
 
-// What stands at a number of the row.
-pub fn in_row(m: Men, row: Place, n: u32) -> Place
-    ensures { λ r. ⌜ (RowOf m n row → StandsAt m n r) ⌝ }
+// The row's place with the last man on a square; on 64 he is off the board.
+pub fn with_last(m: Men, row: Place, s: u8) -> Place
+    ensures { λ r. ⌜ r ≡ withLast m row s ⌝ }
 {
-    let last = (n % 64) as u8;
     if 4 <= m.second {
         return Place {
             side: row.side,
             white: row.white,
             black: row.black,
-            first: last,
+            first: s,
             second: row.second,
         };
     }
@@ -39,6 +38,13 @@ pub fn in_row(m: Men, row: Place, n: u32) -> Place
         white: row.white,
         black: row.black,
         first: row.first,
-        second: last,
+        second: s,
     }
+}
+
+// What stands at a number of the row.
+pub fn in_row(m: Men, row: Place, n: u32) -> Place
+    ensures { λ r. ⌜ (RowOf m n row → StandsAt m n r) ⌝ }
+{
+    with_last(m, row, (n % 64) as u8)
 }

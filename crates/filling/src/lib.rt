@@ -4,6 +4,7 @@ mod bytes;
 mod deepest;
 mod fill_table;
 mod halves;
+mod mates;
 mod pass;
 mod steps;
 mod taking;

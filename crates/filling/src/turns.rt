@@ -1,14 +1,12 @@
 // One turn of a pass: a number that holds 1 settled, if the pass settles it.
 use deciding::PAWN;
 use deciding::in_row;
+use deciding::is_legal_on;
 use deciding::requires_at;
 use deciding::requires_on;
-use index::is_used;
 use index::shares;
-use movegen::checked;
 use position::Men;
 use position::Place;
-use position::other;
 ghost use mathlib.Core.Path.{_≡_};
 ghost use Prim.Native.Nat.{_<_};
 ghost use lib.Dec.{T};
@@ -18,20 +16,9 @@ ghost use Rattle.rules.specs.Chess.{chess};
 ghost use Rattle.numbering.specs.Material.{known};
 ghost use Rattle.position.specs.Posed.{materialFor};
 ghost use Rattle.index.specs.Seats.{StandsAt};
-ghost use Rattle.four_men.specs.Reading.{legalNumberOf};
 ghost use Rattle.working_back.specs.Admitted.{over, Admitted};
 ghost use Rattle.filling.specs.Settling.{Settle};
 ghost use Rattle.deciding.specs.Rows.{RowOf};
-
-// Whether the number is used and its position legal, by what stands there.
-fn is_legal_on(m: Men, q: Place, n: u32) -> bool
-    ensures { λ r. ⌜ (StandsAt m n q → r ≡ legalNumberOf (materialFor m) n) ⌝ }
-{
-    if !is_used(m, q, n) {
-        return false;
-    }
-    !checked(m, q, other(q.side))
-}
 
 // Whether pass k settles a number that holds 1: of pieces by what stands there.
 fn settles_on(m: Men, q: Place, k: u8, n: usize, first: &[u8], second: &[u8], table: &[u8]) -> bool

@@ -1,4 +1,5 @@
 // The ways of a pass: over the halves that may settle a number, back from the numbers just settled, or over every number.
+use super::mates::mates;
 use super::pass::pass;
 use super::pass::pass_halves;
 use position::Men;
@@ -25,11 +26,11 @@ pub fn pass_in(way: u8, m: Men, k: u8, first: &[u8], second: &[u8], table: &mut 
     if way == EVERY {
         return pass_halves(true, true, m, k, first, second, &mut *table);
     }
-    if way != BACK {
-        return pass(m, k, first, second, &mut *table);
-    }
     // Mates have no depth before theirs.
     if k == 0 {
+        return mates(m, first, second, &mut *table);
+    }
+    if way != BACK {
         return pass(m, k, first, second, &mut *table);
     }
     pass_back(m, k, first, second, &mut *table)

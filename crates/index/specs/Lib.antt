@@ -5,4 +5,5 @@ pub mod BackLaws
 pub mod Least
 pub mod Seats
 pub mod Arranging
+pub mod Moving
 pub mod laws

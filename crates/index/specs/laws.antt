@@ -4,6 +4,7 @@ pub mod BackLaws
 pub mod Count
 pub mod LeastLaws
 pub mod KeyLaws
+pub mod MovingLaws
 pub mod NormalKey
 pub mod SeatLaws
 pub mod PlaceLaws

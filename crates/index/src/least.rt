@@ -135,7 +135,7 @@ pub fn place_from(single: bool, side: u8, k: u32) -> Place
 }
 
 // The number of a side, a pair and the men's squares in a key, with one man or with two.
-fn number_by(single: bool, side: u8, pair: u16, k: u32) -> u32
+pub fn number_by(single: bool, side: u8, pair: u16, k: u32) -> u32
     ensures { λ r. ⌜ r ≡ numberBy single side pair k ⌝ }
 {
     let kings = side as u32 * PAIR_COUNT + pair as u32;

@@ -13,6 +13,7 @@ mod framing;
 mod keys;
 mod least;
 mod materials;
+mod moving;
 mod pawns;
 mod place;
 
@@ -22,7 +23,6 @@ pub use answers::position_with;
 pub use arranging::arrange;
 pub use arranging::normal_place;
 pub use framing::exchange_of;
-pub use keys::key_at;
 pub use keys::number_keyed;
 pub use least::alike;
 pub use least::flip_of;
@@ -33,6 +33,9 @@ pub use materials::is_given;
 pub use materials::is_known;
 pub use materials::men_of;
 pub use materials::size_of;
+pub use moving::still_black;
+pub use moving::still_king;
+pub use moving::still_number;
 pub use pawns::pawn_men;
 pub use pawns::pawn_normal_place;
 pub use pawns::pawn_place;
@@ -55,6 +58,18 @@ pub const TABLE_SIZE: usize = 2 * HALF;
 pub struct Arranged {
     pub men: Men,
     pub place: Place,
+}
+
+// What all pieces but one, who stand still, fix of the number: for each of its squares.
+pub struct Still {
+    // There is no second man; both are alike.
+    pub single: bool,
+    pub like: bool,
+    // A row of its squares, each of which forms a pair with the other king: the numbers go from `base` on, `unit` from pair to pair. Or none: `base` is the
+    // key with the piece on a1, to which each step of one square adds `unit`.
+    pub row: u64,
+    pub base: u32,
+    pub unit: u32,
 }
 
 // The men, the normal place of a position's class, and the map that leads to it.

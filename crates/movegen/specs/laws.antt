@@ -3,6 +3,7 @@ pub mod Carried
 pub mod Lifted
 pub mod Targets
 pub mod Places
+pub mod Lines
 pub mod Alone
 pub mod Struck
 pub mod Reach

@@ -69,6 +69,17 @@ fn king_reach(q: Place, own: u64, strike: u64) -> u64
     minus(free, targets(0, KING, king_at(q, other(side))) | strike)
 }
 
+// The same from the place itself, where no other piece's are wanted.
+pub fn king_targets(m: Men, q: Place) -> u64
+    ensures { λ r. ⌜ (Complete m q → r ≡ setOf (canMove (boardIn m q) (king (boardIn m q) (q .side)))) ⌝ }
+{
+    let side = q.side;
+    let occ = occupied_at(q);
+    let own = own_at(m, q, side);
+    let strike = strike_set(m, q, minus(occ, king_set(q, side)), other(side));
+    king_reach(q, own, strike)
+}
+
 // Where the pieces of the side to move may go: the other side's have no targets. The squares that the foes attack with
 // the mover's king lifted off the board tell all at once: where they hold none of his pieces, nobody gives check and
 // nobody is pinned.

@@ -1,3 +1,4 @@
 pub mod Tables
 pub mod Packed
+pub mod Rows
 pub mod laws

@@ -1,3 +1,4 @@
 pub mod TableLaws
 pub mod PairRule
 pub mod PackedKings
+pub mod RowLaws

@@ -3,5 +3,4 @@ pub mod TrueValue
 pub mod Classes
 pub mod Digits
 pub mod Tally
-pub mod Rows
 pub mod laws

@@ -1,6 +1,5 @@
 pub mod PackLaws
 pub mod LookUpLaws
-pub mod RowLaws
 pub mod Unpacking
 pub mod Agreement
 pub mod Refusals

@@ -6,3 +6,4 @@ pub use places::left_place;
 pub use places::lone_men;
 pub use places::place_before;
 pub use places::sources;
+pub use places::stood_before;

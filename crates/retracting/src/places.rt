@@ -20,7 +20,7 @@ ghost use Rattle.board.specs.Reach.{reaches};
 ghost use Rattle.board.specs.Sets.{has};
 ghost use Rattle.rules.specs.Rules.{legal};
 ghost use Rattle.position.specs.Posed.{boardIn};
-ghost use Rattle.retracting.specs.Retracting.{Seat, LegalLeft, loser as loserOf, Retracts, placeBefore, CompleteApart, Steps, othersStrike, loneOf, leftPlace};
+ghost use Rattle.retracting.specs.Retracting.{Seat, LegalLeft, loser as loserOf, Retracts, placeBefore, CompleteApart, Steps, loneOf, leftPlace};
 
 const KING: u8 = 5;
 
@@ -71,6 +71,24 @@ fn legal_from(m: Men, q: Place, taken: u8, to: u8, squares: u64) -> u64
     kept
 }
 
+// The same, where a man of the mover's on `at` attacks the king: only from the squares between, since from any other he did so already.
+fn legal_between(
+    m: Men,
+    q: Place,
+    taken: u8,
+    to: u8,
+    squares: u64,
+    stood: u64,
+    kind: u8,
+    at: u8,
+    king: u8,
+) -> u64
+    ensures { λ r. ⌜ (((s : ℕ) → s < 64 → T (has squares s) → CompleteApart m (placeBefore q taken s to)) → (s : ℕ) → s < 64 → has r s ≡ ((has squares s && (reaches (has stood) kind at s && reaches (has stood) kind king s)) && legal (boardIn m (placeBefore q taken s to)))) ⌝ }
+{
+    let between = targets(stood, kind, at) & targets(stood, kind, king);
+    legal_from(m, q, taken, to, squares & between)
+}
+
 // The square of a man of the mover's who has not moved; off the board otherwise.
 fn still(colour: u8, owner: u8, to: u8, square: u8) -> u8
     ensures { λ r. ⌜ r ≡ cond (eqb colour owner && not (eqb square to)) square 64 ⌝ }
@@ -94,18 +112,8 @@ fn strikes(occ: u64, kind: u8, s: u8, t: u8) -> bool
     attacks(occ, kind, s, t)
 }
 
-// Whether a man of the mover's, apart from the piece on `to`, attacks t.
-fn others_strike(m: Men, q: Place, occ: u64, owner: u8, to: u8, t: u8) -> bool
-    ensures { λ r. ⌜ r ≡ othersStrike m q (has occ) owner to t ⌝ }
-{
-    if strikes(occ, m.first, still(0, owner, to, q.first), t) {
-        return true;
-    }
-    strikes(occ, m.second, still(m.colour, owner, to, q.second), t)
-}
-
 // What stood there before the move, but for the piece that moved: where it took a man, he stood on its target.
-fn stood_before(occ: u64, taken: u8, to: u8) -> u64
+pub fn stood_before(occ: u64, taken: u8, to: u8) -> u64
     ensures { λ r. ⌜ ((u : ℕ) → u < 64 → has r u ≡ (has occ u && not (eqb taken 0 && eqb u to))) ⌝ }
 {
     if taken == 0 {
@@ -114,7 +122,7 @@ fn stood_before(occ: u64, taken: u8, to: u8) -> u64
     occ
 }
 
-// The same, quicker: where no other man of the mover's has a line to the king, all but those from which the piece attacks him.
+// The same as `legal_from`, quicker: where no other man of the mover's attacks the king, all but those from which the piece did.
 fn unchecking(
     m: Men,
     q: Place,
@@ -129,8 +137,13 @@ fn unchecking(
 {
     let king = king_at(q, q.side);
     let stood = stood_before(occ, taken, to);
-    if others_strike(m, q, stood, owner, to, king) {
-        return legal_from(m, q, taken, to, squares);
+    let first = still(0, owner, to, q.first);
+    if strikes(stood, m.first, first, king) {
+        return legal_between(m, q, taken, to, squares, stood, m.first, first, king);
+    }
+    let second = still(m.colour, owner, to, q.second);
+    if strikes(stood, m.second, second, king) {
+        return legal_between(m, q, taken, to, squares, stood, m.second, second, king);
     }
     minus(squares, targets(stood, kind, king))
 }

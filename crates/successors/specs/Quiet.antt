@@ -35,20 +35,6 @@ baseFor m q f from =
 abbrev pub scaleFor : Men → Place → ℕ → ℕ
 scaleFor m q from = cond (leb 4 (m .second)) 1 (cond (eqb (q .first) from) 64 1)
 
--- what a step of one square adds to a key, of White's king or of Black's
-abbrev pub kingUnit : ℕ → ℕ
-kingUnit side = cond (eqb side 0) 262144 4096
-
--- the place with the king of the side to move on a1
-abbrev pub kingLifted : Place → Place
-kingLifted q = record {
-  side = q .side;
-  white = cond (eqb (q .side) 0) 0 (q .white);
-  black = cond (eqb (q .side) 0) (q .black) 0;
-  first = q .first;
-  second = q .second;
-}
-
 -- the place after a king's move that takes no man
 abbrev pub kingTo : Place → ℕ → ℕ → Place
 kingTo q from to = record {

@@ -75,6 +75,21 @@ fn is_framed(m: Men, q: Place, from: u8, x: u8, y: u8) -> bool
     !((q.white == from) | (q.black == from)) & ((x < 64) & ((4 <= m.second) | (y < 64)))
 }
 
+// The byte after a move, its place made.
+pub fn byte_made(
+    m: Men,
+    q: Place,
+    from: u8,
+    to: u8,
+    table: &[u8],
+    first: &[u8],
+    second: &[u8],
+) -> u8
+    ensures { λ r. ⌜ (Complete m q → T (canMove (boardIn m q) from to) → r ≡ bytesIn m (now (first .entry)) (now (second .entry)) (now (table .entry)) (moved (boardIn m q) from to)) ⌝ }
+{
+    byte_in(m, place_after(q, from, to), table, first, second)
+}
+
 // The byte after a move, by the frame of its kings and the other side to move where they stay.
 pub fn byte_after(
     m: Men,
@@ -93,5 +108,5 @@ pub fn byte_after(
     if is_framed(m, q, from, x, y) {
         return read_at(table, number_on(f, 4 <= m.second, alike(m), x, y));
     }
-    byte_in(m, place_after(q, from, to), table, first, second)
+    byte_made(m, q, from, to, table, first, second)
 }

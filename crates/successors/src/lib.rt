@@ -17,6 +17,7 @@ mod sifting;
 mod verdicts;
 
 pub use after::byte_at;
+pub use after::byte_made;
 pub use bases::base_of_first;
 pub use bases::base_of_one;
 pub use bases::base_of_second;

@@ -8,6 +8,7 @@ use super::judging::judge;
 use answers::BestMove;
 use movegen::Reach;
 use movegen::checked;
+use movegen::king_targets;
 use movegen::reach_of;
 use position::Men;
 use position::Place;
@@ -102,12 +103,15 @@ pub fn requires_byte(m: Men, q: Place, byte: u16, table: &[u8], first: &[u8], se
     }
 }
 
-// Whether the rule requires depth k of the position: mate only in check.
+// Whether the rule requires depth k of the position: mate only in check, and not where the king may move, as most that are in check may.
 pub fn requires_depth(m: Men, q: Place, k: u8, table: &[u8], first: &[u8], second: &[u8]) -> bool
     ensures { λ r. ⌜ (Complete m q → r ≡ eqb (requiredAt chess (bytesIn m (now (first .entry)) (now (second .entry)) (now (table .entry))) (boardIn m q)) (2 + k)) ⌝ }
 {
     if k == 0 {
         if !checked(m, q, q.side) {
+            return false;
+        }
+        if king_targets(m, q) != 0 {
             return false;
         }
     }

@@ -6,6 +6,7 @@ use Prim.Native.Nat.{ℕ, _+_, _*_, _<_, _≤_}
 use lib.Dec.{T}
 use lib.ListN.{length, getD}
 use Rattle.table_theory.specs.Tables.{reads}
+use Rattle.board.specs.Sets.{has}
 use Rattle.rules.specs.Chess.{chess}
 use Rattle.numbering.specs.Keys.{boardAt}
 use Rattle.numbering.specs.Number.{numberOf}
@@ -16,7 +17,7 @@ use Rattle.position.specs.Posed.{boardIn, materialFor, Complete}
 use Rattle.numbering.specs.declared.Material.{Material}
 use Rattle.four_men.specs.Lending.{lent}
 use Rattle.four_men.specs.Reading.{lentFor, legalNumberOf}
-use Rattle.retracting.specs.Retracting.{Leads, loneOf, leftPlace}
+use Rattle.retracting.specs.Retracting.{Leads, placeBefore, loneOf, leftPlace}
 use Rattle.working_back.specs.Admitted.{over}
 use Rattle.working_back.specs.Trying.{Midway, Went, Tried, Ready}
 
@@ -44,10 +45,11 @@ pub record Passes (t : List ℕ) (byte from r : ℕ) : Type 0 where
   pub inside : r ≤ length t
   pub none : NoneFrom t byte from r
 
--- the first number from `from` on that holds the byte; the table's end where there is none
-pub record FirstAt (t : List ℕ) (byte from r : ℕ) : Type 0 where
+-- the first number from `from` on that holds the byte, before `end`; `end` where there is none
+pub record FirstAt (t : List ℕ) (byte from end r : ℕ) : Type 0 where
   pub passes : Passes t byte from r
-  pub here : r < length t → getD t r 0 ≡ byte
+  pub upto : r ≤ end
+  pub here : r < end → getD t r 0 ≡ byte
 
 -- what a pass that works back is given: the men are pieces, and below depth k nothing is left to settle
 abbrev pub Backwards : Men → List ℕ → List ℕ → ℕ → List ℕ → Type 0
@@ -64,6 +66,11 @@ module _ (m : Men) (first second : List ℕ) (k : ℕ) where
   TriesPlace q o u v did = Few k 1 u v did
       × ((t : List ℕ) → Midway chess (over m first second) k t u → Ripe t q
       → Went chess (over m first second) k t u v did × Tried chess (over m first second) k t v (numberOf (boardIn m o)))
+
+  -- from none of these squares anything is settled
+  abbrev pub Unsettled : Place → ℕ → ℕ → List ℕ → ℕ → Type 0
+  Unsettled q taken to v set =
+      (s : ℕ) → s < 64 → T (has set s) → Leads m (placeBefore q taken s to) s to q → TriesPlace q (placeBefore q taken s to) v v 0
 
   -- the numbers of the legal positions with a legal move to this square that leads to q
   abbrev pub TriesTo : Place → ℕ → List ℕ → List ℕ → ℕ → Type 0

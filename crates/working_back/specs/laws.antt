@@ -8,6 +8,7 @@ pub mod Places
 pub mod Sources
 pub mod Spared
 pub mod Lines
+pub mod Sparing
 pub mod Into
 pub mod Passing
 pub mod Own

@@ -1,9 +1,7 @@
 // A black king without men, k even: the squares that he came from. White's pieces stand still, so that what they attack is told once for all his moves, and
 // his own are read one after the other.
-use super::known::bare_number;
 use super::known::byte_of;
 use super::known::look;
-use super::lines::no_line;
 use super::trying::confirm;
 use board::has as has_square;
 use board::lowest;
@@ -12,16 +10,27 @@ use board::one;
 use board::targets;
 use board::with;
 use board::without;
+use byte_rule::refutes;
+use index::Still;
+use index::still_black;
+use index::still_number;
 use position::Men;
 use position::Place;
 use retracting::again;
+use retracting::place_before;
+use successors::byte_made;
 ghost use mathlib.Core.Path.{_≡_};
-ghost use mathlib.Core.Bool.{_||_};
-ghost use Prim.Native.Nat.{ℕ, _%_, _<_};
+ghost use mathlib.Core.Bool.{false, _||_};
+ghost use Prim.Native.Nat.{ℕ, _-_, _%_, _<_};
 ghost use lib.Dec.{T, eqb};
-ghost use lib.ListN.{length};
+ghost use lib.ListN.{length, getD};
 ghost use Rattle.board.specs.Sets.{has};
+ghost use Rattle.rules.specs.Rules.{canMove};
+ghost use Rattle.numbering.specs.Kings.{separate};
+ghost use Rattle.numbering.specs.Number.{numberOf};
+ghost use Rattle.position.specs.Posed.{boardIn};
 ghost use Rattle.index.specs.Seats.{Seated};
+ghost use Rattle.index.specs.Moving.{kingOn, Stands};
 ghost use Rattle.retracting.specs.Retracting.{LegalLeft, Leads, Retracts, placeBefore};
 ghost use Rattle.working_back.specs.Admitted.{Admitted};
 ghost use Rattle.working_back.specs.Back.{TriesPlace, TriesTo};
@@ -53,16 +62,17 @@ fn lose_quiet(
     white: u8,
     x: u8,
     y: u8,
+    others: Still,
     n: usize,
     goals: u64,
     saving: u64,
     harmless: u64,
     table: &mut [u8],
 ) -> Lost
-    requires { ⌜ (k < 254) × (n < length (now table)) × ((t : ℕ) → t < 64 → T (has goals t) → Seated m (bareOn 0 white t x y)) × Knows m k white x y (now table) saving harmless ⌝ }
+    requires { ⌜ (k < 254) × (n < length (now table)) × ((t : ℕ) → t < 64 → T (has goals t) → Seated m (bareOn 0 white t x y) × T (separate white t)) × Knows m k white x y (now table) saving harmless × Stands m others (kingOn false white 0 x y) ⌝ }
     ensures { λ r. ⌜ QuietLoss m k white x y goals n (now (table .entry)) (now (table .exit)) (r .settled) × Knows m k white x y (now (table .entry)) (r .saving) (r .harmless) ⌝ }
 {
-    let seen = look(m, k, white, x, y, goals, saving, harmless, &*table);
+    let seen = look(m, k, white, x, y, others, goals, saving, harmless, &*table);
     let saved = seen.saved;
     if saved {
         return Lost {
@@ -79,8 +89,32 @@ fn lose_quiet(
     }
 }
 
-// Settles the number of the position before his move from s, if the table has it and he is lost there in k. Where he might take one man of two all is tried
-// forward; taking the only one he draws.
+// Settles the number, which holds 1, if he is lost in k though he might take the man on t: that byte is read first, since it nearly always saves him.
+fn lose_taking(
+    m: Men,
+    k: u8,
+    q: Place,
+    taken: u8,
+    to: u8,
+    s: u8,
+    t: u8,
+    n: usize,
+    first: &[u8],
+    second: &[u8],
+    table: &mut [u8],
+) -> u32
+    requires { ⌜ (0 < k) × (k < 254) × Admitted m (now first) (now second) (now table) × Leads m (placeBefore q taken s to) s to q × (n ≡ numberOf (boardIn m (placeBefore q taken s to))) × (n < length (now table)) × (getD (now table) n 0 ≡ 1) × T (canMove (boardIn m (placeBefore q taken s to)) s t) ⌝ }
+    ensures { λ r. ⌜ TriesPlace m (now (first .entry)) (now (second .entry)) k q (placeBefore q taken s to) (now (table .entry)) (now (table .exit)) r ⌝ }
+{
+    let o = place_before(q, taken, s, to);
+    let c = byte_made(m, o, s, t, &*table, first, second);
+    if refutes(2 + k as u16, c) {
+        return 0;
+    }
+    confirm(m, k, q, taken, s, to, n, first, second, &mut *table)
+}
+
+// Settles the number of the position before his move from s, if the table has it and he is lost there in k.
 fn lose_one(
     m: Men,
     k: u8,
@@ -91,6 +125,7 @@ fn lose_one(
     white: u8,
     x: u8,
     y: u8,
+    others: Still,
     shut: u64,
     saving: u64,
     harmless: u64,
@@ -98,46 +133,41 @@ fn lose_one(
     second: &[u8],
     table: &mut [u8],
 ) -> Lost
-    requires { ⌜ (0 < k) × (k < 254) × (k % 2 ≡ 0) × Admitted m (now first) (now second) (now table) × Bare m q taken to white x y × ((t : ℕ) → t < 64 → has shut t ≡ (struckBy m white x y t || eqb t to)) × Leads m (placeBefore q taken s to) s to q × Knows m k white x y (now table) saving harmless ⌝ }
+    requires { ⌜ (0 < k) × (k < 254) × (k % 2 ≡ 0) × Admitted m (now first) (now second) (now table) × Bare m q taken to white x y × ((t : ℕ) → t < 64 → has shut t ≡ (struckBy m white x y t || eqb t to)) × Leads m (placeBefore q taken s to) s to q × Knows m k white x y (now table) saving harmless × Stands m others (kingOn false white 0 x y) ⌝ }
     ensures { λ r. ⌜ TriesPlace m (now (first .entry)) (now (second .entry)) k q (placeBefore q taken s to) (now (table .entry)) (now (table .exit)) (r .settled) × Knows m k white x y (now (table .exit)) (r .saving) (r .harmless) ⌝ }
 {
-    let n = bare_number(m, 1, white, s, x, y);
-    let kept = Lost {
-        settled: 0,
-        saving,
-        harmless,
-    };
+    let n = still_number(others, 1, s);
     if byte_of(&*table, n) != 1 {
-        return kept;
+        return Lost {
+            settled: 0,
+            saving,
+            harmless,
+        };
     }
     let goals = minus(targets(0, KING, s), shut);
     let takes = has_square(goals, x);
-    if (4 <= m.second) & takes {
-        return kept;
-    }
     if takes | has_square(goals, y) {
-        let line = no_line();
-        let settled = confirm(
-            m,
-            k,
-            q,
-            taken,
-            KING,
-            s,
-            to,
-            n,
-            line,
-            first,
-            second,
-            &mut *table,
-        );
+        let t = again(takes, x, y);
+        let settled = lose_taking(m, k, q, taken, to, s, t, n, first, second, &mut *table);
         return Lost {
             settled,
             saving,
             harmless,
         };
     }
-    lose_quiet(m, k, white, x, y, n, goals, saving, harmless, &mut *table)
+    lose_quiet(
+        m,
+        k,
+        white,
+        x,
+        y,
+        others,
+        n,
+        goals,
+        saving,
+        harmless,
+        &mut *table,
+    )
 }
 
 // From each of these squares.
@@ -159,6 +189,7 @@ pub fn lose_bare(
     let x = again(taken == 1, to, q.first);
     let y = again(taken == 2, to, q.second);
     let shut = struck(m, white, x, y, to);
+    let others = still_black(m, white, x, y);
     let mut settled: u32 = 0;
     let mut saving: u64 = 0;
     let mut harmless: u64 = 0;
@@ -175,6 +206,7 @@ pub fn lose_bare(
             white,
             x,
             y,
+            others,
             shut,
             saving,
             harmless,

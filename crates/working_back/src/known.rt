@@ -4,32 +4,19 @@ use board::minus;
 use board::with;
 use board::without;
 use byte_rule::refutes;
-use index::number_at;
+use index::Still;
+use index::still_number;
 use position::Men;
-use position::Place;
 ghost use mathlib.Core.Path.{_≡_};
+ghost use mathlib.Core.Bool.{false};
 ghost use Prim.Native.Nat.{ℕ, _<_};
 ghost use lib.Dec.{T};
 ghost use lib.ListN.{getD};
 ghost use Rattle.board.specs.Sets.{has};
-ghost use Rattle.numbering.specs.Number.{numberOf};
-ghost use Rattle.position.specs.Posed.{boardIn};
+ghost use Rattle.numbering.specs.Kings.{separate};
 ghost use Rattle.index.specs.Seats.{Seated};
+ghost use Rattle.index.specs.Moving.{kingOn, Stands};
 ghost use Rattle.working_back.specs.Bare.{bareOn, Saves, Knows};
-
-// The number of squares given one by one.
-pub fn bare_number(m: Men, side: u8, white: u8, black: u8, x: u8, y: u8) -> usize
-    ensures { λ r. ⌜ (Seated m (bareOn side white black x y) → r ≡ numberOf (boardIn m (bareOn side white black x y))) ⌝ }
-{
-    let q = Place {
-        side,
-        white,
-        black,
-        first: x,
-        second: y,
-    };
-    number_at(m, q) as usize
-}
 
 // The byte at a number; 0 beyond the table's end.
 pub fn byte_of(table: &[u8], n: usize) -> u8
@@ -55,12 +42,13 @@ pub fn look(
     white: u8,
     x: u8,
     y: u8,
+    others: Still,
     goals: u64,
     saving: u64,
     harmless: u64,
     table: &[u8],
 ) -> Seen
-    requires { ⌜ ((t : ℕ) → t < 64 → T (has goals t) → Seated m (bareOn 0 white t x y)) × Knows m k white x y (now table) saving harmless ⌝ }
+    requires { ⌜ ((t : ℕ) → t < 64 → T (has goals t) → Seated m (bareOn 0 white t x y) × T (separate white t)) × Knows m k white x y (now table) saving harmless × Stands m others (kingOn false white 0 x y) ⌝ }
     ensures { λ r. ⌜ Saves m k white x y (now (table .entry)) goals (r .saved) × Knows m k white x y (now (table .entry)) (r .saving) (r .harmless) ⌝ }
 {
     if goals & saving != 0 {
@@ -75,7 +63,7 @@ pub fn look(
     let mut rest = minus(goals, harmless);
     while rest != 0 {
         let t = lowest(rest);
-        let c = byte_of(table, bare_number(m, 0, white, t, x, y));
+        let c = byte_of(table, still_number(others, 0, t));
         if refutes(depth, c) {
             return Seen {
                 saved: true,

@@ -1,7 +1,11 @@
 // The positions before the moves of one piece, tried: a number is settled if it holds 1 and depth k is required of its position.
 use super::lines::Line;
-use super::spared::is_spared;
+use super::spared::Ground;
+use super::spared::find_saviour;
+use super::spared::ground_of;
 use board::lowest;
+use board::minus;
+use board::targets;
 use board::without;
 use index::number_at;
 use position::Men;
@@ -16,32 +20,27 @@ ghost use Rattle.numbering.specs.Number.{numberOf};
 ghost use Rattle.position.specs.Posed.{boardIn};
 ghost use Rattle.retracting.specs.Retracting.{LegalLeft, Leads, Retracts, Seat, placeBefore};
 ghost use Rattle.working_back.specs.Admitted.{Admitted};
-ghost use Rattle.working_back.specs.Back.{TriesPlace, TriesTo};
+ghost use Rattle.working_back.specs.Back.{TriesPlace, TriesTo, Unsettled};
 ghost use Rattle.working_back.specs.Lines.{LinedBefore, LinedAfter};
+ghost use Rattle.working_back.specs.Spared.{Grounds};
 
-// Settles the number, which holds 1, if depth k, even, is required of the position before a move from s; 1 if it did, and else 0. The piece's own other
-// moves are read first.
+// Settles the number, which holds 1, if depth k, even, is required of the position before a move from s; 1 if it did, and else 0.
 pub fn confirm(
     m: Men,
     k: u8,
     q: Place,
     taken: u8,
-    kind: u8,
     s: u8,
     to: u8,
     n: usize,
-    after: Line,
     first: &[u8],
     second: &[u8],
     table: &mut [u8],
 ) -> u32
-    requires { ⌜ (0 < k) × (k < 254) × Admitted m (now first) (now second) (now table) × Leads m (placeBefore q taken s to) s to q × LegalLeft m q taken × Seat m q kind (1 - q .side) to × LinedAfter m q taken to after × (n ≡ numberOf (boardIn m (placeBefore q taken s to))) × (n < length (now table)) × (getD (now table) n 0 ≡ 1) ⌝ }
+    requires { ⌜ (k < 254) × Admitted m (now first) (now second) (now table) × Leads m (placeBefore q taken s to) s to q × (n ≡ numberOf (boardIn m (placeBefore q taken s to))) × (n < length (now table)) × (getD (now table) n 0 ≡ 1) ⌝ }
     ensures { λ r. ⌜ TriesPlace m (now (first .entry)) (now (second .entry)) k q (placeBefore q taken s to) (now (table .entry)) (now (table .exit)) r ⌝ }
 {
     let o = place_before(q, taken, s, to);
-    if is_spared(m, k, o, kind, s, after, &*table) {
-        return 0;
-    }
     if !requires_depth(m, o, k, &*table, first, second) {
         return 0;
     }
@@ -88,7 +87,14 @@ fn win_number(
     1
 }
 
-// The same for a loss.
+// How many numbers were settled, 1 or 0, the squares from which nothing is settled besides, and the piece's squares that are known not to spare its side.
+struct Told {
+    settled: u32,
+    spared: u64,
+    seen: u64,
+}
+
+// The same for a loss. The piece's own other moves are read first: a square that spares its side does so from all squares that it is reached from.
 fn lose_number(
     m: Men,
     k: u8,
@@ -99,33 +105,43 @@ fn lose_number(
     to: u8,
     n: usize,
     after: Line,
+    ground: Ground,
+    seen: u64,
     first: &[u8],
     second: &[u8],
     table: &mut [u8],
-) -> u32
-    requires { ⌜ (0 < k) × (k < 254) × Admitted m (now first) (now second) (now table) × Leads m (placeBefore q taken s to) s to q × LegalLeft m q taken × Seat m q kind (1 - q .side) to × LinedAfter m q taken to after × (n ≡ numberOf (boardIn m (placeBefore q taken s to))) ⌝ }
-    ensures { λ r. ⌜ TriesPlace m (now (first .entry)) (now (second .entry)) k q (placeBefore q taken s to) (now (table .entry)) (now (table .exit)) r ⌝ }
+) -> Told
+    requires { ⌜ (0 < k) × (k < 254) × Admitted m (now first) (now second) (now table) × Leads m (placeBefore q taken s to) s to q × LegalLeft m q taken × Seat m q kind (1 - q .side) to × LinedAfter m q taken to after × Grounds m q taken kind to ground × (n ≡ numberOf (boardIn m (placeBefore q taken s to))) ⌝ }
+    ensures { λ r. ⌜ TriesPlace m (now (first .entry)) (now (second .entry)) k q (placeBefore q taken s to) (now (table .entry)) (now (table .exit)) (r .settled) × Unsettled m (now (first .entry)) (now (second .entry)) k q taken to (now (table .exit)) (r .spared) ⌝ }
 {
+    let kept = Told {
+        settled: 0,
+        spared: 0,
+        seen,
+    };
     if table.len() <= n {
-        return 0;
+        return kept;
     }
     if table[n] != 1 {
-        return 0;
+        return kept;
     }
-    confirm(
-        m,
-        k,
-        q,
-        taken,
-        kind,
-        s,
-        to,
-        n,
-        after,
-        first,
-        second,
-        &mut *table,
-    )
+    let goals = minus(targets(ground.stood, kind, s), ground.shut);
+    let o = place_before(q, taken, s, to);
+    let found = find_saviour(m, k, o, s, after, goals, seen, &*table);
+    let t = found.square;
+    if t < 64 {
+        return Told {
+            settled: 0,
+            spared: targets(ground.stood, kind, t),
+            seen: found.seen,
+        };
+    }
+    let settled = confirm(m, k, q, taken, s, to, n, first, second, &mut *table);
+    Told {
+        settled,
+        spared: 0,
+        seen: found.seen,
+    }
 }
 
 // From each of these squares, k odd.
@@ -173,12 +189,14 @@ pub fn lose_each(
     requires { ⌜ (0 < k) × (k < 254) × Admitted m (now first) (now second) (now table) × Retracts m q taken to squares × LegalLeft m q taken × Seat m q kind (1 - q .side) to × LinedBefore m q taken to line × LinedAfter m q taken to after ⌝ }
     ensures { λ r. ⌜ TriesTo m (now (first .entry)) (now (second .entry)) k q to (now (table .entry)) (now (table .exit)) r ⌝ }
 {
+    let ground = ground_of(q, taken, kind, to);
     let mut settled: u32 = 0;
+    let mut seen: u64 = 0;
     let mut rest = squares;
     while rest != 0 {
         let s = lowest(rest);
         let n = number_before(m, q, taken, s, to, line);
-        settled += lose_number(
+        let told = lose_number(
             m,
             k,
             q,
@@ -188,11 +206,15 @@ pub fn lose_each(
             to,
             n,
             after,
+            ground,
+            seen,
             first,
             second,
             &mut *table,
         );
-        rest = without(rest, s);
+        settled += told.settled;
+        seen = told.seen;
+        rest = minus(without(rest, s), told.spared);
     }
     settled
 }

@@ -1,11 +1,11 @@
 -- Within a row of 64 numbers what stands at them differs in the last man's square alone.
 use mathlib.Core.Path.{_≡_, refl, ap, ap₂, subst, sym, _∙_}
-use mathlib.Core.Bool.{Bool, true, false}
+use mathlib.Core.Bool.{Bool, true, false, cond}
 use mathlib.Core.List.{List, [], _∷_}
 use Prim.Native.Nat.{ℕ, _+_, _*_, _/_, _%_, _<_, _≤_}
 use native.Mathlib.Omega.{arith}
-use lib.Dec.{eqb}
-use borrow.Author.Tests.{lt-leb, le-leb}
+use lib.Dec.{leb, eqb}
+use borrow.Author.Tests.{lt-leb, le-leb, leb-true, leb-false}
 use Rattle.rules.specs.declared.Piece.{Piece}
 use Rattle.rules.specs.Rules.{Board, pieceOf}
 use Rattle.rules.specs.laws.Changed.{board-eq}
@@ -19,7 +19,7 @@ use Rattle.index.specs.Seats.{StandsAt, alone}
 use Rattle.index.specs.laws.NormalKey.{oneBoard, pairBoard}
 use Rattle.index.specs.laws.SeatLaws.{board-one, board-two}
 use Rattle.index.specs.laws.PlaceLaws.{material-by, piece-by}
-use Rattle.deciding.specs.Rows.{RowOf}
+use Rattle.deciding.specs.Rows.{RowOf, withLast}
 
 -- ---- the boards of a row
 
@@ -57,13 +57,17 @@ module _ (side white black n : ℕ) where
       (ap (λ (b : Board). firstSquare (b .men)) e ∙ ap (λ (r : ℕ). r % 64) same-row)
       (ap (λ (b : Board). secondColour (b .men)) e))
 
+-- what is true of a row's first number is at the next number too, if it is in the row
+pub row-kept : (P : ℕ → Type 0) (n : ℕ) → ((n + 1) % 64 ≡ 0 → ⊥) → P (n / 64 * 64) → P ((n + 1) / 64 * 64)
+row-kept P n h p = let e : n / 64 * 64 ≡ (n + 1) / 64 * 64 = omega arith in subst P e p
+
 -- ---- the places of a row
 
 module _ (m : Men) (n : ℕ) (q : Place) (a : RowOf m n q) where
   last : n % 64 < 64
   last = omega arith
 
-  pub row-one : 4 ≤ m .second
+  row-one : 4 ≤ m .second
       → StandsAt m n
       (record { side = q .side; white = q .white; black = q .black; first = n % 64; second = q .second })
   row-one h =
@@ -88,7 +92,7 @@ module _ (m : Men) (n : ℕ) (q : Place) (a : RowOf m n q) where
             ∙ ap (λ (x : Material). boardAt (menOf x) n) (sym one);
       }
 
-  pub row-two : m .second < 4
+  row-two : m .second < 4
       → StandsAt m n
       (record { side = q .side; white = q .white; black = q .black; first = q .first; second = n % 64 })
   row-two h =
@@ -116,9 +120,37 @@ module _ (m : Men) (n : ℕ) (q : Place) (a : RowOf m n q) where
             ∙ ap (λ (x : Material). boardAt (menOf x) n) (sym two);
       }
 
+  pub row-stands : StandsAt m n (withLast m q (n % 64))
+  row-stands = go (leb 4 (m .second)) refl
+    where
+      go : (x : Bool) → leb 4 (m .second) ≡ x
+          → StandsAt m n
+          (record {
+            side = q .side;
+            white = q .white;
+            black = q .black;
+            first = cond x (n % 64) (q .first);
+            second = cond x (q .second) (n % 64);
+          })
+      go true e = row-one (leb-true 4 (m .second) e)
+      go false e = row-two (leb-false 4 (m .second) e)
+
   -- the next number, if it is in the row
   pub row-next : ((n + 1) % 64 ≡ 0 → ⊥) → RowOf m (n + 1) q
-  row-next h = let e : n / 64 * 64 ≡ (n + 1) / 64 * 64 = omega arith in subst (λ (x : ℕ). StandsAt m x q) e a
+  row-next h = row-kept (λ (x : ℕ). StandsAt m x q) n h a
+
+-- another number of the row
+pub row-same : (m : Men) (n : ℕ) (q : Place) → RowOf m n q → (s : ℕ) → s < 64 → RowOf m (n / 64 * 64 + s) q
+row-same m n q a s h =
+    let e : n / 64 * 64 ≡ (n / 64 * 64 + s) / 64 * 64 = omega arith in subst (λ (x : ℕ). StandsAt m x q) e a
+
+-- what stands there, by the last man's square
+pub row-square : (m : Men) (n : ℕ) (q : Place) → RowOf m n q → (s : ℕ) → s < 64
+    → StandsAt m (n / 64 * 64 + s) (withLast m q s)
+row-square m n q a s h =
+    let d : (n / 64 * 64 + s) % 64 ≡ s = omega arith in
+    subst (λ (x : ℕ). StandsAt m (n / 64 * 64 + s) (withLast m q x)) d
+    (row-stands m (n / 64 * 64 + s) q (row-same m n q a s h))
 
 -- a row's first number
 pub row-first : (m : Men) (n : ℕ) (q : Place) → n % 64 ≡ 0 → StandsAt m n q → RowOf m n q

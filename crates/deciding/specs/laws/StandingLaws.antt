@@ -1,6 +1,6 @@
 -- What stands at a number, of pieces and of a pawn.
-use mathlib.Core.Path.{_≡_, sym, ap, subst, _∙_}
-use mathlib.Core.Bool.{true, false}
+use mathlib.Core.Path.{_≡_, refl, sym, ap, subst, _∙_}
+use mathlib.Core.Bool.{Bool, true, false, not}
 use mathlib.Core.Logic.{inl, inr}
 use Prim.Native.Nat.{ℕ}
 use lib.Dec.{T}
@@ -27,6 +27,12 @@ pub pieces-standing : (m : Men) (n : ℕ) (s : Standing) → T (known (materialF
 pieces-standing m n Standing.Nothing k w = w
 pieces-standing m n (Standing.Legal q) k w =
     (w .0, inl (w .1), w .2 ∙ sym (ap (λ (f : ℕ → Board). f n) (pieces-board (materialFor m) k)))
+
+-- a position is legal unless the side not to move is in check
+pub not-checked : (check live : Bool) → (check ≡ true → live ≡ false) → (check ≡ false → live ≡ true)
+    → not check ≡ live
+not-checked true live f g = sym (f refl)
+not-checked false live f g = sym (g refl)
 
 -- ---- a pawn
 

@@ -1,10 +1,12 @@
 -- Laws by which filling's code is proved: a number's verdict, and the starting bytes.
 use mathlib.Core.Path.{_≡_, refl, sym, _∙_}
-use mathlib.Core.Bool.{Bool, true, false, cond, not}
+use mathlib.Core.Bool.{Bool, false, cond}
 use mathlib.Core.List.{List}
 use Prim.Native.Nat.{ℕ}
+use lib.Dec.{eqb, eqb→eq}
 use lib.ListN.{getD}
 use borrow.Author.Tests.{eq-eqb, ne-eqb}
+use Rattle.finite.specs.Truth.{by-test, of-true}
 use Rattle.finite.specs.Mapped.{mapFrom}
 use Rattle.table_theory.specs.Tables.{settles, startByte}
 use Rattle.rules.specs.Chess.{chess}
@@ -28,11 +30,10 @@ module _ (m : Men) (first second t : List ℕ) (k n : ℕ) where
   unfolding settles numbered requiredOf
   verdict-required one needs e = e ∙ sym (rw (eq-eqb (getD t n 0) 1 one))
 
--- a position is legal unless the side not to move is in check
-pub not-checked : (check live : Bool) → (check ≡ true → live ≡ false) → (check ≡ false → live ≡ true)
-    → not check ≡ live
-not-checked true live f g = sym (f refl)
-not-checked false live f g = sym (g refl)
+  pub verdict-none : false ≡ requiredOf m first second t k n → false ≡ settles chess (over m first second) k t n
+  verdict-none e =
+      by-test (eqb (getD t n 0) 1) (λ w. verdict-required (eqb→eq (getD t n 0) 1 w) false e)
+      (λ w. verdict-settled (λ z. w (of-true (eq-eqb (getD t n 0) 1 z))))
 
 -- ---- the starting bytes
 

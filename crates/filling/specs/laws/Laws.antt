@@ -80,6 +80,11 @@ module _ (G : Game) (N : Numbering G) (k : ℕ) (t : List ℕ) where
   unfolding settledBy passed
   pass-done u n count z long up e = (e ∙ ap settledBelow z, upto-all (passByte G N k t) t u n up (omega arith))
 
+  -- pass 0, by that name
+  pub pass-zero : (u : List ℕ) (count : ℕ) → k ≡ 0 → (count ≡ settledBy G N 0 t) × (u ≡ passed G N 0 t)
+      → (count ≡ settledBy G N k t) × (u ≡ passed G N k t)
+  pass-zero u count z h = rw z h
+
   -- a loop that looks for a number that is settled
   pub none-yet : (n : ℕ) (s : Bool) → s ≡ settles G N k t n → s ≡ false → someBelow n ≡ false
       → someBelow (n + 1) ≡ false

@@ -1,16 +1,10 @@
 -- A move and its reverse, on an ending's men and a place.
-use mathlib.Core.Path.{_≡_, refl, sym, ap, ap₂, subst, subst⁻¹, _∙_}
-use mathlib.Core.Logic.{_⊎_, inl, inr, ⊎-elim}
-use mathlib.Core.Bool.{Bool, true, false, cond, not, _&&_, _||_}
+use mathlib.Core.Path.{_≡_, refl, sym, ap, ap₂, _∙_}
+use mathlib.Core.Bool.{Bool, true, false, cond, _||_}
 use Prim.Native.Nat.{ℕ, _-_, _<_}
 use native.Mathlib.Omega.{arith}
-use lib.Dec.{T, eqb, ltb, ltb→lt}
-use borrow.Author.Tests.{lt-ltb, eq-eqb, ne-eqb, eqb-true, eqb-false}
-use Rattle.finite.specs.Truth.{decided, and-left, and-right, and-both, or-left, or-right, or-cases, false-of, refuted}
-use Rattle.board.specs.Reach.{reaches}
-use Rattle.board.specs.laws.ReachLaws.{reaches-same}
-use Rattle.board.specs.laws.Blocking.{reaches-fewer}
-use Rattle.symmetry.specs.laws.Opposite.{reaches-sym}
+use lib.Dec.{eqb}
+use borrow.Author.Tests.{eq-eqb, ne-eqb, eqb-true, eqb-false}
 use Rattle.rules.specs.Rules.{occupied, carried}
 use Rattle.position.specs.declared.Men.{Men}
 use Rattle.position.specs.declared.Place.{Place}
@@ -156,43 +150,3 @@ occupied-before m q taken from to u (Missing.second x y z) h a b =
     (ap₂ _||_ (same-king to from (q .black) u a b)
     (ap₂ _||_ (same-man to from (q .first) u a b h) (none-there u to (q .second) a y h)))
     ∙ sym (occupied-men m q u h)
-
--- ---- a piece goes back as it came, whatever stands on the two squares
-
-module _ (occ occ′ : ℕ → Bool) (kind s t : ℕ)
-    (same : (u : ℕ) → u < 64 → (u ≡ s → ⊥) → (u ≡ t → ⊥) → occ′ u ≡ occ u) where
-  -- what stands elsewhere, and the target
-  mid : ℕ → Bool
-  mid u = (occ u && not (eqb u s)) || eqb u t
-
-  -- on the board
-  within : ℕ → Bool
-  within u = ltb u 64 && occ′ u
-
-  mid-less : (u : ℕ) → (u ≡ t → ⊥) → T (mid u) → T (occ u)
-  unfolding mid
-  mid-less u n o = go (eqb u t) (ne-eqb u t n) o
-    where
-      go : (x : Bool) → x ≡ false → T ((occ u && not (eqb u s)) || x) → T (occ u)
-      go true e o = absurd (refuted e tt)
-      go false e o = ⊎-elim (λ a. and-left (occ u) (not (eqb u s)) a) (λ a. absurd a)
-          (or-cases (occ u && not (eqb u s)) false o)
-
-  mid-more : (u : ℕ) → (u ≡ s → ⊥) → T (within u) → T (mid u)
-  unfolding mid within
-  mid-more u n o = go (decided (eqb u t))
-    where
-      go : T (eqb u t) ⊎ T (not (eqb u t)) → T (mid u)
-      go (inl x) = or-right (occ u && not (eqb u s)) (eqb u t) x
-      go (inr x) = or-left (occ u && not (eqb u s)) (eqb u t)
-          (and-both (occ u) (not (eqb u s))
-          (subst T (same u (ltb→lt u 64 (and-left (ltb u 64) (occ′ u) o)) n (eqb-false u t (false-of x))) (and-right (ltb u 64) (occ′ u) o))
-          (subst⁻¹ (λ (b : Bool). T (not b)) (ne-eqb u s n) tt))
-
-  pub reaches-again : T (reaches occ kind s t) → T (reaches occ′ kind t s)
-  unfolding within
-  reaches-again h =
-      let h1 = reaches-fewer occ mid t mid-less kind s h in
-      let h2 = subst T (reaches-sym mid kind s t) h1 in
-      let h3 = reaches-fewer mid within s mid-more kind t h2 in
-      subst T (reaches-same within occ′ (λ u l. rw (lt-ltb u 64 l)) kind t s) h3

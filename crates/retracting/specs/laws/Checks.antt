@@ -1,14 +1,10 @@
 -- Whether the place before a move is legal, by lines to the king of the side that did not move: of the other men of the mover, and of the piece that moved.
-use mathlib.Core.Path.{_≡_, refl, sym, ap, subst, subst⁻¹, _∙_}
+use mathlib.Core.Path.{_≡_, refl, sym, ap, _∙_}
 use mathlib.Core.Bool.{Bool, true, false, not, _&&_}
 use Prim.Native.Nat.{ℕ, _-_, _<_}
 use native.Mathlib.Omega.{arith}
-use lib.Dec.{T, ltb, eqb, ltb→lt}
-use borrow.Author.Tests.{lt-ltb}
-use Rattle.finite.specs.Truth.{and-left, and-right, fails, refuted, same-test}
-use Rattle.board.specs.Reach.{reaches}
-use Rattle.board.specs.laws.ReachLaws.{reaches-same}
-use Rattle.board.specs.laws.Blocking.{reaches-fewer}
+use lib.Dec.{eqb}
+use Rattle.finite.specs.Truth.{fails, refuted}
 use Rattle.rules.specs.Rules.{occupied, touching, inCheck, attacked, legal, king}
 use Rattle.rules.specs.laws.Legal.{legal-facts}
 use Rattle.position.specs.declared.Men.{Men}
@@ -20,38 +16,6 @@ use Rattle.movegen.specs.Places.{menStrike}
 use Rattle.movegen.specs.laws.Struck.{attacked-king}
 use Rattle.successors.specs.laws.NumberLaws.{complete-legal}
 use Rattle.retracting.specs.Retracting.{CompleteApart}
-use Rattle.retracting.specs.laws.Back.{reaches-again}
-
--- ---- lines before the move, by what stood there but for the piece that moved
-
-module _ (occ stood : ℕ → Bool) (s t : ℕ) (same : (u : ℕ) → u < 64 → (u ≡ s → ⊥) → occ u ≡ stood u)
-    (gone : stood s ≡ false) where
-  within : ℕ → Bool
-  within u = ltb u 64 && stood u
-
-  within-same : (kind a b : ℕ) → reaches within kind a b ≡ reaches stood kind a b
-  unfolding within
-  within-same kind a b = reaches-same within stood (λ u l. rw (lt-ltb u 64 l)) kind a b
-
-  less : (u : ℕ) → (u ≡ t → ⊥) → T (within u) → T (occ u)
-  unfolding within
-  less u n o =
-      let h = ltb→lt u 64 (and-left (ltb u 64) (stood u) o) in
-      let w = and-right (ltb u 64) (stood u) o in
-      subst⁻¹ T (same u h (λ e. refuted gone (subst (λ (x : ℕ). T (stood x)) e w))) w
-
-  -- another's line that the piece put back may only cut
-  pub line-cut : (kind a : ℕ) → reaches stood kind a t ≡ false → reaches occ kind a t ≡ false
-  line-cut kind a e =
-      fails (reaches occ kind a t)
-      (λ h. refuted (within-same kind a t ∙ e) (reaches-fewer occ within t less kind a h))
-
-  -- its own, there and back
-  pub line-own : (kind : ℕ) → reaches occ kind s t ≡ reaches stood kind t s
-  line-own kind =
-      same-test (reaches occ kind s t) (reaches stood kind t s)
-      (reaches-again occ stood kind s t (λ u h a b. sym (same u h a)))
-      (reaches-again stood occ kind t s (λ u h a b. same u h b))
 
 -- ---- check before the move
 

@@ -1,15 +1,17 @@
 -- What the code of retractions comes to, by what it has in hand.
 use mathlib.Core.Path.{_≡_, refl, sym, ap, ap₂, subst, subst⁻¹, _∙_}
-use mathlib.Core.Bool.{Bool, true, false, cond, not, _&&_, and-true}
+use mathlib.Core.Bool.{Bool, true, false, cond, not, _&&_, _||_, and-true, and-false}
+use mathlib.Core.Logic.{_⊎_, inl, inr}
 use Prim.Native.Nat.{ℕ, _-_, _<_}
 use native.Mathlib.Omega.{arith}
+use lib.Bits.{bitAnd}
 use lib.Dec.{T, eqb}
 use borrow.Author.Tests.{eq-eqb, ne-eqb, eqb-true, eqb-false}
-use Rattle.finite.specs.Truth.{and-left, and-right, and-both, of-true, false-of, fails, refuted}
+use Rattle.finite.specs.Truth.{decided, and-left, and-right, and-both, of-true, true-of, false-of, fails, refuted}
 use Rattle.board.specs.Reach.{reaches}
 use Rattle.board.specs.Sets.{has, setOf}
 use Rattle.board.specs.laws.ReachLaws.{reaches-squares, reaches-same, king-reaches}
-use Rattle.board.specs.laws.SetLaws.{has-none, set-has}
+use Rattle.board.specs.laws.SetLaws.{has-none, has-and, set-has}
 use Rattle.rules.specs.Rules.{occupied, touching, inCheck, legal}
 use Rattle.rules.specs.laws.Legal.{legal-facts}
 use Rattle.rules.specs.laws.CanMove.{can-on}
@@ -21,7 +23,7 @@ use Rattle.position.specs.Posed.{posed, boardIn, Complete}
 use Rattle.successors.specs.laws.NumberLaws.{complete-legal}
 use Rattle.retracting.specs.Retracting.{Leads, LegalLeft, Seat, loser, putAgain, Retracts, placeBefore, CompleteApart, Steps, stillStrikes, othersStrike}
 use Rattle.retracting.specs.laws.Placing.{complete-before}
-use Rattle.retracting.specs.laws.Unchecked.{legal-before}
+use Rattle.retracting.specs.laws.Unchecked.{first-strikes, second-strikes, legal-before}
 use Rattle.retracting.specs.laws.Sources.{free-of, free-empty, seat-free, leads-back, put-back, lost-then, was-free, came, its-move}
 
 -- ---- legality
@@ -53,6 +55,34 @@ told-legal m o made r e f a =
 -- it is empty
 pub sifts-none : (squares i : ℕ) (b : Bool) → squares ≡ 0 → has 0 i ≡ (has squares i && b)
 sifts-none squares i b e = has-none i ∙ sym (ap (λ (s : ℕ). has s i && b) e ∙ ap (λ (x : Bool). x && b) (has-none i))
+
+-- ---- a man who has not moved
+
+pub still-strikes : (occ : ℕ → Bool) (owner to t colour kind square at : ℕ) (hit : Bool)
+    → at ≡ cond (eqb colour owner && not (eqb square to)) square 64 → hit ≡ reaches occ kind at t
+    → hit ≡ stillStrikes occ owner to t colour kind square
+still-strikes occ owner to t colour kind square at hit ea eh =
+    eh ∙ ap (λ (s : ℕ). reaches occ kind s t) ea ∙ go (eqb colour owner && not (eqb square to))
+  where
+    go : (b : Bool) → reaches occ kind (cond b square 64) t ≡ (b && reaches occ kind square t)
+    go true = refl
+    go false = fails (reaches occ kind 64 t) (λ h. let z = reaches-squares occ kind 64 t h .0 in omega (arith, z))
+
+-- he is on the board
+still-on : (colour owner to square at : ℕ) → at ≡ cond (eqb colour owner && not (eqb square to)) square 64 → at < 64
+    → (colour ≡ owner) × (square ≡ to → ⊥) × (at ≡ square)
+still-on colour owner to square at e h = go (eqb colour owner) refl (eqb square to) refl e
+  where
+    go : (b : Bool) → eqb colour owner ≡ b → (d : Bool) → eqb square to ≡ d → at ≡ cond (b && not d) square 64
+        → (colour ≡ owner) × (square ≡ to → ⊥) × (at ≡ square)
+    go true x false y z = (eqb-true colour owner x, eqb-false square to y, z)
+    go true x true y z = absurd (omega (arith, h, z))
+    go false x d y z = absurd (omega (arith, h, z))
+
+-- neither of them
+pub none-strikes : (m : Men) (q : Place) (occ : ℕ → Bool) (owner to t : ℕ) (a b : Bool) → a ≡ stillStrikes occ owner to t 0 (m .first) (q .first)
+    → a ≡ false → b ≡ stillStrikes occ owner to t (m .colour) (m .second) (q .second) → b ≡ false → othersStrike m q occ owner to t ≡ false
+none-strikes m q occ owner to t a b x e y f = ap₂ _||_ (sym x ∙ e) (sym y ∙ f)
 
 module _ (m : Men) (q : Place) (taken kind owner to : ℕ) (g : LegalLeft m q taken) (seat : Seat m q kind owner to) where
   owned : owner < 2
@@ -114,28 +144,73 @@ module _ (m : Men) (q : Place) (taken kind owner to : ℕ) (g : LegalLeft m q ta
     Sifted r = (s : ℕ) → s < 64 → has r s ≡ (has squares s && legal (boardIn m (placeBefore q taken s to)))
 
     module _ (em : owner ≡ 1 - q .side) (lost : (taken ≡ 0 → ⊥) → loser m taken ≡ q .side) where
-      -- no other man has a line to the king
-      pub unstruck : (k stood : ℕ) → k ≡ cond (eqb (q .side) 0) (q .white) (q .black)
-          → ((u : ℕ) → u < 64 → has stood u ≡ (has occ u && not (eqb taken 0 && eqb u to))) → (struck : Bool)
-          → struck ≡ othersStrike m q (has stood) owner to k → struck ≡ false → (reach r : ℕ)
-          → reach ≡ setOf (reaches (has stood) kind k) → r ≡ setOf (λ (u : ℕ). has squares u && not (has reach u)) → Sifted r
-      unstruck k stood ek ed struck e f reach r er es s h =
-          set-has (λ (u : ℕ). has squares u && not (has reach u)) es s h
-          ∙ ap (λ (b : Bool). has squares s && not b) (set-has (reaches (has stood) kind k) er s h)
-          ∙ go (has squares s) refl
-        where
-          over : (u : ℕ) → u < 64 → has stood u ≡ (occupied (boardIn m q) u && not (eqb taken 0 && eqb u to))
-          over u l =
-              ed u l
-              ∙ ap (λ (b : Bool). b && not (eqb taken 0 && eqb u to)) (set-has (occupied (boardIn m q)) (st .occupied-all) u l)
+      module _ (k stood : ℕ) (ek : k ≡ cond (eqb (q .side) 0) (q .white) (q .black))
+          (ed : (u : ℕ) → u < 64 → has stood u ≡ (has occ u && not (eqb taken 0 && eqb u to))) where
+        over : (u : ℕ) → u < 64 → has stood u ≡ (occupied (boardIn m q) u && not (eqb taken 0 && eqb u to))
+        over u l =
+            ed u l
+            ∙ ap (λ (b : Bool). b && not (eqb taken 0 && eqb u to)) (set-has (occupied (boardIn m q)) (st .occupied-all) u l)
 
-          go : (b : Bool) → has squares s ≡ b
-              → (b && not (reaches (has stood) kind k s)) ≡ (b && legal (boardIn m (placeBefore q taken s to)))
-          go false z = refl
-          go true z =
-              let t = of-true z in
-              sym (legal-before m q taken g kind owner to s seat em lost (reached s h t) (free-of m q s h (unoccupied s h t)) k ek
-              (has stood) over (ap (λ (x : ℕ). othersStrike m q (has stood) x to k) (sym em) ∙ sym e ∙ f) (apart-there s h t))
+        -- no other man has a line to the king
+        pub unstruck : othersStrike m q (has stood) owner to k ≡ false → (reach r : ℕ)
+            → reach ≡ setOf (reaches (has stood) kind k) → r ≡ setOf (λ (u : ℕ). has squares u && not (has reach u)) → Sifted r
+        unstruck none reach r er es s h =
+            set-has (λ (u : ℕ). has squares u && not (has reach u)) es s h
+            ∙ ap (λ (b : Bool). has squares s && not b) (set-has (reaches (has stood) kind k) er s h)
+            ∙ go (has squares s) refl
+          where
+            go : (b : Bool) → has squares s ≡ b
+                → (b && not (reaches (has stood) kind k s)) ≡ (b && legal (boardIn m (placeBefore q taken s to)))
+            go false z = refl
+            go true z =
+                let t = of-true z in
+                sym (legal-before m q taken g kind owner to s seat em lost (reached s h t) (free-of m q s h (unoccupied s h t)) k ek
+                (has stood) over (ap (λ (x : ℕ). othersStrike m q (has stood) x to k) (sym em) ∙ none) (apart-there s h t))
+
+        -- the squares between a man and the king
+        abbrev Between : ℕ → ℕ → ℕ → Type 0
+        Between j a r = (s : ℕ) → s < 64
+            → has r s ≡ ((has squares s && (reaches (has stood) j a s && reaches (has stood) j k s)) && legal (boardIn m (placeBefore q taken s to)))
+
+        sift-between : (j a r : ℕ) → Between j a r
+            → ((s : ℕ) → s < 64 → T (has squares s) → (T (reaches (has stood) j a s) → T (reaches (has stood) j k s) → ⊥)
+            → legal (boardIn m (placeBefore q taken s to)) ≡ false) → Sifted r
+        sift-between j a r e f s h = e s h ∙ go (has squares s) refl (decided (reaches (has stood) j a s && reaches (has stood) j k s))
+          where
+            go : (b : Bool) → has squares s ≡ b
+                → T (reaches (has stood) j a s && reaches (has stood) j k s) ⊎ T (not (reaches (has stood) j a s && reaches (has stood) j k s))
+                → ((b && (reaches (has stood) j a s && reaches (has stood) j k s)) && legal (boardIn m (placeBefore q taken s to)))
+                ≡ (b && legal (boardIn m (placeBefore q taken s to)))
+            go false z d = refl
+            go true z (inl x) =
+                let both : (reaches (has stood) j a s && reaches (has stood) j k s) ≡ true = true-of x in
+                ap (λ (b : Bool). b && legal (boardIn m (placeBefore q taken s to))) both
+            go true z (inr x) =
+                let none : (reaches (has stood) j a s && reaches (has stood) j k s) ≡ false = false-of x in
+                let y = f s h (of-true z) (λ v w. refuted none (and-both (reaches (has stood) j a s) (reaches (has stood) j k s) v w)) in
+                ap (λ (b : Bool). (reaches (has stood) j a s && reaches (has stood) j k s) && b) y
+                ∙ and-false (reaches (has stood) j a s && reaches (has stood) j k s) ∙ sym y
+
+        -- one of the mover's men has a line to him
+        pub struck-first : (at : ℕ) → at ≡ cond (eqb 0 owner && not (eqb (q .first) to)) (q .first) 64 → (hit : Bool)
+            → hit ≡ reaches (has stood) (m .first) at k → hit ≡ true → (r : ℕ) → Between (m .first) at r → Sifted r
+        struck-first at ea hit eh e r =
+            let line = of-true (sym eh ∙ e) in
+            let w = still-on 0 owner to (q .first) at ea (reaches-squares (has stood) (m .first) at k line .0) in
+            λ f. sift-between (m .first) at r f (λ s h t n.
+            first-strikes m q taken g kind owner to s seat em lost (reached s h t) (free-of m q s h (unoccupied s h t)) k ek (has stood) over
+            (w .0 ∙ em) (w .1) (subst (λ (a : ℕ). T (reaches (has stood) (m .first) a k)) (w .2) line)
+            (λ u v. n (subst⁻¹ (λ (a : ℕ). T (reaches (has stood) (m .first) a s)) (w .2) u) v) (apart-there s h t))
+
+        pub struck-second : (at : ℕ) → at ≡ cond (eqb (m .colour) owner && not (eqb (q .second) to)) (q .second) 64 → (hit : Bool)
+            → hit ≡ reaches (has stood) (m .second) at k → hit ≡ true → (r : ℕ) → Between (m .second) at r → Sifted r
+        struck-second at ea hit eh e r =
+            let line = of-true (sym eh ∙ e) in
+            let w = still-on (m .colour) owner to (q .second) at ea (reaches-squares (has stood) (m .second) at k line .0) in
+            λ f. sift-between (m .second) at r f (λ s h t n.
+            second-strikes m q taken g kind owner to s seat em lost (reached s h t) (free-of m q s h (unoccupied s h t)) k ek (has stood) over
+            (w .0 ∙ em) (w .1) (subst (λ (a : ℕ). T (reaches (has stood) (m .second) a k)) (w .2) line)
+            (λ u v. n (subst⁻¹ (λ (a : ℕ). T (reaches (has stood) (m .second) a s)) (w .2) u) v) (apart-there s h t))
 
       pub exact : (r : ℕ) → Sifted r → Retracts m q taken to r
       exact r told = record { sound = λ s h t. sound s h t; all = λ o s l. (all o s l, put-back m q o s to taken g l) }
@@ -159,6 +234,14 @@ module _ (m : Men) (q : Place) (taken kind owner to : ℕ) (g : LegalLeft m q ta
               (subst⁻¹ (λ (b : Bool). T (not b)) (free-empty m q s h (was-free m q o s to taken g l)) tt)))
               (subst (λ (p : Place). T (legal (boardIn m p))) (put-back m q o s to taken g l) (l .legality)))
 
+-- ---- the squares between a man and the king, of these
+
+pub in-both : (squares a b between among : ℕ) (p o : ℕ → Bool) → a ≡ setOf p → b ≡ setOf o → between ≡ bitAnd a b → among ≡ bitAnd squares between
+    → (s : ℕ) → s < 64 → has among s ≡ (has squares s && (p s && o s))
+in-both squares a b between among p o ea eb e f s h =
+    ap (λ (x : ℕ). has x s) f ∙ has-and squares between s
+    ∙ ap (λ (x : Bool). has squares s && x) (ap (λ (x : ℕ). has x s) e ∙ has-and a b s ∙ ap₂ _&&_ (set-has p ea s h) (set-has o eb s h))
+
 -- ---- what stood before the move
 
 pub stood-none : (occ taken to stood : ℕ) → taken ≡ 0 → stood ≡ setOf (λ (u : ℕ). has occ u && not (eqb u to)) → (u : ℕ) → u < 64
@@ -171,18 +254,6 @@ pub stood-taken : (occ taken to : ℕ) → (taken ≡ 0 → ⊥) → (u : ℕ) �
     → has occ u ≡ (has occ u && not (eqb taken 0 && eqb u to))
 stood-taken occ taken to e u h =
     sym (ap (λ (b : Bool). has occ u && not (b && eqb u to)) (ne-eqb taken 0 e) ∙ and-true (has occ u))
-
--- ---- a man who has not moved
-
-pub still-strikes : (occ : ℕ → Bool) (owner to t colour kind square at : ℕ) (hit : Bool)
-    → at ≡ cond (eqb colour owner && not (eqb square to)) square 64 → hit ≡ reaches occ kind at t
-    → hit ≡ stillStrikes occ owner to t colour kind square
-still-strikes occ owner to t colour kind square at hit ea eh =
-    eh ∙ ap (λ (s : ℕ). reaches occ kind s t) ea ∙ go (eqb colour owner && not (eqb square to))
-  where
-    go : (b : Bool) → reaches occ kind (cond b square 64) t ≡ (b && reaches occ kind square t)
-    go true = refl
-    go false = fails (reaches occ kind 64 t) (λ h. let z = reaches-squares occ kind 64 t h .0 in omega (arith, z))
 
 -- ---- the place before, field by field
 

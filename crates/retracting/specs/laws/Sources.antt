@@ -25,10 +25,11 @@ use Rattle.index.specs.Seats.{Seated}
 use Rattle.index.specs.laws.CompleteLaws.{complete-seated}
 use Rattle.movegen.specs.Places.{squareAfter, placeAfter}
 use Rattle.movegen.specs.laws.Places.{occupied-men, stands-men, place-moved}
+use Rattle.movegen.specs.laws.Lines.{reaches-again}
 use Rattle.movegen.specs.Reach.{Alone}
 use Rattle.movegen.specs.laws.Alone.{white-alone, black-alone, first-alone, second-alone}
 use Rattle.retracting.specs.Retracting.{Leads, Missing, LegalLeft, Seat, loser, putAgain, placeBefore}
-use Rattle.retracting.specs.laws.Back.{Free, king-again, man-again, gone-king, gone-man, there-and-back, before-and-after, free-after, occupied-else, occupied-before, reaches-again}
+use Rattle.retracting.specs.laws.Back.{Free, king-again, man-again, gone-king, gone-man, there-and-back, before-and-after, free-after, occupied-else, occupied-before}
 
 -- ---- the piece on a square
 

@@ -1,6 +1,6 @@
 -- The verdict on a byte of a complete place, and whether a depth is required there.
 use mathlib.Core.Path.{_≡_, refl, sym, ap, subst, subst⁻¹, _∙_}
-use mathlib.Core.Bool.{Bool, true, false, cond}
+use mathlib.Core.Bool.{Bool, true, false, cond, _&&_, and-false}
 use mathlib.Core.List.{List}
 use Prim.Native.Nat.{ℕ, _≤_, _<_}
 use native.Mathlib.Omega.{arith}
@@ -116,6 +116,21 @@ module _ (m : Men) (q : Place) where
     place-stuck r t =
         stuck (λ b. 0) (boardIn m q) (kingAt q) (q .first) (q .second) (starts m q) plain r (t .king) (t .first)
         (t .second)
+
+    -- a king who may move is not mated
+    pub place-moving : (targets : ℕ) → targets ≡ setOf (canMove (boardIn m q) (king (boardIn m q) (q .side)))
+        → (targets ≡ 0 → ⊥) → false ≡ mated (boardIn m q)
+    unfolding mated
+    place-moving targets e n =
+        let b = boardIn m q in
+        let r : Reach = record {
+          king = targets;
+          first = setOf (canMove b (q .first));
+          second = setOf (canMove b (q .second));
+        } in
+        let stays : noTargets r ≡ false = rw (ne-eqb targets 0 n) in
+        sym (ap (λ (x : Bool). inCheck b (b .side) && x) (sym (place-stuck r (to-reaches r (e, refl, refl))) ∙ stays)
+        ∙ and-false (inCheck b (b .side)))
 
     -- the verdict on a byte, by what is judged
     module _ (first second table : List ℕ) (c : ℕ) where

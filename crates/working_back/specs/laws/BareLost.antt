@@ -3,12 +3,12 @@ use mathlib.Core.Path.{_≡_, refl, sym, ap, subst, subst⁻¹, _∙_}
 use mathlib.Core.Bool.{Bool, true, false, cond, not, _&&_, _||_, and-false}
 use mathlib.Core.Logic.{_⊎_, inl, inr, ⊎-elim}
 use mathlib.Core.List.{List}
-use Prim.Native.Nat.{ℕ, _+_, _-_, _<_, _≤_, _%_}
+use Prim.Native.Nat.{ℕ, _+_, _-_, _^_, _<_, _%_}
 use native.Mathlib.Omega.{arith}
 use lib.Dec.{T, leb, eqb, eqb→eq}
 use lib.ListN.{getD, length, set, List·getD-eq-default}
 use borrow.Author.Tests.{eq-eqb, ne-eqb, le-leb, lt-leb}
-use Rattle.finite.specs.Truth.{decided, le-or-lt, refuted, of-true, and-both, and-left, and-right}
+use Rattle.finite.specs.Truth.{decided, le-or-lt, refuted, of-true, and-both, and-left}
 use Rattle.theory.specs.Required.{winning, requiredAt}
 use Rattle.theory.specs.Verdict.{spoils}
 use Rattle.theory.specs.laws.InPlace.{Settling}
@@ -17,24 +17,27 @@ use Rattle.theory.specs.Judge.{refutes}
 use Rattle.table_theory.specs.Tables.{reads}
 use Rattle.board.specs.Reach.{reaches}
 use Rattle.board.specs.Sets.{has, setOf}
-use Rattle.board.specs.laws.SetLaws.{has-none}
-use Rattle.rules.specs.Rules.{Board, carried, moved, canMove}
+use Rattle.board.specs.laws.SetLaws.{has-none, has-off, setOf-lt}
+use Rattle.rules.specs.Rules.{Board, moved, canMove}
 use Rattle.rules.specs.Chess.{chess}
 use Rattle.rules.specs.laws.CanMove.{can-on}
+use Rattle.numbering.specs.Kings.{separate}
 use Rattle.numbering.specs.Number.{numberOf}
 use Rattle.position.specs.declared.Men.{Men}
 use Rattle.position.specs.declared.Place.{Place}
-use Rattle.position.specs.Posed.{boardIn, Complete}
+use Rattle.position.specs.Keyed.{boardOf}
+use Rattle.position.specs.Posed.{posed, boardIn, Complete}
 use Rattle.position.specs.laws.PosedLaws.{complete-spread}
 use Rattle.index.specs.Seats.{Seated}
-use Rattle.index.specs.laws.CompleteLaws.{complete-seated}
+use Rattle.index.specs.laws.CompleteLaws.{complete-seated, complete-has}
 use Rattle.movegen.specs.declared.Reach.{Reach}
 use Rattle.movegen.specs.Places.{squareAfter, placeAfter}
 use Rattle.movegen.specs.laws.Places.{place-moved}
 use Rattle.successors.specs.Successors.{bytesIn, kingAt, Remains}
-use Rattle.successors.specs.laws.PlaceLaws.{starts, remains, remains-after}
+use Rattle.successors.specs.laws.PlaceLaws.{starts, remains-after}
 use Rattle.successors.specs.laws.PlaceVerdicts.{plain}
-use Rattle.successors.specs.laws.ByteLaws.{all-there, own-seated, byte-own, byte-bare, byte-moved}
+use Rattle.successors.specs.laws.ByteLaws.{all-there, own-seated, byte-own, byte-moved}
+use Rattle.successors.specs.laws.KingKeys.{moved-separate}
 use Rattle.successors.specs.laws.ChoiceLaws.{suitsTo, suitingSet, zero-fails}
 use Rattle.successors.specs.laws.VerdictLaws.{depth-refuted, depth-told}
 use Rattle.retracting.specs.Retracting.{Leads, placeBefore}
@@ -104,28 +107,6 @@ module _ (m : Men) (q : Place) (taken to white x y : ℕ) (v : Bare m q taken to
         sym (depth-refuted bytes b (plain m o whole) k some
         (s, t, c, of-true (ap (refutes (2 + k)) (sym (byte-after t c nx ny first second u)) ∙ e)))
 
-    -- taking the only man he draws
-    pub bare-draws : 4 ≤ m .second → T (canMove b s x) → k % 2 ≡ 0 → eqb (requiredAt chess bytes b) (2 + k) ≡ false
-    bare-draws h c even =
-        sym (depth-refuted bytes b (plain m o whole) k some (s, x, c, of-true (ap (refutes (2 + k)) (sym draw) ∙ even-draw k even)))
-      where
-        off : 64 ≤ y
-        off = remains m o whole .alone h
-
-        next : Place
-        next = record { side = 0; white = white; black = x; first = 64; second = y }
-
-        is : next ≡ placeAfter o s x
-        is =
-            let w = complete-spread whole in
-            unfold placeAfter in
-            place-eq refl (sym (ap (λ (z : Bool). cond z x white) (ne-eqb white s (w .white-black))))
-            (sym (ap (λ (z : Bool). cond z x s) (eq-eqb s s refl))) (sym (ap (λ (z : Bool). cond z 64 (carried s x x)) (eq-eqb x x refl)))
-            (sym (rw (ne-eqb y x (λ e. w .first-second (sym e)), ne-eqb y s (λ e. w .black-second (sym e)))))
-
-        draw : 1 ≡ bytes (moved b s x)
-        draw = byte-moved m o whole first second u s x 1 next c is (λ r. byte-bare m next r first second u (omega arith) off)
-
     -- none, and the one that he went to leads to depth k - 1
     module _ (goals : ℕ) (g : (t : ℕ) → t < 64 → has goals t ≡ (canMove b s t && not (eqb t to)))
         (nx : has goals x ≡ false) (ny : has goals y ≡ false)
@@ -173,15 +154,14 @@ module _ (m : Men) (q : Place) (taken to white x y : ℕ) (v : Bare m q taken to
 
 -- ---- as code has them
 
-pub both-told : (a b : Bool) → (a && b) ≡ true → T a × T b
-both-told a b e = (and-left a b (of-true e), and-right a b (of-true e))
-
 -- his number before the move
 pub bare-at : (m : Men) (q : Place) (taken to white x y : ℕ) → Bare m q taken to white x y → (s : ℕ)
     → Leads m (placeBefore q taken s to) s to q → (n : ℕ)
-    → (Seated m (bareOn 1 white s x y) → n ≡ numberOf (boardIn m (bareOn 1 white s x y))) → n ≡ numberOf (boardIn m (placeBefore q taken s to))
+    → (Seated m (bareOn 1 white s x y) → T (separate white s) → n ≡ numberOf (boardIn m (bareOn 1 white s x y)))
+    → n ≡ numberOf (boardIn m (placeBefore q taken s to))
 bare-at m q taken to white x y v s l n f =
-    f (complete-seated m (bareOn 1 white s x y) (complete m q taken to white x y v s l))
+    let w = complete m q taken to white x y v s l in
+    f (complete-seated m (bareOn 1 white s x y) w) (unfold boardOf posed in complete-has m (bareOn 1 white s x y) w .kings)
     ∙ ap (λ (o : Place). numberOf (boardIn m o)) (sym (place-is m q taken to white x y v s l))
 
 even-deep : (k : ℕ) → 0 < k → k % 2 ≡ 0 → refutes (2 + k) (1 + k) ≡ false
@@ -218,14 +198,21 @@ module _ (m : Men) (q : Place) (taken to white x y : ℕ) (v : Bare m q taken to
   pub goal-can : (t : ℕ) → t < 64 → T (has goals t) → T (canMove (boardIn m (bareOn 1 white s x y)) s t)
   goal-can t i g = and-left (canMove (boardIn m (bareOn 1 white s x y)) s t) (not (eqb t to)) (subst T (goals-hold t i) g)
 
-  pub bare-drawn : 4 ≤ m .second → x < 64 → T (has goals x) → TriesPlace m first second k q (placeBefore q taken s to) u u 0
-  bare-drawn i j g =
-      tried-kept m (placeBefore q taken s to) q s to l first second k u a n z h one
-      (λ t w r. ap (λ (o : Place). eqb (requiredAt chess (bytesIn m first second u) (boardIn m o)) (2 + k)) same
-      ∙ bare-draws m q taken to white x y v s l first second u k (λ e. omega (arith, some, e)) i (goal-can x j g) even)
-
-  pub first-on : x < 64
+  first-on : x < 64
   first-on = complete-spread (complete m q taken to white x y v s l) .first
+
+  -- a man that he might take
+  pub taking-can : (takes : Bool) (t : ℕ) → takes ≡ has goals x → (takes || has goals y) ≡ true → t ≡ cond takes x y
+      → T (canMove (boardIn m (placeBefore q taken s to)) s t)
+  taking-can takes t e o z =
+      subst⁻¹ (λ (p : Place). T (canMove (boardIn m p) s t)) same (subst⁻¹ (λ (i : ℕ). T (canMove (boardIn m (bareOn 1 white s x y)) s i)) z (go takes e o))
+    where
+      second-on : T (has goals y) → y < 64
+      second-on g = ⊎-elim (λ i. absurd (refuted (has-off goals y i (subst⁻¹ (λ (i : ℕ). i < 2 ^ 64) eg (setOf-lt _))) g)) (λ i. i) (le-or-lt 64 y)
+
+      go : (b : Bool) → b ≡ has goals x → (b || has goals y) ≡ true → T (canMove (boardIn m (bareOn 1 white s x y)) s (cond b x y))
+      go true e o = goal-can x first-on (subst T e tt)
+      go false e o = let g = of-true o in goal-can y (second-on g) g
 
   module _ (takes : (has goals x || has goals y) ≡ false) where
     no-first : has goals x ≡ false
@@ -245,9 +232,11 @@ module _ (m : Men) (q : Place) (taken to white x y : ℕ) (v : Bare m q taken to
     off : (t c : ℕ) → T (has goals t) → has goals c ≡ false → t ≡ c → ⊥
     off t c g e w = refuted (ap (has goals) w ∙ e) g
 
-    pub goal-seated : (t : ℕ) → t < 64 → T (has goals t) → Seated m (bareOn 0 white t x y)
-    goal-seated t i g =
-        seated-after m q taken to white x y v s l t (goal-can t i g) (off t x g no-first) (off t y g no-second)
+    pub goal-seated : (t : ℕ) → t < 64 → T (has goals t) → Seated m (bareOn 0 white t x y) × T (separate white t)
+    goal-seated t i g = (
+      seated-after m q taken to white x y v s l t (goal-can t i g) (off t x g no-first) (off t y g no-second),
+      moved-separate m (bareOn 1 white s x y) (complete m q taken to white x y v s l) t (goal-can t i g),
+    )
 
     pub bare-saved : (t : ℕ) × (t < 64) × T (has goals t)
         × (refutes (2 + k) (getD u (numberOf (boardIn m (bareOn 0 white t x y))) 0) ≡ true)
@@ -290,6 +279,21 @@ module _ (m : Men) (q : Place) (taken to white x y : ℕ) (v : Bare m q taken to
         subst⁻¹ (λ (t : List ℕ). TriesPlace m first second k q (placeBefore q taken s to) u t 0) e (bare-saved (f .one refl))
     bare-quiet w did (QuietLoss.lost f e) =
         subst⁻¹ (λ (t : List ℕ). TriesPlace m first second k q (placeBefore q taken s to) u t 1) e (bare-settled (f .none refl))
+
+-- what he takes leaves a byte that saves him
+pub tried-taking : (m : Men) (o q : Place) (s to t : ℕ) (l : Leads m o s to q) (first second : List ℕ) (k : ℕ) (u : List ℕ) (a : Admitted m first second u)
+    (n : ℕ) → n ≡ numberOf (boardIn m o) → n < length u → getD u n 0 ≡ 1 → 0 < k → T (canMove (boardIn m o) s t) → (made : Place) (c : ℕ) → made ≡ o
+    → (Complete m made → T (canMove (boardIn m made) s t) → c ≡ bytesIn m first second u (moved (boardIn m made) s t)) → refutes (2 + k) c ≡ true
+    → TriesPlace m first second k q o u u 0
+tried-taking m o q s to t l first second k u a n z h one some can made c e f r =
+    tried-kept m o q s to l first second k u a n z h one
+    (λ i w x. sym (depth-refuted (bytesIn m first second u) (boardIn m o) (plain m o (l .complete)) k (λ y. omega (arith, some, y))
+    (s, t, can, of-true (ap (refutes (2 + k)) (sym byte) ∙ r))))
+  where
+    byte : c ≡ bytesIn m first second u (moved (boardIn m o) s t)
+    byte =
+        f (subst⁻¹ (Complete m) e (l .complete)) (subst⁻¹ (λ (p : Place). T (canMove (boardIn m p) s t)) e can)
+        ∙ ap (λ (p : Place). bytesIn m first second u (moved (boardIn m p) s t)) e
 
 -- ---- what is known of his squares
 

@@ -30,7 +30,7 @@ use Rattle.movegen.specs.laws.Lifted.{king-moves}
 use Rattle.movegen.specs.laws.Struck.{attacked-split}
 use Rattle.successors.specs.Successors.{kingAt}
 use Rattle.successors.specs.laws.PlaceLaws.{starts}
-use Rattle.retracting.specs.Retracting.{Leads, Seat, putAgain, placeBefore}
+use Rattle.retracting.specs.Retracting.{Leads, putAgain, placeBefore}
 use Rattle.retracting.specs.laws.Causes.{place-eq}
 use Rattle.retracting.specs.laws.Sources.{was-free}
 use Rattle.working_back.specs.Bare.{bareOn, Bare, stoodOn, struckBy}
@@ -68,11 +68,6 @@ struck-is m white x y to i j k stood near far out ei ej ek es en a c ea ec ef eo
     there u g =
         ap (λ (z : ℕ). has z u) es ∙ has-or i (bitOr j k) u
         ∙ ap₂ _||_ (set-has _ ei u g) (has-or j k u ∙ ap₂ _||_ (set-has _ ej u g) (set-has _ ek u g))
-
--- he is the piece that moved
-pub bare-seat : {m : Men} {q : Place} {taken to white x y : ℕ} → Bare m q taken to white x y → Seat m q 5 (1 - q .side) to
-bare-seat {m} {q} {taken} {to} v =
-    subst⁻¹ (λ (s : ℕ). Seat m q 5 (1 - s) to) (v .side) (subst⁻¹ (λ (s : ℕ). Seat m q 5 1 s) (v .king) Seat.black)
 
 module _ (m : Men) (q : Place) (taken to white x y : ℕ) (v : Bare m q taken to white x y) (s : ℕ)
     (l : Leads m (placeBefore q taken s to) s to q) where

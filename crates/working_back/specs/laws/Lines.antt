@@ -9,12 +9,12 @@ use lib.Dec.{T, leb, ltb, eqb, leb→le}
 use borrow.Author.Tests.{le-leb, lt-leb, eq-eqb, ne-eqb, eqb-true, eqb-false}
 use Rattle.finite.specs.Truth.{decided, le-or-lt, true-of, false-of, true-not-false}
 use Rattle.board.specs.laws.ReachLaws.{reaches-squares}
-use Rattle.rules.specs.Rules.{occupied, legal, carried}
+use Rattle.rules.specs.Rules.{occupied, carried}
 use Rattle.rules.specs.laws.CanMove.{can-on}
 use Rattle.numbering.specs.Number.{numberOf}
 use Rattle.position.specs.declared.Men.{Men}
 use Rattle.position.specs.declared.Place.{Place}
-use Rattle.position.specs.Posed.{boardIn, Complete}
+use Rattle.position.specs.Posed.{boardIn}
 use Rattle.position.specs.Spread.{Spread}
 use Rattle.position.specs.laws.PosedLaws.{complete-spread}
 use Rattle.index.specs.Seats.{Seated, alike}
@@ -28,9 +28,9 @@ use Rattle.retracting.specs.Retracting.{Leads, LegalLeft, Missing, Seat, putAga
 use Rattle.retracting.specs.laws.Back.{Free}
 use Rattle.retracting.specs.laws.Sources.{was-free, free-of, seat-free}
 use Rattle.working_back.specs.declared.lines.Line.{Line}
-use Rattle.working_back.specs.Lines.{baseOf, scaleOf, Serves, LinedBefore, LinedAfter}
+use Rattle.working_back.specs.Lines.{baseOf, scaleOf, LinedBefore, LinedAfter}
 use Rattle.working_back.specs.Spared.{Quietly}
-use Rattle.working_back.specs.laws.Spared.{whole, seat-then}
+use Rattle.working_back.specs.laws.Spared.{whole}
 
 plain-digits : (x y : ℕ) → x * 64 + y ≡ menDigits false x y
 plain-digits x y = go (ltb y x)
@@ -278,18 +278,3 @@ plain-lined m q taken to side g w f hf e n base scale hb bound hs line z = (
         line-after m q taken to s g l kind t seat v f (subst (λ (x : ℕ). f ≡ frameFor x (q .white) (q .black)) d hf) e n w base scale hb hs;
   }),
 )
-
--- what is asked of a piece that was put back, of the place made
-pub spared-asks : (m : Men) (q : Place) (taken kind s to : ℕ) (line : Line) → LegalLeft m q taken → Leads m (placeBefore q taken s to) s to q
-    → Seat m q kind (1 - q .side) to → LinedAfter m q taken to line → (made : Place) → made ≡ placeBefore q taken s to
-    → Complete m made × T (legal (boardIn m made)) × Seat m made kind (made .side) s × (line .base < 2 ^ 48)
-    × ((t : ℕ) → Quietly m made kind s t → Serves m made s t line)
-spared-asks m q taken kind s to line g l seat f made e =
-    subst⁻¹ (λ (p : Place). Complete m p × T (legal (boardIn m p)) × Seat m p kind (p .side) s × (line .base < 2 ^ 48)
-    × ((t : ℕ) → Quietly m p kind s t → Serves m p s t line)) e (
-      l .complete,
-      l .legality,
-      seat-then m q taken kind s to g l seat,
-      f .bounded,
-      λ t w. f .serves kind s t l (seat-then m q taken kind s to g l seat) w,
-    )

@@ -1,13 +1,14 @@
 -- A position that has a move to one of depth k - 1: what trying its number comes to.
 use mathlib.Core.Path.{_≡_, sym, ap, subst, subst⁻¹, _∙_}
-use mathlib.Core.Bool.{true, false, Bool}
-use mathlib.Core.Logic.{_⊎_, inl, inr}
+use mathlib.Core.Bool.{true, false, Bool, not}
+use mathlib.Core.Logic.{_⊎_, inl, inr, ⊎-elim}
 use mathlib.Core.List.{List, Memᴰ·cast}
 use Prim.Native.Nat.{ℕ, _+_, _-_, _%_, _<_, _≤_}
 use native.Mathlib.Omega.{arith}
-use lib.Dec.{T, eqb}
+use lib.Dec.{T, eqb, eqb→eq}
 use lib.ListN.{length, getD, set, List·getD-eq-default}
-use Rattle.finite.specs.Truth.{of-true, refuted}
+use borrow.Author.Tests.{eqb-false}
+use Rattle.finite.specs.Truth.{decided, le-or-lt, of-true, false-of, refuted}
 use Rattle.finite.specs.Members.{_∈_, map-in}
 use Rattle.theory.specs.Game.{next}
 use Rattle.theory.specs.Required.{requiredAt}
@@ -158,6 +159,14 @@ module _ (m : Men) (o q : Place) (from to : ℕ) (l : Leads m o from to q) (firs
 
   pub tried-other : (getD u n 0 ≡ 1 → ⊥) → TriesPlace m first second k q o u u 0
   tried-other d = place-other m o q from to l first second k u a (subst (λ (i : ℕ). getD u i 0 ≡ 1 → ⊥) z d)
+
+  -- told where the table has it and it holds 1
+  pub tried-unless : (n < length u → getD u n 0 ≡ 1 → TriesPlace m first second k q o u u 0) → TriesPlace m first second k q o u u 0
+  tried-unless f = ⊎-elim tried-out (λ h. go h (decided (eqb (getD u n 0) 1))) (le-or-lt (length u) n)
+    where
+      go : n < length u → T (eqb (getD u n 0) 1) ⊎ T (not (eqb (getD u n 0) 1)) → TriesPlace m first second k q o u u 0
+      go h (inl x) = f h (eqb→eq (getD u n 0) 1 x)
+      go h (inr x) = tried-other (eqb-false (getD u n 0) 1 (false-of x))
 
   module _ (h : n < length u) (e : getD u n 0 ≡ 1) where
     here : numberOf (boardIn m o) < length u

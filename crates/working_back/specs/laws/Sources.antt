@@ -7,11 +7,11 @@ use Prim.Native.Nat.{ℕ, zero, suc, _+_, _-_, _<_, _≤_, _^_}
 use native.Mathlib.Omega.{arith}
 use lib.Dec.{T, eqb, eqb→eq}
 use lib.ListN.{length, set}
-use Rattle.finite.specs.Truth.{refuted, or-cases}
-use Rattle.finite.specs.Filter.{filter, keep}
+use Rattle.finite.specs.Truth.{decided, refuted, and-left, and-both, or-cases}
+use Rattle.finite.specs.Filter.{filter, keep, filter-fewer}
 use Rattle.finite.specs.Numbers.{numbers}
 use Rattle.board.specs.Sets.{has, members, squares, lowestSquare, setOf}
-use Rattle.board.specs.laws.SetLaws.{has-none}
+use Rattle.board.specs.laws.SetLaws.{has-none, set-has, squares-out}
 use Rattle.board.specs.laws.LowestLaws.{Lowest, lowest-of}
 use Rattle.rules.specs.Chess.{chess}
 use Rattle.rules.specs.laws.CanMove.{can-on}
@@ -46,6 +46,13 @@ numbers-long (suc n) k = ap suc (numbers-long n (suc k))
 members-few : (set : ℕ) → length (members set) ≤ 64
 unfolding members squares
 members-few set = subst (λ (n : ℕ). length (members set) ≤ n) (numbers-long 64 0) (filter-few (has set) (numbers 64 0))
+
+-- some are left out
+pub fewer-left : (set some rest : ℕ) → rest ≡ setOf (λ (u : ℕ). has set u && not (has some u)) → length (members rest) ≤ length (members set)
+unfolding members
+fewer-left set some rest e =
+    filter-fewer (has rest) (has set) squares
+    (λ u i t. and-left (has set u) (not (has some u)) (subst T (set-has (λ (u : ℕ). has set u && not (has some u)) e u (squares-out u i)) t))
 
 -- the lowest square of a set
 pub lowest-in : (set s : ℕ) → set < 2 ^ 64 → (set ≡ 0 → ⊥) → s ≡ lowestSquare set → (s < 64) × T (has set s)
@@ -88,6 +95,24 @@ module _ (m : Men) (first second : List ℕ) (k : ℕ) (q : Place) (taken to : �
                 (λ b. inl b) (or-cases (eqb i s) (has rest′ i) (subst T (low .others i h) g)))
                 (λ g. inr (tried-kept chess (over m first second) k t long v x more (numberOf (boardIn m (placeBefore q taken i to))) (y .0) g))
                 (p .1 i h z),
+          ),
+    )
+
+    -- from some of the rest nothing is settled
+    pub taken-spared : (v : List ℕ) (rest spared left did : ℕ) → Taken set u v rest did → left ≡ setOf (λ (i : ℕ). has rest i && not (has spared i))
+        → ((s : ℕ) → s < 64 → T (has rest s) → T (has spared s) → TriesPlace m first second k q (placeBefore q taken s to) v v 0)
+        → Taken set u v left did
+    taken-spared v rest spared left did f e w = (
+      few-most k (64 - length (members rest)) (64 - length (members left)) u v did (omega (arith, fewer-left rest spared left e)) (f .0),
+      λ t y ripe.
+          let p = f .1 t y ripe in (
+            p .0,
+            λ i h z. ⊎-elim
+                (λ g. ⊎-elim
+                (λ b. inr (w i h g b .1 t (p .0 .midway) ripe .1))
+                (λ b. inl (subst⁻¹ T (set-has (λ (i : ℕ). has rest i && not (has spared i)) e i h) (and-both (has rest i) (not (has spared i)) g b)))
+                (decided (has spared i)))
+                (λ g. inr g) (p .1 i h z),
           ),
     )
 

@@ -3,18 +3,17 @@ use mathlib.Core.Path.{_≡_, refl, sym, ap, subst, subst⁻¹, _∙_}
 use mathlib.Core.Bool.{Bool, true, false, cond, not, _&&_}
 use mathlib.Core.Logic.{_⊎_, inl, inr}
 use mathlib.Core.List.{List}
-use Prim.Native.Nat.{ℕ, zero, suc, _+_, _-_, _<_}
+use Prim.Native.Nat.{ℕ, _+_, _-_, _<_}
 use native.Mathlib.Omega.{arith}
 use lib.Dec.{T, eqb}
 use lib.ListN.{length, getD}
 use borrow.Author.Tests.{eq-eqb, ne-eqb}
-use Rattle.finite.specs.Truth.{and-left, and-right, of-true, true-of, false-of, refuted}
+use Rattle.finite.specs.Truth.{and-left, and-right, of-true, true-of, refuted}
 use Rattle.theory.specs.Required.{requiredAt}
 use Rattle.theory.specs.Judge.{refutes}
 use Rattle.board.specs.Reach.{reaches}
-use Rattle.board.specs.Sets.{has, setOf}
-use Rattle.board.specs.laws.SetLaws.{set-has}
-use Rattle.board.specs.laws.ReachLaws.{reaches-squares, reaches-same, king-reaches}
+use Rattle.board.specs.Sets.{has}
+use Rattle.board.specs.laws.ReachLaws.{reaches-squares, king-reaches}
 use Rattle.symmetry.specs.laws.Opposite.{reaches-sym}
 use Rattle.rules.specs.Rules.{occupied, touching, legal, moved, canMove, carried}
 use Rattle.rules.specs.Chess.{chess}
@@ -30,9 +29,9 @@ use Rattle.position.specs.declared.Men.{Men}
 use Rattle.position.specs.declared.Place.{Place}
 use Rattle.position.specs.Keyed.{boardOf}
 use Rattle.position.specs.Posed.{posed, boardIn, materialFor, Complete}
-use Rattle.index.specs.Seats.{Seated}
-use Rattle.index.specs.laws.CompleteLaws.{complete-has, complete-seated}
+use Rattle.index.specs.laws.CompleteLaws.{complete-has}
 use Rattle.movegen.specs.Places.{placeAfter}
+use Rattle.movegen.specs.laws.Lines.{reaches-again}
 use Rattle.four_men.specs.Reading.{legalNumberOf, numbered}
 use Rattle.four_men.specs.laws.Numbered.{live-is, legal-by}
 use Rattle.four_men.specs.laws.Materials.{own-material}
@@ -41,13 +40,13 @@ use Rattle.successors.specs.laws.PlaceVerdicts.{plain}
 use Rattle.successors.specs.laws.ByteLaws.{all-there, byte-own, byte-moved}
 use Rattle.successors.specs.laws.VerdictLaws.{depth-refuted}
 use Rattle.retracting.specs.Retracting.{Leads, LegalLeft, Seat, putAgain, placeBefore}
-use Rattle.retracting.specs.laws.Back.{Free, there-and-back, free-after, occupied-else, reaches-again}
+use Rattle.retracting.specs.laws.Back.{Free, there-and-back, free-after, occupied-else}
 use Rattle.retracting.specs.laws.Placing.{complete-before}
 use Rattle.retracting.specs.laws.Sources.{free-of, seat-free, seat-before, side-before, all-left, leads-back, moves-on}
 use Rattle.working_back.specs.Admitted.{over, Admitted}
 use Rattle.working_back.specs.Trying.{Midway, Alive}
 use Rattle.working_back.specs.Back.{TriesPlace}
-use Rattle.working_back.specs.Spared.{Quietly, Spared}
+use Rattle.working_back.specs.Spared.{Quietly, Sparing, Spared}
 use Rattle.working_back.specs.laws.Trying.{held-one}
 use Rattle.working_back.specs.laws.Places.{tried-kept}
 
@@ -133,54 +132,13 @@ module _ (m : Men) (o : Place) (kind s t : ℕ) (c : Complete m o) (l : T (legal
         byte : getD u (numberOf (boardIn m a)) 0 ≡ bytesIn m first second u (moved (boardIn m o) s t)
         byte = byte-moved m o c first second u s t _ a can refl (λ r. byte-own m a r first second u (all-there m a whole) _ _ refl refl)
 
--- ---- as code has it
-
--- the squares gathered
-pub quiet-reached : (m : Men) (o : Place) (kind s occ reach free : ℕ) → occ ≡ setOf (occupied (boardIn m o)) → reach ≡ setOf (reaches (has occ) kind s)
-    → free ≡ setOf (λ (u : ℕ). has reach u && not (has occ u)) → (t : ℕ) → t < 64 → T (has free t)
-    → T (reaches (occupied (boardIn m o)) kind s t) × (occupied (boardIn m o) t ≡ false)
-quiet-reached m o kind s occ reach free eo er ef t h g =
-    let x = subst T (set-has _ ef t h) g in (
-      subst T (set-has _ er t h ∙ reaches-same (has occ) (occupied (boardIn m o)) (set-has _ eo) kind s t) (and-left (has reach t) (not (has occ t)) x),
-      sym (set-has _ eo t h) ∙ false-of (and-right (has reach t) (not (has occ t)) x),
-    )
-
--- a man's
-pub quiet-man : (m : Men) (o : Place) (kind s t : ℕ) → (kind ≡ 5 → ⊥) → T (reaches (occupied (boardIn m o)) kind s t) × (occupied (boardIn m o) t ≡ false)
-    → Quietly m o kind s t
-quiet-man m o kind s t n w = record { reached = w .0; free = w .1; apart = λ e. absurd (n e) }
-
--- a king's
-pub quiet-king : (m : Men) (o : Place) (kind s foe near free r t : ℕ) → o .side < 2 → (side : ℕ) → side ≡ 1 - o .side
-    → foe ≡ cond (eqb side 0) (o .white) (o .black) → near ≡ setOf (reaches (has 0) 5 foe) → r ≡ setOf (λ (u : ℕ). has free u && not (has near u))
-    → (T (has free t) → T (reaches (occupied (boardIn m o)) kind s t) × (occupied (boardIn m o) t ≡ false)) → t < 64 → T (has r t)
-    → Quietly m o kind s t
-quiet-king m o kind s foe near free r t hs side e f n er w h g =
-    let x = subst T (set-has _ er t h) g in
-    let y = w (and-left (has free t) (not (has near t)) x) in
-    record {
-      reached = y .0;
-      free = y .1;
-      apart = λ k.
-          ap (λ (z : ℕ). reaches (has 0) 5 z t) (sym (f ∙ by (o .side) side hs e)) ∙ sym (set-has _ n t h)
-          ∙ false-of (and-right (has free t) (not (has near t)) x);
-    }
-  where
-    by : (s side : ℕ) → s < 2 → side ≡ 1 - s → cond (eqb side 0) (o .white) (o .black) ≡ cond (eqb s 0) (o .black) (o .white)
-    by zero side h e = ap (λ (z : ℕ). cond (eqb z 0) (o .white) (o .black)) e
-    by (suc zero) side h e = ap (λ (z : ℕ). cond (eqb z 0) (o .white) (o .black)) e
-    by (suc (suc s)) side h e = absurd (omega arith)
-
 -- the byte read at the number made, and what the test tells
-pub spares : (m : Men) (k : ℕ) (o : Place) (kind s t : ℕ) (u : List ℕ) → Complete m o → T (legal (boardIn m o)) → Seat m o kind (o .side) s
-    → Quietly m o kind s t → (n c : ℕ) (r : Bool) → (Seated m (placeAfter o s t) → n ≡ numberOf (boardIn m (placeAfter o s t))) → c ≡ getD u n 0
-    → r ≡ refutes (2 + k) c → (not (eqb c 0) && r) ≡ true → Spared m k o kind s u
-spares m k o kind s t u w l seat v n c r hn hc hr e =
-    let z = hc ∙ ap (λ (i : ℕ). getD u i 0) (hn (complete-seated m (placeAfter o s t) (whole m o kind s t w l seat v))) in
+pub sparing-of : (m : Men) (k : ℕ) (p : Place) (u : List ℕ) (n c : ℕ) (r : Bool) → n ≡ numberOf (boardIn m p) → c ≡ getD u n 0
+    → r ≡ refutes (2 + k) c → (not (eqb c 0) && r) ≡ true → Sparing m k p u
+sparing-of m k p u n c r hn hc hr e =
+    let z = hc ∙ ap (λ (i : ℕ). getD u i 0) hn in
     let x = of-true e in
     record {
-      target = t;
-      quietly = v;
       some = λ y. refuted (ap not (eq-eqb c 0 (z ∙ y))) (and-left (not (eqb c 0)) r x);
       refuting = ap (refutes (2 + k)) (sym z) ∙ sym hr ∙ true-of (and-right (not (eqb c 0)) r x);
     }
@@ -209,4 +167,4 @@ pub tried-spared : (m : Men) (o q : Place) (from to : ℕ) (l : Leads m o from t
 tried-spared m o q from to l first second k u a n z h e some kind seat x =
     tried-kept m o q from to l first second k u a n z h e
     (λ t w r. unrequired m o kind from (x .target) (l .complete) (l .legality) seat (x .quietly)
-    (alive-midway m first second k t u w (r .ready .alive) _ (x .some)) first second u k (λ e. omega (arith, some, e)) (x .refuting))
+    (alive-midway m first second k t u w (r .ready .alive) _ (x .sparing .some)) first second u k (λ e. omega (arith, some, e)) (x .sparing .refuting))

@@ -1,17 +1,19 @@
--- `rows::in_row` meets its contract, by how many men there are.
+-- `rows::in_row` meets its contract.
+use mathlib.Core.Path.{subst⁻¹}
 use borrow.Author.Needs.{needs}
-use Rattle.deciding.specs.laws.Rows.{row-one, row-two}
+use Rattle.index.specs.Seats.{StandsAt}
+use Rattle.deciding.specs.laws.Rows.{row-stands}
 use Rattle.deciding.proofs.rows.in_row.Statement.{statement}
 use Rattle.deciding.proofs.rows.in_row.Tie as tie
 
-cast-last : tie.Need-cast-last
-cast-last c = search needs
+cast-with-last : tie.Need-cast-with-last
+cast-with-last c = search needs
+
+with-last-requires : tie.Need-with-last-requires
+with-last-requires c κs = search needs
 
 returns : tie.Need-returns
-returns c = λ w. row-one _ _ _ w (c .if1 .taken)
-
-returns-2 : tie.Need-returns-2
-returns-2 c = λ w. row-two _ _ _ w (c .if1 .left)
+returns c = λ w. subst⁻¹ (StandsAt _ _) (c .with-last .ensures) (row-stands _ _ _ w)
 
 pub in-row-spec : {M : Type 1} → statement M
-in-row-spec = tie.close (tie.spec cast-last returns returns-2)
+in-row-spec = tie.close (tie.spec cast-with-last with-last-requires returns)

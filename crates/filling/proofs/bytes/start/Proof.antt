@@ -1,68 +1,30 @@
--- `filling::start` meets its contract. The loop's invariant: the bytes below n are started, the others as they were.
-use Prim.Native.Nat.{_≤_, _-_}
-use native.Mathlib.Omega.{arith}
+-- `filling::start` meets its contract, by the first man.
 use borrow.Author.Needs.{needs}
-use lib.ListN.{length, length-set}
-use Rattle.finite.specs.Mapped.{Upto, upto-none, upto-more, upto-all}
-use Rattle.table_theory.specs.Tables.{startByte}
-use Rattle.rules.specs.Chess.{chess}
-use Rattle.position.specs.Posed.{materialFor}
-use Rattle.four_men.specs.Reading.{numbered}
-use Rattle.four_men.specs.Steps.{nothing}
-use Rattle.working_back.specs.laws.Admitted.{size-most}
+use Rattle.deciding.specs.laws.PawnLaws.{given-known}
 use Rattle.filling.proofs.bytes.start.Statement.{statement}
 use Rattle.filling.proofs.bytes.start.Tie as tie
 
-abbrev Inv-loop : tie.InvT-loop
-Inv-loop m table₀ n₀ table n = (n ≤ length table)
-    × Upto (startByte chess (numbered (materialFor m) nothing)) table₀ table n
+start-each-requires : tie.Need-start-each-requires
+start-each-requires c κs = search needs
 
-abbrev μ-loop : tie.MeasureT-loop
-μ-loop m table₀ n₀ table n = length table - n
+same-length : tie.Need-same-length
+same-length c = search needs
 
-loop-holds : tie.Need-loop-holds Inv-loop μ-loop
-loop-holds c = (omega arith, upto-none _ _)
+returns : tie.Need-returns
+returns c = search needs
 
-cast-first-byte : tie.Need-cast-first-byte Inv-loop μ-loop
-cast-first-byte c = let u = c .before .loop .inv .1 in
-    omega (
-      arith,
-      c .loop-test .taken,
-      u .same-length,
-      c .before .before .before .pre .2,
-      size-most (materialFor (c .before .before .before .args .m)),
-    )
+start-rows-requires : tie.Need-start-rows-requires
+start-rows-requires c κs =
+    let e = c .before in
+    let s = e .before .before .before in
+    let p = s .pre in (given-known (s .args .m) (p .0) (e .if1 .left), p .1, p .2)
 
-first-byte-requires : tie.Need-first-byte-requires Inv-loop μ-loop
-first-byte-requires c κs =
-    let u = c .before .loop .inv .1 in
-    let p = c .before .before .before .pre in
-    (p .0, p .1, omega (arith, c .loop-test .taken, u .same-length, p .2))
+same-length-2 : tie.Need-same-length-2
+same-length-2 c = search needs
 
-slice-write-table : tie.Need-slice-write-table Inv-loop μ-loop
-slice-write-table c = search needs
-
-add-n : tie.Need-add-n Inv-loop μ-loop
-add-n c = search needs
-
-loop-less : tie.Need-loop-less Inv-loop μ-loop
-loop-less c = simp length-set (omega arith)
-
-loop-again : tie.Need-loop-again Inv-loop μ-loop
-loop-again c =
-    let u = c .before .before .loop .inv .1 in (
-      simp length-set (omega arith),
-      upto-more _ _ _ _ _ u (omega (arith, u .same-length, c .before .loop-test .taken)) (c .first-byte .ensures),
-    )
-
-same-length : tie.Need-same-length Inv-loop μ-loop
-same-length c = c .before .loop .inv .1 .same-length
-
-returns : tie.Need-returns Inv-loop μ-loop
-returns c = let u = c .before .loop .inv .1 in upto-all _ _ _ _ u (omega (arith, u .same-length))
+returns-2 : tie.Need-returns-2
+returns-2 c = search needs
 
 pub start-spec : {M : Type 1} → statement M
 start-spec =
-    tie.close
-    (tie.spec Inv-loop μ-loop loop-holds cast-first-byte first-byte-requires slice-write-table add-n loop-less
-    loop-again same-length returns)
+    tie.close (tie.spec start-each-requires same-length returns start-rows-requires same-length-2 returns-2)

@@ -13,8 +13,8 @@ white-owned-requires c κs = search needs
 normalised-requires : tie.Need-normalised-requires
 normalised-requires c κs = search needs
 
-pair-of-requires : tie.Need-pair-of-requires
-pair-of-requires c κs = search needs
+pair-by-row-requires : tie.Need-pair-by-row-requires
+pair-by-row-requires c κs = search needs
 
 key-of-requires : tie.Need-key-of-requires
 key-of-requires c κs = search needs
@@ -24,8 +24,8 @@ returns c =
     position-key _ _ _ _
     (normal-position _ _ (c .before .before .before .normalised .ensures)
     ∙ ap normalPosition (c .before .before .before .before .white-owned .ensures))
-    (c .before .pair-of .ensures) (c .key-of .ensures)
+    (c .before .pair-by-row .ensures) (c .key-of .ensures)
 
 pub number-by-rows-spec : {M : Type 1} → statement M
 number-by-rows-spec =
-    tie.close (tie.spec white-owned-requires normalised-requires pair-of-requires key-of-requires returns)
+    tie.close (tie.spec white-owned-requires normalised-requires pair-by-row-requires key-of-requires returns)

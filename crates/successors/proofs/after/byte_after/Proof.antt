@@ -1,7 +1,7 @@
 -- `successors::byte_after` meets its contract: by the frame, or by the place.
 use mathlib.Core.Path.{sym, _∙_}
 use borrow.Author.Needs.{needs}
-use Rattle.successors.specs.laws.ByteLaws.{byte-moved, byte-framed}
+use Rattle.successors.specs.laws.ByteLaws.{byte-framed}
 use Rattle.successors.proofs.after.byte_after.Statement.{statement}
 use Rattle.successors.proofs.after.byte_after.Tie as tie
 
@@ -32,15 +32,11 @@ returns c =
     (sym (i .before .is-framed .ensures) ∙ i .if1 .taken) (k .number-on .ensures ∙ rw (k .before .alike .ensures))
     (c .read-at .ensures)
 
-place-after-requires : tie.Need-place-after-requires
-place-after-requires c κs = search needs
-
-byte-in-requires : tie.Need-byte-in-requires
-byte-in-requires c κs = search needs
+byte-made-requires : tie.Need-byte-made-requires
+byte-made-requires c κs = search needs
 
 returns-2 : tie.Need-returns-2
-returns-2 c =
-    λ w t e. byte-moved _ _ w _ _ _ _ _ _ _ t (c .before .place-after .ensures) (c .byte-in .ensures)
+returns-2 c = λ w t e. c .byte-made .ensures w t
 
 pub byte-after-spec : {M : Type 1} → statement M
 byte-after-spec =
@@ -53,6 +49,5 @@ byte-after-spec =
     number-on-requires
     read-at-requires
     returns
-    place-after-requires
-    byte-in-requires
+    byte-made-requires
     returns-2)

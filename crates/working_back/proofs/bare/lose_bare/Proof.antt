@@ -15,13 +15,13 @@ use Rattle.working_back.proofs.bare.lose_bare.Statement.{statement}
 use Rattle.working_back.proofs.bare.lose_bare.Tie as tie
 
 abbrev Inv-loop : tie.InvT-loop
-Inv-loop m k q taken to squares first second table₀ white x y shut settled₀ saving₀ harmless₀ rest₀ table settled saving harmless rest = (rest < 2 ^ 64)
+Inv-loop m k q taken to squares first second table₀ white x y shut others settled₀ saving₀ harmless₀ rest₀ table settled saving harmless rest = (rest < 2 ^ 64)
     × ((s : ℕ) → s < 64 → T (has rest s) → T (has squares s))
     × Taken m first second k q taken to squares table₀ table rest settled
     × Knows m k white x y table saving harmless
 
 abbrev μ-loop : tie.MeasureT-loop
-μ-loop m k q taken to squares first second table₀ white x y shut settled₀ saving₀ harmless₀ rest₀ table settled saving harmless rest = length (members rest)
+μ-loop m k q taken to squares first second table₀ white x y shut others settled₀ saving₀ harmless₀ rest₀ table settled saving harmless rest = length (members rest)
 
 again-requires : tie.Need-again-requires Inv-loop μ-loop
 again-requires c κs = tt
@@ -32,12 +32,15 @@ again-requires-2 c κs = tt
 struck-requires : tie.Need-struck-requires Inv-loop μ-loop
 struck-requires c κs = tt
 
+still-black-requires : tie.Need-still-black-requires Inv-loop μ-loop
+still-black-requires c κs = tt
+
 loop-holds : tie.Need-loop-holds Inv-loop μ-loop
 loop-holds c =
-    let x = c .before .before .before .before .before .before .args in (
-      c .before .before .before .before .before .before .fits .squares .fits,
+    let x = c .before .before .before .before .before .before .before .args in (
+      c .before .before .before .before .before .before .before .fits .squares .fits,
       (λ i h t. t),
-      taken-start (x .m) (x .first .now) (x .second .now) (x .k) (x .q) (x .taken) (x .to) _ (c .before .before .before .before .before .before .pre .3) _,
+      taken-start (x .m) (x .first .now) (x .second .now) (x .k) (x .q) (x .taken) (x .to) _ (c .before .before .before .before .before .before .before .pre .3) _,
       knows-none _ _ _ _ _ _,
     )
 
@@ -46,8 +49,8 @@ lowest-requires c κs = tt
 
 lose-one-requires : tie.Need-lose-one-requires Inv-loop μ-loop
 lose-one-requires c κs =
-    let p = c .before .before .before .before .before .before .before .before .before .before .pre in
-    let x = c .before .before .before .before .before .before .before .before .before .before .args in
+    let p = c .before .before .before .before .before .before .before .before .before .before .before .pre in
+    let x = c .before .before .before .before .before .before .before .before .before .before .before .args in
     let l = c .before .before .before .loop in
     let z = lowest-in (l .rest) (c .before .lowest .result) (l .inv .0) (c .before .before .loop-test .taken) (c .before .lowest .ensures) in (
       p .0,
@@ -60,12 +63,13 @@ lose-one-requires c κs =
         colour = p .7;
         king = p .8;
         at-white = refl;
-        at-first = c .before .before .before .before .before .before .again .ensures;
-        at-second = c .before .before .before .before .before .again2 .ensures;
+        at-first = c .before .before .before .before .before .before .before .again .ensures;
+        at-second = c .before .before .before .before .before .before .again2 .ensures;
       },
-      c .before .before .before .before .struck .ensures,
+      c .before .before .before .before .before .struck .ensures,
       p .4 .sound (c .before .lowest .result) (z .0) (l .inv .1 (c .before .lowest .result) (z .0) (z .1)),
       l .inv .3,
+      c .before .before .before .before .still-black .ensures,
     )
 
 add-settled : tie.Need-add-settled Inv-loop μ-loop
@@ -81,14 +85,14 @@ loop-less c =
 
 loop-again : tie.Need-loop-again Inv-loop μ-loop
 loop-again c =
-    let x = c .before .before .before .before .before .before .before .before .before .before .before .before .before .before .before .args in
+    let x = c .before .before .before .before .before .before .before .before .before .before .before .before .before .before .before .before .args in
     let l = c .before .before .before .before .before .before .before .before .loop in
     let t = c .before .before .before .before .before .before .lowest .result in
     let w = lowest-of (l .rest) t (c .without .result) (l .inv .0) (c .before .before .before .before .before .before .before .loop-test .taken) (c .before .before .before .before .before .before .lowest .ensures) (c .without .ensures) in
     let e = c .before .before .before .before .lose-one .ensures in (
       c .without .ok,
       (λ j h u. l .inv .1 j h (subst⁻¹ T (w .others j h) (or-right (eqb j t) (has (c .without .result) j) u))),
-      taken-turn (x .m) (x .first .now) (x .second .now) (x .k) (x .q) (x .taken) (x .to) _ (c .before .before .before .before .before .before .before .before .before .before .before .before .before .before .before .pre .3) _ _ _ (l .rest)
+      taken-turn (x .m) (x .first .now) (x .second .now) (x .k) (x .q) (x .taken) (x .to) _ (c .before .before .before .before .before .before .before .before .before .before .before .before .before .before .before .before .pre .3) _ _ _ (l .rest)
           (c .without .result) t (l .settled) _ (l .inv .2) w (e .0),
       e .1,
     )
@@ -98,13 +102,13 @@ same-length c = c .before .loop .inv .2 .0 .long
 
 returns : tie.Need-returns Inv-loop μ-loop
 returns c =
-    let x = c .before .before .before .before .before .before .before .before .args in
+    let x = c .before .before .before .before .before .before .before .before .before .args in
     let l = c .before .loop in
-    taken-end (x .m) (x .first .now) (x .second .now) (x .k) (x .q) (x .taken) (x .to) _ (c .before .before .before .before .before .before .before .before .pre .3) _ _ (l .rest) (l .settled)
-    (c .loop-test .left) (l .inv .2) (c .before .before .before .before .before .before .before .before .pre .4)
+    taken-end (x .m) (x .first .now) (x .second .now) (x .k) (x .q) (x .taken) (x .to) _ (c .before .before .before .before .before .before .before .before .before .pre .3) _ _ (l .rest) (l .settled)
+    (c .loop-test .left) (l .inv .2) (c .before .before .before .before .before .before .before .before .before .pre .4)
 
 pub lose-bare-spec : {M : Type 1} → statement M
 lose-bare-spec =
     tie.close
-    (tie.spec Inv-loop μ-loop again-requires again-requires-2 struck-requires loop-holds
+    (tie.spec Inv-loop μ-loop again-requires again-requires-2 struck-requires still-black-requires loop-holds
     lowest-requires lose-one-requires add-settled without-requires loop-less loop-again same-length returns)

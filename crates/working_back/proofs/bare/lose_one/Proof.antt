@@ -1,17 +1,19 @@
 -- `working_back::lose_one` meets its contract.
-use mathlib.Core.Path.{sym, ap₂, subst, _∙_}
-use lib.Dec.{T, leb, leb→le}
-use mathlib.Core.Bool.{_||_}
+use mathlib.Core.Path.{sym, ap, ap₂, _∙_}
+use mathlib.Core.Bool.{Bool, _||_}
 use borrow.Author.Needs.{needs}
 use Rattle.retracting.specs.Retracting.{placeBefore}
 use Rattle.working_back.specs.laws.Places.{tried-other}
-use Rattle.working_back.specs.laws.BareMoves.{bare-seat}
-use Rattle.working_back.specs.laws.BareLost.{bare-at, both-told, first-on, bare-drawn, goal-seated, bare-quiet, held-inside, knows-kept}
+use Rattle.working_back.specs.laws.BareMoves.{on}
+use Rattle.working_back.specs.laws.BareLost.{bare-at, taking-can, goal-seated, bare-quiet, held-inside, knows-kept}
 use Rattle.working_back.proofs.bare.lose_one.Statement.{statement}
 use Rattle.working_back.proofs.bare.lose_one.Tie as tie
 
-bare-number-requires : tie.Need-bare-number-requires
-bare-number-requires c κs = tt
+still-number-requires : tie.Need-still-number-requires
+still-number-requires c κs =
+    let p = c .before .before .before .pre in
+    let x = c .before .before .before .args in
+    (on (x .m) (x .q) (x .taken) (x .to) (x .white) (x .x) (x .y) (p .4) (x .s) (p .6), p .8 .base-fits, p .8 .unit-fits)
 
 byte-of-requires : tie.Need-byte-of-requires
 byte-of-requires c κs = tt
@@ -23,8 +25,8 @@ returns : tie.Need-returns
 returns c =
     let p = c .before .before .before .before .before .before .before .pre in
     let x = c .before .before .before .before .before .before .before .args in
-    let r = c .before .before .before .bare-number in
-    let z = bare-at (x .m) (x .q) (x .taken) (x .to) (x .white) (x .x) (x .y) (p .4) (x .s) (p .6) (r .result) (r .ensures) in (
+    let r = c .before .before .before .still-number in
+    let z = bare-at (x .m) (x .q) (x .taken) (x .to) (x .white) (x .x) (x .y) (p .4) (x .s) (p .6) (r .result) (r .ensures (x .m) _ (p .8)) in (
       tried-other (x .m) (placeBefore (x .q) (x .taken) (x .s) (x .to)) (x .q) (x .s) (x .to) (p .6) (x .first .now) (x .second .now) (x .k) _ (p .3) (r .result) z
           (λ e. c .if1 .taken (c .before .byte-of .ensures ∙ e)),
       p .7,
@@ -39,93 +41,72 @@ minus-requires c κs = tt
 has-requires : tie.Need-has-requires
 has-requires c κs = tt
 
+has-requires-2 : tie.Need-has-requires-2
+has-requires-2 c κs = tt
+
+again-requires : tie.Need-again-requires
+again-requires c κs = tt
+
+lose-taking-requires : tie.Need-lose-taking-requires
+lose-taking-requires c κs =
+    let p = c .before .before .before .before .before .before .before .before .before .before .before .before .before .before .pre in
+    let x = c .before .before .before .before .before .before .before .before .before .before .before .before .before .before .args in
+    let r = c .before .before .before .before .before .before .before .before .before .before .still-number in
+    let z = bare-at (x .m) (x .q) (x .taken) (x .to) (x .white) (x .x) (x .y) (p .4) (x .s) (p .6) (r .result) (r .ensures (x .m) _ (p .8)) in
+    let b = c .before .before .before .before .before .before .before .before .byte-of in
+    let h = held-inside (x .table .now) (r .result) (b .result) (b .ensures) (c .before .before .before .before .before .before .before .if1 .left) in
+    let one = sym (b .ensures) ∙ c .before .before .before .before .before .before .before .if1 .left in
+    let can = taking-can (x .m) (x .q) (x .taken) (x .to) (x .white) (x .x) (x .y) (p .4) (x .s) (p .6) (x .first .now) (x .second .now) (x .k) _ (p .3)
+    (p .0) (p .2) (r .result) z h one (c .before .before .before .before .before .before .targets .result) (x .shut) (c .before .before .before .before .before .minus .result) (c .before .before .before .before .before .before .targets .ensures) (p .5) (c .before .before .before .before .before .minus .ensures) _ _
+    (c .before .before .before .before .has .ensures) (ap (λ (e : Bool). c .before .before .before .before .has .result || e) (sym (c .before .before .before .has2 .ensures)) ∙ c .before .before .if2 .taken) (c .before .again .ensures) in
+    (p .0, p .1, p .3, p .6, z, h, one, can)
+
 same-length-2 : tie.Need-same-length-2
 same-length-2 c = search needs
 
 returns-2 : tie.Need-returns-2
 returns-2 c =
-    let p = c .before .before .before .before .before .before .before .before .before .before .before .before .pre in
-    let x = c .before .before .before .before .before .before .before .before .before .before .before .before .args in
-    let r = c .before .before .before .before .before .before .before .before .bare-number in
-    let z = bare-at (x .m) (x .q) (x .taken) (x .to) (x .white) (x .x) (x .y) (p .4) (x .s) (p .6) (r .result) (r .ensures) in
-    let b = c .before .before .before .before .before .before .byte-of in
-    let h = held-inside (x .table .now) (r .result) (b .result) (b .ensures) (c .before .before .before .before .before .if1 .left) in
-    let one = sym (b .ensures) ∙ c .before .before .before .before .before .if1 .left in
-    let d = both-told (leb 4 (x .m .second)) (c .before .before .has .result) (c .if2 .taken) in (
-      bare-drawn (x .m) (x .q) (x .taken) (x .to) (x .white) (x .x) (x .y) (p .4) (x .s) (p .6) (x .first .now) (x .second .now) (x .k) _ (p .3)
-          (p .0) (p .2) (r .result) z h one (c .before .before .before .before .targets .result) (x .shut) (c .before .before .before .minus .result) (c .before .before .before .before .targets .ensures) (p .5)
-          (c .before .before .before .minus .ensures) (leb→le 4 (x .m .second) (d .0))
-          (first-on (x .m) (x .q) (x .taken) (x .to) (x .white) (x .x) (x .y) (p .4) (x .s) (p .6) (x .first .now) (x .second .now) (x .k) _ (p .3)
-          (p .0) (p .2) (r .result) z h one (c .before .before .before .before .targets .result) (x .shut) (c .before .before .before .minus .result) (c .before .before .before .before .targets .ensures) (p .5)
-          (c .before .before .before .minus .ensures))
-          (subst T (c .before .before .has .ensures) (d .1)),
+    let p = c .before .before .before .before .before .before .before .before .before .before .before .before .before .before .before .before .before .pre in
+    let x = c .before .before .before .before .before .before .before .before .before .before .before .before .before .before .before .before .before .args in
+    let w = c .before .before .lose-taking .ensures in
+    (w, knows-kept (x .m) (x .k) (x .white) (x .x) (x .y) (p .2) (x .table .now) _ 1 _ (x .saving) (x .harmless) (w .0) (p .7))
+
+lose-quiet-requires : tie.Need-lose-quiet-requires
+lose-quiet-requires c κs =
+    let p = c .before .before .before .before .before .before .before .before .before .before .before .before .before .pre in
+    let x = c .before .before .before .before .before .before .before .before .before .before .before .before .before .args in
+    let r = c .before .before .before .before .before .before .before .before .before .still-number in
+    let z = bare-at (x .m) (x .q) (x .taken) (x .to) (x .white) (x .x) (x .y) (p .4) (x .s) (p .6) (r .result) (r .ensures (x .m) _ (p .8)) in
+    let b = c .before .before .before .before .before .before .before .byte-of in
+    let h = held-inside (x .table .now) (r .result) (b .result) (b .ensures) (c .before .before .before .before .before .before .if1 .left) in
+    let one = sym (b .ensures) ∙ c .before .before .before .before .before .before .if1 .left in (
+      p .1,
+      h,
+      goal-seated (x .m) (x .q) (x .taken) (x .to) (x .white) (x .x) (x .y) (p .4) (x .s) (p .6) (x .first .now) (x .second .now) (x .k) _ (p .3)
+          (p .0) (p .2) (r .result) z h one (c .before .before .before .before .before .targets .result) (x .shut) (c .before .before .before .before .minus .result) (c .before .before .before .before .before .targets .ensures) (p .5) (c .before .before .before .before .minus .ensures) (sym (ap₂ _||_ (c .before .before .before .has .ensures) (c .before .before .has2 .ensures)) ∙ c .before .if2 .left),
       p .7,
+      p .8,
     )
-
-has-requires-2 : tie.Need-has-requires-2
-has-requires-2 c κs = tt
-
-no-line-requires : tie.Need-no-line-requires
-no-line-requires c κs = tt
-
-confirm-requires : tie.Need-confirm-requires
-confirm-requires c κs =
-    let p = c .before .before .before .before .before .before .before .before .before .before .before .before .before .before .before .before .pre in
-    let x = c .before .before .before .before .before .before .before .before .before .before .before .before .before .before .before .before .args in
-    let r = c .before .before .before .before .before .before .before .before .before .before .before .before .bare-number in
-    let z = bare-at (x .m) (x .q) (x .taken) (x .to) (x .white) (x .x) (x .y) (p .4) (x .s) (p .6) (r .result) (r .ensures) in
-    let b = c .before .before .before .before .before .before .before .before .before .before .byte-of in
-    let h = held-inside (x .table .now) (r .result) (b .result) (b .ensures) (c .before .before .before .before .before .before .before .before .before .if1 .left) in
-    let one = sym (b .ensures) ∙ c .before .before .before .before .before .before .before .before .before .if1 .left in
-    (p .0, p .1, p .3, p .6, p .4 .legal, bare-seat (p .4), c .before .no-line .ensures (x .m) (x .q) (x .taken) (x .to) .1, z, h, one)
 
 same-length-3 : tie.Need-same-length-3
 same-length-3 c = search needs
 
 returns-3 : tie.Need-returns-3
 returns-3 c =
-    let p = c .before .before .before .before .before .before .before .before .before .before .before .before .before .before .before .before .before .before .before .pre in
-    let x = c .before .before .before .before .before .before .before .before .before .before .before .before .before .before .before .before .before .before .before .args in
-    let w = c .before .before .confirm .ensures in
-    (w, knows-kept (x .m) (x .k) (x .white) (x .x) (x .y) (p .2) (x .table .now) _ 1 _ (x .saving) (x .harmless) (w .0) (p .7))
-
-lose-quiet-requires : tie.Need-lose-quiet-requires
-lose-quiet-requires c κs =
-    let p = c .before .before .before .before .before .before .before .before .before .before .before .before .before .before .before .pre in
-    let x = c .before .before .before .before .before .before .before .before .before .before .before .before .before .before .before .args in
-    let r = c .before .before .before .before .before .before .before .before .before .before .before .bare-number in
-    let z = bare-at (x .m) (x .q) (x .taken) (x .to) (x .white) (x .x) (x .y) (p .4) (x .s) (p .6) (r .result) (r .ensures) in
-    let b = c .before .before .before .before .before .before .before .before .before .byte-of in
-    let h = held-inside (x .table .now) (r .result) (b .result) (b .ensures) (c .before .before .before .before .before .before .before .before .if1 .left) in
-    let one = sym (b .ensures) ∙ c .before .before .before .before .before .before .before .before .if1 .left in (
-      p .1,
-      h,
-      goal-seated (x .m) (x .q) (x .taken) (x .to) (x .white) (x .x) (x .y) (p .4) (x .s) (p .6) (x .first .now) (x .second .now) (x .k) _ (p .3)
-          (p .0) (p .2) (r .result) z h one (c .before .before .before .before .before .before .before .targets .result) (x .shut) (c .before .before .before .before .before .before .minus .result) (c .before .before .before .before .before .before .before .targets .ensures) (p .5)
-          (c .before .before .before .before .before .before .minus .ensures) (sym (ap₂ _||_ (c .before .before .before .before .before .has .ensures) (c .before .before .has2 .ensures)) ∙ c .before .if3 .left),
-      p .7,
-    )
-
-same-length-4 : tie.Need-same-length-4
-same-length-4 c = search needs
-
-returns-4 : tie.Need-returns-4
-returns-4 c =
-    let p = c .before .before .before .before .before .before .before .before .before .before .before .before .before .before .before .before .before .before .pre in
-    let x = c .before .before .before .before .before .before .before .before .before .before .before .before .before .before .before .before .before .before .args in
-    let r = c .before .before .before .before .before .before .before .before .before .before .before .before .before .before .bare-number in
-    let z = bare-at (x .m) (x .q) (x .taken) (x .to) (x .white) (x .x) (x .y) (p .4) (x .s) (p .6) (r .result) (r .ensures) in
-    let b = c .before .before .before .before .before .before .before .before .before .before .before .before .byte-of in
-    let h = held-inside (x .table .now) (r .result) (b .result) (b .ensures) (c .before .before .before .before .before .before .before .before .before .before .before .if1 .left) in
-    let one = sym (b .ensures) ∙ c .before .before .before .before .before .before .before .before .before .before .before .if1 .left in
+    let p = c .before .before .before .before .before .before .before .before .before .before .before .before .before .before .before .before .pre in
+    let x = c .before .before .before .before .before .before .before .before .before .before .before .before .before .before .before .before .args in
+    let r = c .before .before .before .before .before .before .before .before .before .before .before .before .still-number in
+    let z = bare-at (x .m) (x .q) (x .taken) (x .to) (x .white) (x .x) (x .y) (p .4) (x .s) (p .6) (r .result) (r .ensures (x .m) _ (p .8)) in
+    let b = c .before .before .before .before .before .before .before .before .before .before .byte-of in
+    let h = held-inside (x .table .now) (r .result) (b .result) (b .ensures) (c .before .before .before .before .before .before .before .before .before .if1 .left) in
+    let one = sym (b .ensures) ∙ c .before .before .before .before .before .before .before .before .before .if1 .left in
     let q = c .before .before .lose-quiet .ensures in
     let w = bare-quiet (x .m) (x .q) (x .taken) (x .to) (x .white) (x .x) (x .y) (p .4) (x .s) (p .6) (x .first .now) (x .second .now) (x .k) _ (p .3)
-    (p .0) (p .2) (r .result) z h one (c .before .before .before .before .before .before .before .before .before .before .targets .result) (x .shut) (c .before .before .before .before .before .before .before .before .before .minus .result) (c .before .before .before .before .before .before .before .before .before .before .targets .ensures) (p .5)
-    (c .before .before .before .before .before .before .before .before .before .minus .ensures) (sym (ap₂ _||_ (c .before .before .before .before .before .before .before .before .has .ensures) (c .before .before .before .before .before .has2 .ensures)) ∙ c .before .before .before .before .if3 .left) _ _ (q .0) in
+    (p .0) (p .2) (r .result) z h one (c .before .before .before .before .before .before .before .before .targets .result) (x .shut) (c .before .before .before .before .before .before .before .minus .result) (c .before .before .before .before .before .before .before .before .targets .ensures) (p .5) (c .before .before .before .before .before .before .before .minus .ensures) (sym (ap₂ _||_ (c .before .before .before .before .before .before .has .ensures) (c .before .before .before .before .before .has2 .ensures)) ∙ c .before .before .before .before .if2 .left) _ _ (q .0) in
     (w, knows-kept (x .m) (x .k) (x .white) (x .x) (x .y) (p .2) (x .table .now) _ 1 _ _ _ (w .0) (q .1))
 
 pub lose-one-spec : {M : Type 1} → statement M
 lose-one-spec =
     tie.close
-    (tie.spec bare-number-requires byte-of-requires same-length returns targets-requires minus-requires has-requires same-length-2
-    returns-2 has-requires-2 no-line-requires confirm-requires same-length-3 returns-3 lose-quiet-requires same-length-4 returns-4)
+    (tie.spec still-number-requires byte-of-requires same-length returns targets-requires minus-requires has-requires has-requires-2
+    again-requires lose-taking-requires same-length-2 returns-2 lose-quiet-requires same-length-3 returns-3)

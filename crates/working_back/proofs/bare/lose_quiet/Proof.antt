@@ -7,7 +7,7 @@ use Rattle.working_back.proofs.bare.lose_quiet.Statement.{statement}
 use Rattle.working_back.proofs.bare.lose_quiet.Tie as tie
 
 look-requires : tie.Need-look-requires
-look-requires c κs = (c .before .before .pre .2, c .before .before .pre .3)
+look-requires c κs = let p = c .before .before .pre in (p .2, p .3, p .4)
 
 same-length : tie.Need-same-length
 same-length c = search needs

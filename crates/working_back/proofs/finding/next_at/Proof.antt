@@ -3,7 +3,7 @@ use Prim.Native.Nat.{_-_}
 use native.Mathlib.Omega.{arith}
 use lib.ListN.{length}
 use Rattle.working_back.specs.Back.{Passes}
-use Rattle.working_back.specs.laws.Passing.{passes-none, passes-one, passes-then}
+use Rattle.working_back.specs.laws.Passing.{passes-none, passes-then}
 use Rattle.working_back.proofs.finding.next_at.Statement.{statement}
 use Rattle.working_back.proofs.finding.next_at.Tie as tie
 
@@ -16,44 +16,39 @@ abbrev μ-loop : tie.MeasureT-loop
 loop-holds : tie.Need-loop-holds Inv-loop μ-loop
 loop-holds c = passes-none _ _ _ (c .before .pre)
 
-shared-slice-read-if1 : tie.Need-shared-slice-read-if1 Inv-loop μ-loop
-shared-slice-read-if1 c = c .before .loop-test .taken
+run-end-requires : tie.Need-run-end-requires Inv-loop μ-loop
+run-end-requires c κs = c .loop-test .taken
+
+next-before-requires : tie.Need-next-before-requires Inv-loop μ-loop
+next-before-requires c κs = let e = c .run-end .ensures in (omega (arith, e .0), e .1)
 
 returns : tie.Need-returns Inv-loop μ-loop
-returns c = record { passes = c .before .before .before .loop .inv; here = λ h. c .if1 .taken }
-
-add-n : tie.Need-add-n Inv-loop μ-loop
-add-n c = omega arith
+returns c =
+    let t = c .before .before .before .before .before .before .args .table .now in
+    let l = c .before .before .before .before .loop in
+    let e = c .before .next-before .ensures in
+    record { passes = passes-then t _ _ (l .n) _ (l .inv) (e .passes); upto = e .passes .inside; here = λ h. e .here (c .if1 .taken) }
 
 past-runs-requires : tie.Need-past-runs-requires Inv-loop μ-loop
-past-runs-requires c κs = omega (arith, c .before .before .before .loop-test .taken)
+past-runs-requires c κs = c .before .next-before .ensures .passes .inside
 
 loop-less : tie.Need-loop-less Inv-loop μ-loop
-loop-less c = omega (arith, c .before .before .before .before .loop-test .taken, c .past-runs .ensures .later)
+loop-less c =
+    omega (arith, c .before .before .before .run-end .ensures .0, c .before .before .before .run-end .ensures .1, c .before .if1 .left, c .past-runs .ensures .later)
 
 loop-again : tie.Need-loop-again Inv-loop μ-loop
 loop-again c =
     let t = c .before .before .before .before .before .before .before .args .table .now in
     let l = c .before .before .before .before .before .loop in
-    passes-then t _ _ _ _
-    (passes-one t _ _ (l .n) (l .inv) (c .before .before .before .before .loop-test .taken) (c .before .before .if1 .left))
-    (c .past-runs .ensures)
-
-loop-less-2 : tie.Need-loop-less-2 Inv-loop μ-loop
-loop-less-2 c = omega (arith, c .before .before .before .loop-test .taken)
-
-loop-again-2 : tie.Need-loop-again-2 Inv-loop μ-loop
-loop-again-2 c =
-    let l = c .before .before .before .before .loop in
-    passes-one (c .before .before .before .before .before .before .args .table .now) _ _ (l .n) (l .inv) (c .before .before .before .loop-test .taken)
-    (c .before .if1 .left)
+    passes-then t _ _ (l .n) _ (l .inv)
+    (passes-then t _ _ _ _ (c .before .before .next-before .ensures .passes) (c .past-runs .ensures))
 
 returns-2 : tie.Need-returns-2 Inv-loop μ-loop
 returns-2 c =
-    record { passes = c .before .loop .inv; here = λ h. absurd (omega (arith, h, c .loop-test .left)) }
+    let l = c .before .loop in
+    record { passes = l .inv; upto = l .inv .inside; here = λ h. absurd (omega (arith, h, c .loop-test .left)) }
 
 pub next-at-spec : {M : Type 1} → statement M
 next-at-spec =
     tie.close
-    (tie.spec Inv-loop μ-loop loop-holds shared-slice-read-if1 returns add-n past-runs-requires loop-less loop-again loop-less-2
-    loop-again-2 returns-2)
+    (tie.spec Inv-loop μ-loop loop-holds run-end-requires next-before-requires returns past-runs-requires loop-less loop-again returns-2)
