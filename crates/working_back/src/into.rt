@@ -3,13 +3,15 @@ use super::bare::lose_bare;
 use super::lines::line_of;
 use super::lines::no_line;
 use super::trying::lose_each;
-use super::trying::win_each;
+use super::winning::win_each;
+use super::winning::win_king;
 use movegen::king_at;
 use position::Men;
 use position::Place;
 use position::other;
 use retracting::again;
 use retracting::sources;
+use retracting::steps_back;
 ghost use mathlib.Core.Bool.{cond};
 ghost use Prim.Native.Nat.{_-_, _<_};
 ghost use lib.Dec.{eqb};
@@ -34,32 +36,22 @@ fn try_king(
 {
     let mover = other(q.side);
     let to = king_at(q, mover);
+    if k % 2 == 1 {
+        let squares = steps_back(m, q, taken, KING, to);
+        return win_king(m, k, q, taken, to, squares, first, second, &mut *table);
+    }
     let squares = sources(m, q, taken, KING, mover, to);
-    if (k % 2 == 0) & ((q.side == 0) & (m.colour == 0)) {
+    if (q.side == 0) & (m.colour == 0) {
         return lose_bare(m, k, q, taken, to, squares, first, second, &mut *table);
     }
-    if k % 2 == 0 {
-        return lose_each(
-            m,
-            k,
-            q,
-            taken,
-            KING,
-            to,
-            no_line(),
-            no_line(),
-            squares,
-            first,
-            second,
-            &mut *table,
-        );
-    }
-    win_each(
+    lose_each(
         m,
         k,
         q,
         taken,
+        KING,
         to,
+        no_line(),
         no_line(),
         squares,
         first,
@@ -88,35 +80,36 @@ fn try_man(
     if owner == q.side {
         return 0;
     }
-    let squares = sources(m, q, taken, kind, owner, to);
-    if squares == 0 {
-        return 0;
-    }
     let line = line_of(other(q.side), m, q, taken, to);
-    if k % 2 == 0 {
-        let after = line_of(q.side, m, q, taken, to);
-        return lose_each(
+    if k % 2 == 1 {
+        let squares = steps_back(m, q, taken, kind, to);
+        return win_each(
             m,
             k,
             q,
             taken,
-            kind,
             to,
             line,
-            after,
             squares,
             first,
             second,
             &mut *table,
         );
     }
-    win_each(
+    let squares = sources(m, q, taken, kind, owner, to);
+    if squares == 0 {
+        return 0;
+    }
+    let after = line_of(q.side, m, q, taken, to);
+    lose_each(
         m,
         k,
         q,
         taken,
+        kind,
         to,
         line,
+        after,
         squares,
         first,
         second,

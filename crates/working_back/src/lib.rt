@@ -8,5 +8,6 @@ mod known;
 mod lines;
 mod spared;
 mod trying;
+mod winning;
 
 pub use back::pass_back;

@@ -25,11 +25,9 @@ use Rattle.numbering.specs.Kings.{separate}
 use Rattle.numbering.specs.Number.{numberOf}
 use Rattle.position.specs.declared.Men.{Men}
 use Rattle.position.specs.declared.Place.{Place}
-use Rattle.position.specs.Keyed.{boardOf}
-use Rattle.position.specs.Posed.{posed, boardIn, Complete}
+use Rattle.position.specs.Posed.{boardIn, Complete}
 use Rattle.position.specs.laws.PosedLaws.{complete-spread}
 use Rattle.index.specs.Seats.{Seated}
-use Rattle.index.specs.laws.CompleteLaws.{complete-seated, complete-has}
 use Rattle.movegen.specs.declared.Reach.{Reach}
 use Rattle.movegen.specs.Places.{squareAfter, placeAfter}
 use Rattle.movegen.specs.laws.Places.{place-moved}
@@ -48,6 +46,7 @@ use Rattle.working_back.specs.Back.{Few, Ripe, TriesPlace}
 use Rattle.working_back.specs.laws.Trying.{settling}
 use Rattle.working_back.specs.laws.Places.{tried-lost, tried-kept}
 use Rattle.working_back.specs.Bare.{bareOn, Bare, struckBy, byteOn, Knows, QuietLoss}
+use Rattle.working_back.specs.laws.Numbers.{number-as}
 use Rattle.working_back.specs.laws.BareMoves.{place-is, complete, only-king, goals-are}
 
 even-draw : (k : ℕ) → k % 2 ≡ 0 → refutes (2 + k) 1 ≡ true
@@ -160,9 +159,7 @@ pub bare-at : (m : Men) (q : Place) (taken to white x y : ℕ) → Bare m q take
     → (Seated m (bareOn 1 white s x y) → T (separate white s) → n ≡ numberOf (boardIn m (bareOn 1 white s x y)))
     → n ≡ numberOf (boardIn m (placeBefore q taken s to))
 bare-at m q taken to white x y v s l n f =
-    let w = complete m q taken to white x y v s l in
-    f (complete-seated m (bareOn 1 white s x y) w) (unfold boardOf posed in complete-has m (bareOn 1 white s x y) w .kings)
-    ∙ ap (λ (o : Place). numberOf (boardIn m o)) (sym (place-is m q taken to white x y v s l))
+    number-as m (placeBefore q taken s to) (l .complete) (bareOn 1 white s x y) (place-is m q taken to white x y v s l) n f
 
 even-deep : (k : ℕ) → 0 < k → k % 2 ≡ 0 → refutes (2 + k) (1 + k) ≡ false
 unfolding refutes spoils winning

@@ -40,14 +40,10 @@ king-went o from to h e = by (o .side) h e
     by (suc (suc s)) h e = absurd (omega arith)
 
 -- what code asks of a king without men
-pub bare-told : (a b c : ℕ) → (eqb a 0 && (eqb b 0 && eqb c 0)) ≡ true → (a ≡ 0) × (b ≡ 0) × (c ≡ 0)
-bare-told a b c e =
+pub bare-told : (a b : ℕ) → (eqb a 0 && eqb b 0) ≡ true → (a ≡ 0) × (b ≡ 0)
+bare-told a b e =
     let f = of-true e in
-    let g = and-right (eqb a 0) (eqb b 0 && eqb c 0) f in (
-      eqb→eq a 0 (and-left (eqb a 0) (eqb b 0 && eqb c 0) f),
-      eqb→eq b 0 (and-left (eqb b 0) (eqb c 0) g),
-      eqb→eq c 0 (and-right (eqb b 0) (eqb c 0) g),
-    )
+    (eqb→eq a 0 (and-left (eqb a 0) (eqb b 0) f), eqb→eq b 0 (and-right (eqb a 0) (eqb b 0) f))
 
 -- with White to move the king who moved is Black's
 pub black-king : (q : Place) → q .side ≡ 0 → (mover to : ℕ) → mover ≡ 1 - q .side → to ≡ cond (eqb mover 0) (q .white) (q .black) → to ≡ q .black
@@ -122,20 +118,18 @@ module _ (m : Men) (q : Place) (taken : ℕ) (w : LegalLeft m q taken) where
     own-none : (kind owner to : ℕ) → Seat m q kind owner to → owner ≡ q .side → TriesTo m first second k q to u u 0
     own-none kind owner to seat e =
         taken-end m first second k q taken to u a 0 u 0 0 refl (taken-start m first second k q taken to u a 0)
-        (no-source m q taken kind owner to w seat e)
+        (no-source m q taken kind owner to w seat e .all)
 
 -- Black has no men: his king alone
 pub into-king : (m : Men) (q : Place) (taken : ℕ) → LegalLeft m q taken → (first second : List ℕ) (k : ℕ) (u : List ℕ) → Admitted m first second u
     → (v : List ℕ) (did : ℕ) → (eqb (q .side) 0 && eqb (m .colour) 0) ≡ true
     → TriesTo m first second k q (cond (eqb (1 - q .side) 0) (q .white) (q .black)) u v did → TriesInto m first second k q u v did
 into-king m q taken w first second k u a v did e f =
-    let x = of-true e in
-    let s = eqb→eq (q .side) 0 (and-left (eqb (q .side) 0) (eqb (m .colour) 0) x) in
-    let c = eqb→eq (m .colour) 0 (and-right (eqb (q .side) 0) (eqb (m .colour) 0) x) in
+    let x = bare-told (q .side) (m .colour) e in
     let b = admitted-kept m first second u a v (f .0 .long) in
     subst (TriesInto m first second k q u v) (none did)
-    (into-all m q taken w first second k u a v v v did 0 0 f (own-none m q taken w first second k v b (m .first) 0 (q .first) Seat.first (sym s))
-    (own-none m q taken w first second k v b (m .second) (m .colour) (q .second) Seat.second (c ∙ sym s)))
+    (into-all m q taken w first second k u a v v v did 0 0 f (own-none m q taken w first second k v b (m .first) 0 (q .first) Seat.first (sym (x .0)))
+    (own-none m q taken w first second k v b (m .second) (m .colour) (q .second) Seat.second (x .1 ∙ sym (x .0))))
   where
     none : (i : ℕ) → i + 0 + 0 ≡ i
     none i = omega arith

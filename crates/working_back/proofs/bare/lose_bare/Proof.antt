@@ -105,7 +105,7 @@ returns c =
     let x = c .before .before .before .before .before .before .before .before .before .args in
     let l = c .before .loop in
     taken-end (x .m) (x .first .now) (x .second .now) (x .k) (x .q) (x .taken) (x .to) _ (c .before .before .before .before .before .before .before .before .before .pre .3) _ _ (l .rest) (l .settled)
-    (c .loop-test .left) (l .inv .2) (c .before .before .before .before .before .before .before .before .before .pre .4)
+    (c .loop-test .left) (l .inv .2) (c .before .before .before .before .before .before .before .before .before .pre .4 .all)
 
 pub lose-bare-spec : {M : Type 1} → statement M
 lose-bare-spec =

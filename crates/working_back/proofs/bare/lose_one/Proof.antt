@@ -27,7 +27,7 @@ returns c =
     let x = c .before .before .before .before .before .before .before .args in
     let r = c .before .before .before .still-number in
     let z = bare-at (x .m) (x .q) (x .taken) (x .to) (x .white) (x .x) (x .y) (p .4) (x .s) (p .6) (r .result) (r .ensures (x .m) _ (p .8)) in (
-      tried-other (x .m) (placeBefore (x .q) (x .taken) (x .s) (x .to)) (x .q) (x .s) (x .to) (p .6) (x .first .now) (x .second .now) (x .k) _ (p .3) (r .result) z
+      tried-other (x .m) (placeBefore (x .q) (x .taken) (x .s) (x .to)) (x .q) (x .first .now) (x .second .now) (x .k) _ (p .3) (r .result) z
           (λ e. c .if1 .taken (c .before .byte-of .ensures ∙ e)),
       p .7,
     )
