@@ -125,9 +125,6 @@ module _ (m : Men) (q : Place) (taken : ℕ) (w : LegalLeft m q taken) (kind own
   ls : s < 64
   ls = reaches-squares (occupied (boardIn m q)) kind to s h .1
 
-  differ : to ≡ s → ⊥
-  differ = seat-free m q kind owner to s seat f
-
   king-off : k ≡ to → ⊥
   king-off z = off m q taken w kind owner to (q .side) seat (w .side) mover (sym ek ∙ z)
 

@@ -29,8 +29,9 @@ use Rattle.movegen.specs.laws.Lifted.{king-moves}
 use Rattle.movegen.specs.laws.Struck.{attacked-split}
 use Rattle.successors.specs.Successors.{kingAt}
 use Rattle.successors.specs.laws.PlaceLaws.{starts}
-use Rattle.retracting.specs.Retracting.{Leads, placeBefore}
-use Rattle.retracting.specs.laws.Sources.{was-free}
+use Rattle.retracting.specs.Retracting.{Leads, GoesBack, placeBefore}
+use Rattle.retracting.specs.laws.Sources.{free-of}
+use Rattle.retracting.specs.laws.Stepping.{leads-goes}
 use Rattle.working_back.specs.Bare.{bareOn, Bare, stoodOn, struckBy}
 use Rattle.working_back.specs.laws.KingBack.{king-back}
 
@@ -68,21 +69,21 @@ struck-is m white x y to i j k stood near far out ei ej ek es en a c ea ec ef eo
         ap (λ (z : ℕ). has z u) es ∙ has-or i (bitOr j k) u
         ∙ ap₂ _||_ (set-has _ ei u g) (has-or j k u ∙ ap₂ _||_ (set-has _ ej u g) (set-has _ ek u g))
 
+-- the place before his move, by its squares
+pub place-is : (m : Men) (q : Place) (taken to white x y : ℕ) → Bare m q taken to white x y → (s : ℕ) → GoesBack m q taken s to
+    → placeBefore q taken s to ≡ bareOn 1 white s x y
+place-is m q taken to white x y v s b =
+    let h = v .side in
+    king-back m q taken to s (v .legal) (free-of m q s (b .square) (b .free)) x y (v .at-first) (v .at-second) 1 (omega arith) (v .king)
+    ∙ ap (λ (w : ℕ). bareOn 1 w s x y) (sym (v .at-white))
+
 module _ (m : Men) (q : Place) (taken to white x y : ℕ) (v : Bare m q taken to white x y) (s : ℕ)
     (l : Leads m (placeBefore q taken s to) s to q) where
-  abbrev pub p : Place
+  abbrev p : Place
   p = bareOn 1 white s x y
 
-  -- the place before his move, by its squares
-  pub place-is : placeBefore q taken s to ≡ p
-  place-is =
-      let h = v .side in
-      king-back m q taken to s (v .legal) (was-free m q (placeBefore q taken s to) s to taken (v .legal) l) x y (v .at-first) (v .at-second) 1
-      (omega arith) (v .king)
-      ∙ ap (λ (w : ℕ). bareOn 1 w s x y) (sym (v .at-white))
-
   pub complete : Complete m p
-  complete = subst (Complete m) place-is (l .complete)
+  complete = subst (Complete m) (place-is m q taken to white x y v s (leads-goes m q taken s to (v .legal) l)) (l .complete)
 
   spread : Spread m p
   spread = complete-spread complete
@@ -97,9 +98,6 @@ module _ (m : Men) (q : Place) (taken to white x y : ℕ) (v : Bare m q taken to
   white-is : king b 0 ≡ white
   unfolding boardOf posed
   white-is = refl
-
-  pub on : s < 64
-  on = spread .black
 
   -- what stands there with him lifted
   stood : (u : ℕ) → u < 64 → lifted (occupied b) s u ≡ stoodOn white x y u

@@ -1,15 +1,16 @@
 -- The three pieces that may have moved into a position.
-use Rattle.finite.specs.Truth.{of-true, and-left, and-right}
+use Rattle.finite.specs.Truth.{of-true, and-left, and-right, or-cases}
 use mathlib.Core.Path.{_≡_, refl, sym, ap, subst, subst⁻¹, _∙_}
-use mathlib.Core.Bool.{Bool, true, false, cond, _&&_}
+use mathlib.Core.Bool.{Bool, true, false, cond, _&&_, _||_}
 use mathlib.Core.Logic.{_⊎_, inl, inr, ⊎-elim}
 use mathlib.Core.List.{List}
-use Prim.Native.Nat.{ℕ, zero, suc, _+_, _-_, _<_}
+use Prim.Native.Nat.{ℕ, zero, suc, _+_, _-_, _<_, _≤_}
 use native.Mathlib.Omega.{arith}
-use lib.Dec.{eqb, eqb→eq}
-use borrow.Author.Tests.{eq-eqb, ne-eqb}
+use lib.Dec.{leb, eqb, eqb→eq, leb→le}
+use borrow.Author.Tests.{eq-eqb, ne-eqb, eqb-false}
 use Rattle.rules.specs.Rules.{carried}
 use Rattle.rules.specs.Chess.{chess}
+use Rattle.rules.specs.laws.CanMove.{can-on}
 use Rattle.numbering.specs.Number.{numberOf}
 use Rattle.position.specs.declared.Men.{Men}
 use Rattle.position.specs.declared.Place.{Place}
@@ -20,7 +21,8 @@ use Rattle.successors.specs.Successors.{kingAt}
 use Rattle.successors.specs.laws.PlaceLaws.{starts}
 use Rattle.retracting.specs.Retracting.{Leads, LegalLeft, Seat}
 use Rattle.retracting.specs.laws.Sources.{moves-on}
-use Rattle.retracting.specs.laws.Code.{no-source}
+use Rattle.retracting.specs.laws.Code.{no-source, mover}
+use Rattle.retracting.specs.laws.Unchecked.{or-none}
 use Rattle.working_back.specs.Admitted.{over, Admitted}
 use Rattle.working_back.specs.Back.{TriesTo, TriesInto}
 use Rattle.working_back.specs.laws.Admitted.{sized, admitted-kept}
@@ -49,6 +51,9 @@ bare-told a b e =
 pub black-king : (q : Place) → q .side ≡ 0 → (mover to : ℕ) → mover ≡ 1 - q .side → to ≡ cond (eqb mover 0) (q .white) (q .black) → to ≡ q .black
 black-king q e mover to f g =
     g ∙ ap (λ (b : Bool). cond b (q .white) (q .black)) (ne-eqb mover 0 (λ z. omega (arith, e, f, z)))
+
+pub bare-seat : (m : Men) (q : Place) → q .side ≡ 0 → Seat m q 5 (1 - q .side) (q .black)
+bare-seat m q e = subst (λ (o : ℕ). Seat m q 5 o (q .black)) (omega arith) Seat.black
 
 module _ (m : Men) (q : Place) (taken : ℕ) (w : LegalLeft m q taken) where
   -- where a move into q went
@@ -119,6 +124,22 @@ module _ (m : Men) (q : Place) (taken : ℕ) (w : LegalLeft m q taken) where
     own-none kind owner to seat e =
         taken-end m first second k q taken to u a 0 u 0 0 refl (taken-start m first second k q taken to u a 0)
         (no-source m q taken kind owner to w seat e .all)
+
+    -- nor has one who is not on the board
+    off-none : (to : ℕ) → 64 ≤ to → TriesTo m first second k q to u u 0
+    off-none to h =
+        taken-end m first second k q taken to u a 0 u 0 0 refl (taken-start m first second k q taken to u a 0)
+        (λ o from l. let x = can-on (boardIn m o) from to (l .can) .1 in absurd (omega (arith, x, h)))
+
+    pub man-none : (kind owner s to : ℕ) → Seat m q kind owner s → s ≡ to → (eqb owner (q .side) || leb 64 s) ≡ true → TriesTo m first second k q to u u 0
+    man-none kind owner s to seat z e = tries-at u s to 0 z
+        (⊎-elim (λ x. own-none kind owner s seat (eqb→eq owner (q .side) x)) (λ x. off-none s (leb→le 64 s x))
+        (or-cases (eqb owner (q .side)) (leb 64 s) (of-true e)))
+
+    -- one who moved is the other side's
+    pub man-moved : (kind owner s : ℕ) → Seat m q kind owner s → (eqb owner (q .side) || leb 64 s) ≡ false → Seat m q kind (1 - q .side) s
+    man-moved kind owner s seat e =
+        subst (λ (o : ℕ). Seat m q kind o s) (mover m q taken kind owner s w seat (eqb-false owner (q .side) (or-none (eqb owner (q .side)) (leb 64 s) e .0))) seat
 
 -- Black has no men: his king alone
 pub into-king : (m : Men) (q : Place) (taken : ℕ) → LegalLeft m q taken → (first second : List ℕ) (k : ℕ) (u : List ℕ) → Admitted m first second u

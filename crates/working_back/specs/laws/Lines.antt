@@ -25,7 +25,7 @@ use Rattle.successors.specs.Framing.{frameFor, chosenDigits, numberOn}
 use Rattle.successors.specs.laws.FramingLaws.{number-framed, number-single, number-double, chosen-plain}
 use Rattle.retracting.specs.Retracting.{GoesBack, LegalLeft, Missing, Seat, putAgain, placeBefore}
 use Rattle.retracting.specs.laws.Back.{Free, king-stays, man-stays, man-goes}
-use Rattle.retracting.specs.laws.Sources.{free-of, seat-free}
+use Rattle.retracting.specs.laws.Sources.{free-of}
 use Rattle.retracting.specs.laws.Stepping.{leads-goes}
 use Rattle.working_back.specs.declared.lines.Line.{Line}
 use Rattle.working_back.specs.Lines.{baseOf, scaleOf, LinedBefore, LinedAfter}
@@ -192,9 +192,6 @@ module _ (m : Men) (q : Place) (taken to s : ℕ) (g : LegalLeft m q taken) (v :
     free : Free o t
     free = free-of m o t (reaches-squares (occupied (boardIn m o)) kind s t (w .reached) .1) (w .free)
 
-    differ : s ≡ t → ⊥
-    differ = seat-free m o kind (o .side) s t seat free
-
     apart : Spread m o
     apart = complete-spread (v .complete)
 
@@ -241,18 +238,18 @@ none-lined m q taken to line e h = (
   record { bounded = h; serves = λ kind s t l seat w r. absurd (true-not-false r e) },
 )
 
-pub plain-lined : (m : Men) (q : Place) (taken to side : ℕ) → LegalLeft m q taken → (to ≡ q .first) ⊎ (to ≡ q .second) → (f : Frame)
-    → f ≡ frameFor side (q .white) (q .black) → f .exchange ≡ 0 → alike m ≡ false → (base scale : ℕ) → base ≡ baseOf m q taken to f
+pub plain-lined : (m : Men) (q : Place) (taken to : ℕ) → LegalLeft m q taken → (to ≡ q .first) ⊎ (to ≡ q .second) → (f : Frame)
+    → f .exchange ≡ 0 → alike m ≡ false → (base scale : ℕ) → base ≡ baseOf m q taken to f
     → base < 2 ^ 48 → scale ≡ scaleOf m q to → (line : Line) → line ≡ record { plain = true; base = base; flip = f .flip; scale = scale }
-    → (side ≡ 1 - q .side → LinedBefore m q taken to line) × (side ≡ q .side → LinedAfter m q taken to line)
-plain-lined m q taken to side g w f hf e n base scale hb bound hs line z = (
-  λ d. subst⁻¹ (LinedBefore m q taken to) z (record {
+    → (f ≡ frameFor (1 - q .side) (q .white) (q .black) → LinedBefore m q taken to line)
+    × (f ≡ frameFor (q .side) (q .white) (q .black) → LinedAfter m q taken to line)
+plain-lined m q taken to g w f e n base scale hb bound hs line z = (
+  λ hf. subst⁻¹ (LinedBefore m q taken to) z (record {
     bounded = bound;
-    serves = λ s v t. line-before m q taken to s g v f (subst (λ (x : ℕ). f ≡ frameFor x (q .white) (q .black)) d hf) e n w base scale hb hs;
+    serves = λ s v t. line-before m q taken to s g v f hf e n w base scale hb hs;
   }),
-  λ d. subst⁻¹ (LinedAfter m q taken to) z (record {
+  λ hf. subst⁻¹ (LinedAfter m q taken to) z (record {
     bounded = bound;
-    serves = λ kind s t l seat v r.
-        line-after m q taken to s g (leads-goes m q taken s to g l) (l .legality) kind t seat v f (subst (λ (x : ℕ). f ≡ frameFor x (q .white) (q .black)) d hf) e n w base scale hb hs;
+    serves = λ kind s t l seat v r. line-after m q taken to s g (leads-goes m q taken s to g l) (l .legality) kind t seat v f hf e n w base scale hb hs;
   }),
 )

@@ -3,9 +3,11 @@ use mathlib.Core.Path.{_≡_, sym, ap, subst, _∙_}
 use mathlib.Core.List.{List}
 use Prim.Native.Nat.{ℕ, _*_, _<_}
 use lib.Dec.{T}
-use lib.ListN.{length}
+use native.Mathlib.Omega.{arith}
+use lib.ListN.{length, getD}
 use Rattle.finite.specs.Truth.{and-right}
 use Rattle.rules.specs.Rules.{legal}
+use Rattle.rules.specs.Chess.{chess}
 use Rattle.numbering.specs.Keys.{boardAt, spread}
 use Rattle.numbering.specs.Kings.{separate}
 use Rattle.numbering.specs.Number.{numberOf, used}
@@ -19,10 +21,11 @@ use Rattle.position.specs.Keyed.{boardOf}
 use Rattle.position.specs.Posed.{posed, boardIn, materialFor, Complete}
 use Rattle.index.specs.Seats.{Seated}
 use Rattle.index.specs.laws.CompleteLaws.{complete-seated, complete-has}
-use Rattle.four_men.specs.Reading.{legalNumberOf}
+use Rattle.four_men.specs.Reading.{legalNumberOf, numbered}
 use Rattle.four_men.specs.laws.Numbered.{live-is, legal-by}
 use Rattle.four_men.specs.laws.Materials.{size-is, own-material}
-use Rattle.working_back.specs.Admitted.{Admitted}
+use Rattle.working_back.specs.Admitted.{over, Admitted}
+use Rattle.working_back.specs.Trying.{Alive}
 use Rattle.working_back.specs.laws.Admitted.{long}
 
 module _ (m : Men) (o : Place) (c : Complete m o) where
@@ -36,6 +39,12 @@ module _ (m : Men) (o : Place) (c : Complete m o) where
       let i = image-at (own-material M (c .ending)) (boardIn m o) (complete-has m o c) in
       subst T (ap legal (i .1) ∙ legal-by (i .0) (boardIn m o))
       (and-right (used (boardAt (menOf M) n)) (legal (boardAt (menOf M) n)) (subst T (live-is M (c .ending) n) live))
+
+  -- so are those of a number that holds 1
+  pub holds-legal : (first second u : List ℕ) → Alive chess (over m first second) u → (n : ℕ) → n ≡ numberOf (boardIn m o) → getD u n 0 ≡ 1
+      → T (legal (boardIn m o))
+  unfolding numbered
+  holds-legal first second u a n z e = number-legal (subst (λ (i : ℕ). T (legalNumberOf M i)) z (a n (λ y. omega (arith, e, y))))
 
   -- the number made
   pub number-inside : (first second u : List ℕ) → Admitted m first second u → (n : ℕ) → n ≡ numberOf (boardIn m o) → n < length u
