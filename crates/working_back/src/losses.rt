@@ -77,6 +77,9 @@ fn lose_man(
         return 0;
     }
     let squares = sources(m, q, taken, kind, owner, to);
+    if squares == 0 {
+        return 0;
+    }
     let before = frame_for(other(q.side), q.white, q.black);
     let line = line_of(before, m, q, taken, to);
     let after = frame_for(q.side, q.white, q.black);

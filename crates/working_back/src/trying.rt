@@ -67,7 +67,8 @@ struct Told {
     seen: u64,
 }
 
-// Settles the number of the position before a move from s, if the table has it, it holds 1 and is lost in k. The piece's own other moves are read first: a square that spares its side does so from all squares that it is reached from.
+// Settles the number of the position before a move from s, if the table has it, it holds 1 and is lost in k. The piece's own other moves are read first:
+// a square that spares its side does so from all squares that it is reached from.
 fn lose_number(
     m: Men,
     k: u8,

@@ -51,7 +51,6 @@ still-king q to s side k e n = go (eqb side 0) e
     go true e = rw (ne-eqb (q .white) to (λ z. n (e ∙ z))) (sym e)
     go false e = rw (ne-eqb (q .black) to (λ z. n (e ∙ z))) (sym e)
 
--- where a man stands before the move, and that he does not strike, or does as the piece that moved does
 -- a piece's square is occupied
 seat-there : (m : Men) (q : Place) (kind owner to : ℕ) → to < 64 → Seat m q kind owner to → occupied (boardIn m q) to ≡ true
 seat-there m q kind owner to h seat = occupied-men m q to h ∙ go kind owner to seat
