@@ -244,9 +244,13 @@ impl Filling<'_> {
         let men = self.men;
         let settled = self.lose_each(q, k, king, sources(men, q, KING, to, taken));
         let tried = |(kind, to)| {
+            let from = sources(men, q, kind, to, taken);
+            if from == 0 {
+                return 0;
+            }
             let line = |side| self.line(Frame::new(side, q.white, q.black), q, to, taken);
             let moved = Moved { kind, to, taken, line: line(1 - q.side), after: line(q.side) };
-            self.lose_each(q, k, moved, sources(men, q, kind, to, taken))
+            self.lose_each(q, k, moved, from)
         };
         settled + movers(men, q).map(tried).sum::<u32>()
     }
