@@ -14,7 +14,7 @@ use Rattle.rules.specs.laws.CanMove.{can-on}
 use Rattle.position.specs.declared.Men.{Men}
 use Rattle.position.specs.declared.Place.{Place}
 use Rattle.position.specs.Posed.{boardIn}
-use Rattle.retracting.specs.Retracting.{Leads, LegalLeft, Seat, loser, placeBefore, Steps, GoesBack, StepsBack}
+use Rattle.retracting.specs.Retracting.{Leads, LegalLeft, Seat, loser, placeBefore, Steps, Retracts, GoesBack, StepsBack}
 use Rattle.retracting.specs.laws.Sources.{free-of, free-empty, leads-back, put-back, was-free, came}
 use Rattle.retracting.specs.laws.Unchecked.{king-touches, man-touches}
 use Rattle.retracting.specs.laws.Code.{no-capture, reached, unoccupied, apart-there, came-among}
@@ -112,3 +112,18 @@ module _ (m : Men) (q : Place) (taken kind to : ℕ) (g : LegalLeft m q taken) (
             let h = can-on (boardIn m p) s to (l .can) .0 in
             subst⁻¹ T (set-has (λ (u : ℕ). has squares u && not (has near u)) er s h)
             (and-both (has squares s) (not (has near s)) (among p s l) (subst⁻¹ (λ (b : Bool). T (not b)) (away p s h l) tt))
+
+-- of these squares those that leave a legal position are exactly the ones from which the piece may have come
+pub legal-steps : (m : Men) (q : Place) (taken to set kept : ℕ) → StepsBack m q taken to set
+    → ((s : ℕ) → s < 64 → has kept s ≡ (has set s && legal (boardIn m (placeBefore q taken s to)))) → Retracts m q taken to kept
+legal-steps m q taken to set kept st e = record {
+  sound = λ s h t.
+      let b = subst T (e s h) t in
+      st .sound s h (and-left (has set s) (legal (boardIn m (placeBefore q taken s to))) b) .legally
+      (and-right (has set s) (legal (boardIn m (placeBefore q taken s to))) b);
+  all = λ p s l.
+      let w = st .all p s l in
+      let h = can-on (boardIn m p) s to (l .can) .0 in
+      let there = subst (λ (c : Place). T (legal (boardIn m c))) (w .1) (l .legality) in
+      (subst⁻¹ T (e s h) (and-both (has set s) (legal (boardIn m (placeBefore q taken s to))) (w .0) there), w .1);
+}
