@@ -3,8 +3,8 @@
 use super::bare::Bare;
 use super::board::{has, one, squares, targets};
 use super::moves::{byte_of, checked, mated, required, requires, spoils, Tables};
-use super::numbers::{is_used, number, place, Frame, Line, LARGE, SMALL};
-use super::retract::{before, sources, stood, Taken};
+use super::numbers::{is_used, number, place, Frame, Line, Others, LARGE, SMALL};
+use super::retract::{before, sources, steps_back, stood, Taken};
 use super::rows;
 use super::{Men, Place, KING, OFF};
 
@@ -45,6 +45,14 @@ fn accepted(kind: u8, table: &[u8]) -> bool {
         .iter()
         .enumerate()
         .all(|(n, &byte)| byte == legal_at(men, n).map_or(0, |q| required(men, q, tables)))
+}
+
+/// The men of the side that moved: their kinds and squares.
+fn movers(men: Men, q: Place) -> impl Iterator<Item = (u8, u8)> {
+    [(0, men.first, q.first), (men.colour, men.second, q.second)]
+        .into_iter()
+        .filter(move |&(owner, _, to)| owner != q.side && to != OFF)
+        .map(|(_, kind, to)| (kind, to))
 }
 
 impl Filling<'_> {
@@ -102,20 +110,34 @@ impl Filling<'_> {
         })
     }
 
-    /// The places before a piece's moves to one of depth k - 1, k odd: each that holds 1 is won in k.
-    fn win_each(&mut self, q: Place, k: u8, moved: Moved, from: u64) -> u32 {
-        let tried = |from| {
-            let n = self.number_before(q, moved, from);
-            if self.table[n] == 1 {
-                self.settle(n, k)
-            } else {
-                0
-            }
-        };
-        squares(from).map(tried).sum()
+    /// A place with a move to one of depth k - 1, k odd: if it holds 1, it is legal and won in k.
+    fn win(&mut self, n: usize, k: u8) -> u32 {
+        if self.table[n] == 1 {
+            self.settle(n, k)
+        } else {
+            0
+        }
     }
 
-    /// The same, k even: each is lost if the others say so. The piece's own other moves are read
+    /// The places before a piece's moves to one of depth k - 1, k odd.
+    fn win_each(&mut self, q: Place, k: u8, moved: Moved, from: u64) -> u32 {
+        squares(from).map(|from| self.win(self.number_before(q, moved, from), k)).sum()
+    }
+
+    /// The same of the king: all others stand still.
+    fn win_king(&mut self, q: Place, k: u8, to: u8, taken: Taken, from: u64) -> u32 {
+        let still = |square, who| if taken == who { to } else { square };
+        let (x, y) = (still(q.first, Taken::First), still(q.second, Taken::Second));
+        if q.side == 0 {
+            let others = Bare::new(self.men, q.white, x, y);
+            squares(from).map(|black| self.win(others.number(1, black), k)).sum()
+        } else {
+            let others = Others::new(self.men, q.black, x, y);
+            squares(from).map(|white| self.win(others.number(white), k)).sum()
+        }
+    }
+
+    /// The same, k even: each is lost if its other moves say so. The piece's own other moves are read
     /// first: what stands after them is the same wherever it came from, so that a square which
     /// spares its side does so from all that it is reached from, and none is read twice.
     fn lose_each(&mut self, q: Place, k: u8, moved: Moved, from: u64) -> u32 {
@@ -143,46 +165,6 @@ impl Filling<'_> {
             }
         }
         settled
-    }
-
-    fn try_each(&mut self, q: Place, k: u8, moved: Moved, from: u64) -> u32 {
-        if k % 2 == 0 {
-            self.lose_each(q, k, moved, from)
-        } else {
-            self.win_each(q, k, moved, from)
-        }
-    }
-
-    /// A man's squares: the kings stand still, and where nothing is exchanged the numbers lie at
-    /// equal steps.
-    fn try_man(&mut self, q: Place, k: u8, kind: u8, to: u8, taken: Taken) -> u32 {
-        let from = sources(self.men, q, kind, to, taken);
-        if from == 0 {
-            return 0;
-        }
-        let still = |square, who| if taken == who { to } else { square };
-        let line = |side| {
-            let frame = Frame::new(side, q.white, q.black);
-            match (self.men.single(), q.first == to) {
-                (true, _) => frame.line(self.men, 0, 1),
-                (_, true) => frame.line(self.men, still(q.second, Taken::Second), 64),
-                _ => frame.line(self.men, still(q.first, Taken::First), 1),
-            }
-        };
-        let after = if k % 2 == 0 { line(q.side) } else { None };
-        let line = line(1 - q.side);
-        self.try_each(q, k, Moved { kind, to, taken, line, after }, from)
-    }
-
-    fn try_king(&mut self, q: Place, k: u8, taken: Taken) -> u32 {
-        let to = q.king(1 - q.side);
-        let from = sources(self.men, q, KING, to, taken);
-        if k % 2 == 0 && q.side == 0 && self.men.colour == 0 {
-            self.lose_bare(q, k, to, taken, from)
-        } else {
-            let moved = Moved { kind: KING, to, taken, line: None, after: None };
-            self.try_each(q, k, moved, from)
-        }
     }
 
     /// A black king without men: White's pieces stand still, and what they attack is told once.
@@ -223,17 +205,62 @@ impl Filling<'_> {
         squares(from).map(tried).sum()
     }
 
-    /// The places with a move to this one that takes nothing, or the man named.
+    /// A man's squares: the kings stand still, and where nothing is exchanged the numbers lie at
+    /// equal steps.
+    fn line(&self, frame: Frame, q: Place, to: u8, taken: Taken) -> Option<Line> {
+        let still = |square, who| if taken == who { to } else { square };
+        match (self.men.single(), q.first == to) {
+            (true, _) => frame.line(self.men, 0, 1),
+            (_, true) => frame.line(self.men, still(q.second, Taken::Second), 64),
+            _ => frame.line(self.men, still(q.first, Taken::First), 1),
+        }
+    }
+
+    /// The places with a move to this one that takes nothing, or the man named; k odd.
+    fn win_into(&mut self, q: Place, k: u8, taken: Taken) -> u32 {
+        let (occupied, to) = (q.occupied(), q.king(1 - q.side));
+        let settled = self.win_king(q, k, to, taken, steps_back(q, occupied, KING, to));
+        // Black has no men.
+        if q.side == 0 && self.men.colour == 0 {
+            return settled;
+        }
+        let (men, frame) = (self.men, Frame::new(1 - q.side, q.white, q.black));
+        let tried = |(kind, to)| {
+            let line = self.line(frame, q, to, taken);
+            let moved = Moved { kind, to, taken, line, after: None };
+            self.win_each(q, k, moved, steps_back(q, occupied, kind, to))
+        };
+        settled + movers(men, q).map(tried).sum::<u32>()
+    }
+
+    /// The same, k even.
+    fn lose_into(&mut self, q: Place, k: u8, taken: Taken) -> u32 {
+        let to = q.king(1 - q.side);
+        // Black has no men.
+        if q.side == 0 && self.men.colour == 0 {
+            return self.lose_bare(q, k, to, taken, steps_back(q, q.occupied(), KING, to));
+        }
+        let king = Moved { kind: KING, to, taken, line: None, after: None };
+        let men = self.men;
+        let settled = self.lose_each(q, k, king, sources(men, q, KING, to, taken));
+        let tried = |(kind, to)| {
+            let from = sources(men, q, kind, to, taken);
+            if from == 0 {
+                return 0;
+            }
+            let line = |side| self.line(Frame::new(side, q.white, q.black), q, to, taken);
+            let moved = Moved { kind, to, taken, line: line(1 - q.side), after: line(q.side) };
+            self.lose_each(q, k, moved, from)
+        };
+        settled + movers(men, q).map(tried).sum::<u32>()
+    }
+
     fn try_into(&mut self, q: Place, k: u8, taken: Taken) -> u32 {
-        let (men, mover) = (self.men, 1 - q.side);
-        let mut settled = self.try_king(q, k, taken);
-        if mover == 0 && q.first != OFF {
-            settled += self.try_man(q, k, men.first, q.first, taken);
+        if k % 2 == 1 {
+            self.win_into(q, k, taken)
+        } else {
+            self.lose_into(q, k, taken)
         }
-        if mover == men.colour && q.second != OFF {
-            settled += self.try_man(q, k, men.second, q.second, taken);
-        }
-        settled
     }
 
     /// Captures taken back from a lent table, of which one man is left.

@@ -52,24 +52,47 @@ fn rising(like: bool, key: u32) -> u32 {
     }
 }
 
-/// Four squares of six bits each, the least of their class.
-fn least(men: Men, q: Place) -> u32 {
-    let flip = flip_of(q.white);
-    let second = if q.second == OFF { 0 } else { q.second ^ flip };
-    let squares = [q.white ^ flip, q.black ^ flip, q.first ^ flip, second];
-    let key = squares.into_iter().fold(0, |key, square| key * 64 + square as u32);
+/// Four squares of six bits each.
+fn key_of(q: Place) -> u32 {
+    let second = if q.second == OFF { 0 } else { q.second };
+    [q.white, q.black, q.first, second].into_iter().fold(0, |key, square| key * 64 + square as u32)
+}
+
+/// The least key of its class.
+fn least(like: bool, key: u32) -> u32 {
+    let key = key ^ flip_of((key / 64 / 4096) as u8) as u32 * 0o01_01_01_01;
     let transposed = (key / 8 & FILES) + (key & FILES) * 8;
-    let like = men.alike();
     rising(like, key).min(rising(like, transposed))
 }
 
-pub fn number(men: Men, q: Place) -> usize {
-    let key = least(men, q) as usize;
-    let kings = q.side as usize * PAIRS + PAIR_OF[key / 4096 % 4096] as usize;
+fn number_keyed(men: Men, side: u8, key: u32) -> usize {
+    let key = least(men.alike(), key) as usize;
+    let kings = side as usize * PAIRS + PAIR_OF[key / 4096 % 4096] as usize;
     if men.single() {
         kings * 64 + key / 64 % 64
     } else {
         kings * 4096 + key % 4096
+    }
+}
+
+pub fn number(men: Men, q: Place) -> usize {
+    number_keyed(men, q.side, key_of(q))
+}
+
+/// All but the white king, who is to move: their key, into which his square is put.
+#[derive(Clone, Copy)]
+pub struct Others {
+    men: Men,
+    key: u32,
+}
+
+impl Others {
+    pub fn new(men: Men, black: u8, first: u8, second: u8) -> Others {
+        Others { men, key: key_of(Place { side: 0, white: 0, black, first, second }) }
+    }
+
+    pub fn number(self, white: u8) -> usize {
+        number_keyed(self.men, 0, self.key + white as u32 * 64 * 4096)
     }
 }
 

@@ -35,6 +35,13 @@ pub fn stood(q: Place, to: u8, taken: Taken) -> u64 {
     }
 }
 
+/// The squares that the piece on `to` goes back to over what stands there, whether the place before
+/// is legal or not; a king keeps away from the other.
+pub fn steps_back(q: Place, occupied: u64, kind: u8, to: u8) -> u64 {
+    let near = if kind == KING { targets(0, KING, q.king(q.side)) } else { 0 };
+    targets(occupied, kind, to) & !occupied & !near
+}
+
 /// The squares from which the piece on `to` may have come: put back there, with what it took, the
 /// place is legal and has that move.
 pub fn sources(men: Men, q: Place, kind: u8, to: u8, taken: Taken) -> u64 {

@@ -72,6 +72,19 @@ pub record Retracts (m : Men) (q : Place) (taken to set : ℕ) : Type 0 where
   pub sound : (from : ℕ) → from < 64 → T (has set from) → Leads m (placeBefore q taken from to) from to q
   pub all : (o : Place) (from : ℕ) → Leads m o from to q → T (has set from) × (o ≡ placeBefore q taken from to)
 
+-- The piece on `to` goes back to this square, which is free: the men are all there then, and if the position is legal, it has that move.
+pub record GoesBack (m : Men) (q : Place) (taken from to : ℕ) : Type 0 where
+  pub target : to < 64
+  pub square : from < 64
+  pub free : occupied (boardIn m q) from ≡ false
+  pub complete : Complete m (placeBefore q taken from to)
+  pub legally : T (legal (boardIn m (placeBefore q taken from to))) → Leads m (placeBefore q taken from to) from to q
+
+-- The set holds the squares from which the piece on `to` may have come, and others only to which it goes back, though not from a legal position.
+pub record StepsBack (m : Men) (q : Place) (taken to set : ℕ) : Type 0 where
+  pub sound : (from : ℕ) → from < 64 → T (has set from) → GoesBack m q taken from to
+  pub all : (o : Place) (from : ℕ) → Leads m o from to q → T (has set from) × (o ≡ placeBefore q taken from to)
+
 -- the men are all there, no two on one square: complete where the kings do not touch
 abbrev pub CompleteApart : Men → Place → Type 0
 CompleteApart m q = touching (boardIn m q) ≡ false → Complete m q

@@ -7,3 +7,4 @@ pub mod Causes
 pub mod Captured
 pub mod Leaving
 pub mod Code
+pub mod Stepping

@@ -149,7 +149,7 @@ fn unchecking(
 }
 
 // Whose the man was who was taken.
-fn loser(m: Men, taken: u8) -> u8
+pub fn loser(m: Men, taken: u8) -> u8
     ensures { λ r. ⌜ r ≡ loserOf m taken ⌝ }
 {
     if taken == 1 { 0 } else { m.colour }

@@ -10,7 +10,7 @@ use Rattle.numbering.specs.Number.{numberOf}
 use Rattle.position.specs.Posed.{boardIn}
 use Rattle.movegen.specs.Places.{placeAfter}
 use Rattle.successors.specs.declared.Frame.{Frame}
-use Rattle.retracting.specs.Retracting.{Leads, Seat, placeBefore}
+use Rattle.retracting.specs.Retracting.{Leads, GoesBack, Seat, placeBefore}
 use Rattle.working_back.specs.declared.lines.Line.{Line}
 use Rattle.working_back.specs.Spared.{Quietly}
 
@@ -26,7 +26,7 @@ scaleOf m q to = cond (leb 4 (m .second)) 1 (cond (eqb (q .first) to) 64 1)
 -- the line has the number of the place before a move from s, whichever square that is
 pub record LinedBefore (m : Men) (q : Place) (taken to : ℕ) (line : Line) : Type 0 where
   pub bounded : line .base < 2 ^ 48
-  pub serves : (s : ℕ) → Leads m (placeBefore q taken s to) s to q → line .plain ≡ true
+  pub serves : (s : ℕ) → GoesBack m q taken s to → line .plain ≡ true
       → line .base + bitXor s (line .flip) * line .scale ≡ numberOf (boardIn m (placeBefore q taken s to))
 
 -- .. the number after another move

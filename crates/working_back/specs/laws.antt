@@ -2,6 +2,8 @@ pub mod Admitted
 pub mod Few
 pub mod Trying
 pub mod Won
+pub mod Numbers
+pub mod KingBack
 pub mod Lone
 pub mod Found
 pub mod Places

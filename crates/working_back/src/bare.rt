@@ -26,13 +26,15 @@ ghost use lib.Dec.{T, eqb};
 ghost use lib.ListN.{length, getD};
 ghost use Rattle.board.specs.Sets.{has};
 ghost use Rattle.rules.specs.Rules.{canMove};
+ghost use Rattle.rules.specs.Chess.{chess};
 ghost use Rattle.numbering.specs.Kings.{separate};
 ghost use Rattle.numbering.specs.Number.{numberOf};
 ghost use Rattle.position.specs.Posed.{boardIn};
 ghost use Rattle.index.specs.Seats.{Seated};
 ghost use Rattle.index.specs.Moving.{kingOn, Stands};
-ghost use Rattle.retracting.specs.Retracting.{LegalLeft, Leads, Retracts, placeBefore};
-ghost use Rattle.working_back.specs.Admitted.{Admitted};
+ghost use Rattle.retracting.specs.Retracting.{LegalLeft, Leads, GoesBack, StepsBack, placeBefore};
+ghost use Rattle.working_back.specs.Admitted.{over, Admitted};
+ghost use Rattle.working_back.specs.Trying.{Alive};
 ghost use Rattle.working_back.specs.Back.{TriesPlace, TriesTo};
 ghost use Rattle.working_back.specs.Bare.{bareOn, Bare, struckBy, Knows, QuietLoss};
 
@@ -114,7 +116,7 @@ fn lose_taking(
     confirm(m, k, q, taken, s, to, n, first, second, &mut *table)
 }
 
-// Settles the number of the position before his move from s, if the table has it and he is lost there in k.
+// Settles the number of the position before his move from s, if it holds 1, so that it is legal, and he is lost there in k.
 fn lose_one(
     m: Men,
     k: u8,
@@ -133,7 +135,7 @@ fn lose_one(
     second: &[u8],
     table: &mut [u8],
 ) -> Lost
-    requires { ⌜ (0 < k) × (k < 254) × (k % 2 ≡ 0) × Admitted m (now first) (now second) (now table) × Bare m q taken to white x y × ((t : ℕ) → t < 64 → has shut t ≡ (struckBy m white x y t || eqb t to)) × Leads m (placeBefore q taken s to) s to q × Knows m k white x y (now table) saving harmless × Stands m others (kingOn false white 0 x y) ⌝ }
+    requires { ⌜ (0 < k) × (k < 254) × (k % 2 ≡ 0) × Admitted m (now first) (now second) (now table) × Bare m q taken to white x y × ((t : ℕ) → t < 64 → has shut t ≡ (struckBy m white x y t || eqb t to)) × GoesBack m q taken s to × Knows m k white x y (now table) saving harmless × Stands m others (kingOn false white 0 x y) × Alive chess (over m (now first) (now second)) (now table) ⌝ }
     ensures { λ r. ⌜ TriesPlace m (now (first .entry)) (now (second .entry)) k q (placeBefore q taken s to) (now (table .entry)) (now (table .exit)) (r .settled) × Knows m k white x y (now (table .exit)) (r .saving) (r .harmless) ⌝ }
 {
     let n = still_number(others, 1, s);
@@ -182,7 +184,7 @@ pub fn lose_bare(
     second: &[u8],
     table: &mut [u8],
 ) -> u32
-    requires { ⌜ (0 < k) × (k < 254) × (k % 2 ≡ 0) × Admitted m (now first) (now second) (now table) × Retracts m q taken to squares × LegalLeft m q taken × (q .side ≡ 0) × (m .colour ≡ 0) × (to ≡ q .black) ⌝ }
+    requires { ⌜ (0 < k) × (k < 254) × (k % 2 ≡ 0) × Admitted m (now first) (now second) (now table) × StepsBack m q taken to squares × LegalLeft m q taken × (q .side ≡ 0) × (m .colour ≡ 0) × (to ≡ q .black) × Alive chess (over m (now first) (now second)) (now table) ⌝ }
     ensures { λ r. ⌜ TriesTo m (now (first .entry)) (now (second .entry)) k q to (now (table .entry)) (now (table .exit)) r ⌝ }
 {
     let white = q.white;

@@ -9,7 +9,9 @@ use successors::legal_at;
 ghost use mathlib.Core.Path.{_≡_};
 ghost use Prim.Native.Nat.{_+_, _<_};
 ghost use lib.ListN.{length, getD};
-ghost use Rattle.working_back.specs.Admitted.{Admitted};
+ghost use Rattle.rules.specs.Chess.{chess};
+ghost use Rattle.working_back.specs.Admitted.{over, Admitted};
+ghost use Rattle.working_back.specs.Trying.{Alive};
 ghost use Rattle.working_back.specs.Back.{Which, lentOf, TriesLone, Sweeps, SweepsAll};
 
 // Tries the positions that have a move to the man alone at this number, which holds depth k - 1 in his table, if it is legal: a move which takes the
@@ -23,7 +25,7 @@ fn try_lone(
     second: &[u8],
     table: &mut [u8],
 ) -> u32
-    requires { ⌜ (0 < k) × (k < 254) × Admitted m (now first) (now second) (now table) × (m .second < 4) × Which taken × (j < length (lentOf m (now first) (now second) taken)) × (getD (lentOf m (now first) (now second) taken) j 0 ≡ 1 + k) ⌝ }
+    requires { ⌜ (0 < k) × (k < 254) × Admitted m (now first) (now second) (now table) × Alive chess (over m (now first) (now second)) (now table) × (m .second < 4) × Which taken × (j < length (lentOf m (now first) (now second) taken)) × (getD (lentOf m (now first) (now second) taken) j 0 ≡ 1 + k) ⌝ }
     ensures { λ r. ⌜ TriesLone m (now (first .entry)) (now (second .entry)) k taken j (now (table .entry)) (now (table .exit)) r ⌝ }
 {
     let standing = legal_at(lone_men(m, taken), j as u32);
@@ -46,7 +48,7 @@ fn pass_lent(
     second: &[u8],
     table: &mut [u8],
 ) -> u32
-    requires { ⌜ (0 < k) × (k < 254) × Admitted m (now first) (now second) (now table) × (m .second < 4) × Which taken × (now small ≡ lentOf m (now first) (now second) taken) ⌝ }
+    requires { ⌜ (0 < k) × (k < 254) × Admitted m (now first) (now second) (now table) × Alive chess (over m (now first) (now second)) (now table) × (m .second < 4) × Which taken × (now small ≡ lentOf m (now first) (now second) taken) ⌝ }
     ensures { λ r. ⌜ Sweeps m (now (first .entry)) (now (second .entry)) k taken 59136 (now (table .entry)) (now (table .exit)) r ⌝ }
 {
     let byte = 1 + k;
@@ -61,7 +63,7 @@ fn pass_lent(
 
 // Tries back from the tables of both men: of like kinds one table is lent twice, and the first is read.
 pub fn pass_captures(m: Men, k: u8, first: &[u8], second: &[u8], table: &mut [u8]) -> u32
-    requires { ⌜ (0 < k) × (k < 254) × Admitted m (now first) (now second) (now table) ⌝ }
+    requires { ⌜ (0 < k) × (k < 254) × Admitted m (now first) (now second) (now table) × Alive chess (over m (now first) (now second)) (now table) ⌝ }
     ensures { λ r. ⌜ SweepsAll m (now (first .entry)) (now (second .entry)) k (now (table .entry)) (now (table .exit)) r ⌝ }
 {
     if 4 <= m.second {

@@ -6,7 +6,10 @@ mod finding;
 mod into;
 mod known;
 mod lines;
+mod losses;
 mod spared;
 mod trying;
+mod winning;
+mod wins;
 
 pub use back::pass_back;

@@ -7,10 +7,10 @@ use successors::Frame;
 use successors::base_of_first;
 use successors::base_of_one;
 use successors::base_of_second;
-use successors::frame_for;
 ghost use mathlib.Core.Path.{_≡_};
 ghost use mathlib.Core.Logic.{_⊎_};
 ghost use Prim.Native.Nat.{ℕ, _-_, _^_, _<_};
+ghost use Rattle.successors.specs.Framing.{frameFor};
 ghost use Rattle.retracting.specs.Retracting.{LegalLeft};
 ghost use Rattle.working_back.specs.Lines.{baseOf, scaleOf, LinedBefore, LinedAfter};
 
@@ -60,12 +60,11 @@ pub fn no_line() -> Line
     }
 }
 
-// The squares of the man on `to` with this side to move, by the frame of the kings, who stand still: those that he came from, or those that he went to.
-pub fn line_of(side: u8, m: Men, q: Place, taken: u8, to: u8) -> Line
+// The squares of the man on `to` by the frame of the kings, who stand still: those that he came from, or those that he went to, by who is to move in it.
+pub fn line_of(f: Frame, m: Men, q: Place, taken: u8, to: u8) -> Line
     requires { ⌜ LegalLeft m q taken × ((to ≡ q .first) ⊎ (to ≡ q .second)) ⌝ }
-    ensures { λ r. ⌜ (side ≡ 1 - q .side → LinedBefore m q taken to r) × (side ≡ q .side → LinedAfter m q taken to r) ⌝ }
+    ensures { λ r. ⌜ (f ≡ frameFor (1 - q .side) (q .white) (q .black) → LinedBefore m q taken to r) × (f ≡ frameFor (q .side) (q .white) (q .black) → LinedAfter m q taken to r) ⌝ }
 {
-    let f = frame_for(side, q.white, q.black);
     let flip = f.flip;
     if (f.exchange != 0) | alike(m) {
         return no_line();

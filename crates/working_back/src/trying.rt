@@ -1,4 +1,4 @@
-// The positions before the moves of one piece, tried: a number is settled if it holds 1 and depth k is required of its position.
+// The positions before the moves of one piece, tried, k even: a number is settled if it holds 1 and depth k is required of its position.
 use super::lines::Line;
 use super::spared::Ground;
 use super::spared::find_saviour;
@@ -14,11 +14,11 @@ use retracting::place_before;
 use successors::requires_depth;
 use successors::spot;
 ghost use mathlib.Core.Path.{_≡_};
-ghost use Prim.Native.Nat.{_-_, _%_, _^_, _<_};
+ghost use Prim.Native.Nat.{_-_, _^_, _<_};
 ghost use lib.ListN.{length, getD};
 ghost use Rattle.numbering.specs.Number.{numberOf};
 ghost use Rattle.position.specs.Posed.{boardIn};
-ghost use Rattle.retracting.specs.Retracting.{LegalLeft, Leads, Retracts, Seat, placeBefore};
+ghost use Rattle.retracting.specs.Retracting.{LegalLeft, Leads, GoesBack, Retracts, Seat, placeBefore};
 ghost use Rattle.working_back.specs.Admitted.{Admitted};
 ghost use Rattle.working_back.specs.Back.{TriesPlace, TriesTo, Unsettled};
 ghost use Rattle.working_back.specs.Lines.{LinedBefore, LinedAfter};
@@ -49,42 +49,15 @@ pub fn confirm(
 }
 
 // The number of the position before a move from s.
-fn number_before(m: Men, q: Place, taken: u8, s: u8, to: u8, line: Line) -> usize
+pub fn number_before(m: Men, q: Place, taken: u8, s: u8, to: u8, line: Line) -> usize
     requires { ⌜ line .base < 2 ^ 48 ⌝ }
-    ensures { λ r. ⌜ (Leads m (placeBefore q taken s to) s to q → LinedBefore m q taken to line → r ≡ numberOf (boardIn m (placeBefore q taken s to))) ⌝ }
+    ensures { λ r. ⌜ (GoesBack m q taken s to → LinedBefore m q taken to line → r ≡ numberOf (boardIn m (placeBefore q taken s to))) ⌝ }
 {
     let plain = line.plain;
     if plain {
         return spot(line.base, line.flip, line.scale, s);
     }
     number_at(m, place_before(q, taken, s, to)) as usize
-}
-
-// Settles the number of the position before a move from s, if the table has it and it holds 1: it has a move to a loss in k - 1 and is won in k, odd;
-// 1 if it did, and else 0.
-fn win_number(
-    m: Men,
-    k: u8,
-    q: Place,
-    taken: u8,
-    s: u8,
-    to: u8,
-    n: usize,
-    first: &[u8],
-    second: &[u8],
-    table: &mut [u8],
-) -> u32
-    requires { ⌜ (k < 254) × (k % 2 ≡ 1) × Admitted m (now first) (now second) (now table) × Leads m (placeBefore q taken s to) s to q × (n ≡ numberOf (boardIn m (placeBefore q taken s to))) ⌝ }
-    ensures { λ r. ⌜ TriesPlace m (now (first .entry)) (now (second .entry)) k q (placeBefore q taken s to) (now (table .entry)) (now (table .exit)) r ⌝ }
-{
-    if table.len() <= n {
-        return 0;
-    }
-    if table[n] != 1 {
-        return 0;
-    }
-    table[n] = 2 + k;
-    1
 }
 
 // How many numbers were settled, 1 or 0, the squares from which nothing is settled besides, and the piece's squares that are known not to spare its side.
@@ -94,7 +67,8 @@ struct Told {
     seen: u64,
 }
 
-// The same for a loss. The piece's own other moves are read first: a square that spares its side does so from all squares that it is reached from.
+// Settles the number of the position before a move from s, if the table has it, it holds 1 and is lost in k. The piece's own other moves are read first:
+// a square that spares its side does so from all squares that it is reached from.
 fn lose_number(
     m: Men,
     k: u8,
@@ -144,34 +118,7 @@ fn lose_number(
     }
 }
 
-// From each of these squares, k odd.
-pub fn win_each(
-    m: Men,
-    k: u8,
-    q: Place,
-    taken: u8,
-    to: u8,
-    line: Line,
-    squares: u64,
-    first: &[u8],
-    second: &[u8],
-    table: &mut [u8],
-) -> u32
-    requires { ⌜ (k < 254) × (k % 2 ≡ 1) × Admitted m (now first) (now second) (now table) × Retracts m q taken to squares × LinedBefore m q taken to line ⌝ }
-    ensures { λ r. ⌜ TriesTo m (now (first .entry)) (now (second .entry)) k q to (now (table .entry)) (now (table .exit)) r ⌝ }
-{
-    let mut settled: u32 = 0;
-    let mut rest = squares;
-    while rest != 0 {
-        let s = lowest(rest);
-        let n = number_before(m, q, taken, s, to, line);
-        settled += win_number(m, k, q, taken, s, to, n, first, second, &mut *table);
-        rest = without(rest, s);
-    }
-    settled
-}
-
-// The same, k even.
+// From each of these squares, k even.
 pub fn lose_each(
     m: Men,
     k: u8,

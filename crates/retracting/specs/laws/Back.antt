@@ -30,6 +30,17 @@ module _ (from to s : ℕ) (n : s ≡ to → ⊥) where
       go true e = rw (ne-eqb to from (λ z. d (sym z)), eq-eqb to to refl) (sym (eqb-true s from e))
       go false e = rw (e, ne-eqb s to n)
 
+-- ---- who stays, and who goes
+
+pub king-stays : (from to s : ℕ) → (s ≡ from → ⊥) → carried from to s ≡ s
+king-stays from to s n = ap (λ (b : Bool). cond b to s) (ne-eqb s from n)
+
+pub man-stays : (from to s : ℕ) → (s ≡ to → ⊥) → (s ≡ from → ⊥) → squareAfter from to s ≡ s
+man-stays from to s a b = rw (ne-eqb s to a, ne-eqb s from b)
+
+pub man-goes : (from to s : ℕ) → (s ≡ to → ⊥) → s ≡ from → squareAfter from to s ≡ to
+man-goes from to s a b = rw (ne-eqb s to a, eq-eqb s from b)
+
 -- nobody stands on this square
 pub record Free (q : Place) (s : ℕ) : Type 0 where
   pub white : q .white ≡ s → ⊥

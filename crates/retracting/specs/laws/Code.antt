@@ -128,10 +128,10 @@ module _ (m : Men) (q : Place) (taken kind owner to : ℕ) (g : LegalLeft m q ta
       both : T (reaches (occupied (boardIn m q)) kind to s && not (occupied (boardIn m q) s))
       both = subst T (st .squares-all s h) t
 
-      reached : T (reaches (occupied (boardIn m q)) kind to s)
+      pub reached : T (reaches (occupied (boardIn m q)) kind to s)
       reached = and-left (reaches (occupied (boardIn m q)) kind to s) (not (occupied (boardIn m q) s)) both
 
-      unoccupied : occupied (boardIn m q) s ≡ false
+      pub unoccupied : occupied (boardIn m q) s ≡ false
       unoccupied = false-of (and-right (reaches (occupied (boardIn m q)) kind to s) (not (occupied (boardIn m q) s)) both)
 
       pub apart-there : CompleteApart m (placeBefore q taken s to)
@@ -139,6 +139,15 @@ module _ (m : Men) (q : Place) (taken kind owner to : ℕ) (g : LegalLeft m q ta
           let f = free-of m q s h unoccupied in
           complete-before to s (reaches-squares (occupied (boardIn m q)) kind to s reached .0) h
           (seat-free m q kind owner to s seat f) m q taken g f k
+
+    -- whatever it came from is among them
+    pub came-among : (o : Place) (s : ℕ) → Leads m o s to q → T (has squares s)
+    came-among o s l =
+        let h = can-on (boardIn m o) s to (l .can) .0 in
+        subst⁻¹ T (st .squares-all s h)
+        (and-both (reaches (occupied (boardIn m q)) kind to s) (not (occupied (boardIn m q) s))
+        (came m q o s to taken g l kind owner seat)
+        (subst⁻¹ (λ (b : Bool). T (not b)) (free-empty m q s h (was-free m q o s to taken g l)) tt))
 
     abbrev pub Sifted : ℕ → Type 0
     Sifted r = (s : ℕ) → s < 64 → has r s ≡ (has squares s && legal (boardIn m (placeBefore q taken s to)))
@@ -227,11 +236,7 @@ module _ (m : Men) (q : Place) (taken kind owner to : ℕ) (g : LegalLeft m q ta
           all o s l =
               let h = can-on (boardIn m o) s to (l .can) .0 in
               subst⁻¹ T (told s h)
-              (and-both (has squares s) (legal (boardIn m (placeBefore q taken s to)))
-              (subst⁻¹ T (st .squares-all s h)
-              (and-both (reaches (occupied (boardIn m q)) kind to s) (not (occupied (boardIn m q) s))
-              (came m q o s to taken g l kind owner seat)
-              (subst⁻¹ (λ (b : Bool). T (not b)) (free-empty m q s h (was-free m q o s to taken g l)) tt)))
+              (and-both (has squares s) (legal (boardIn m (placeBefore q taken s to))) (came-among o s l)
               (subst (λ (p : Place). T (legal (boardIn m p))) (put-back m q o s to taken g l) (l .legality)))
 
 -- ---- the squares between a man and the king, of these

@@ -5,8 +5,8 @@ use mathlib.Core.Bool.{Bool, true, false, cond, not, _&&_, _||_, or-true, or-fal
 use mathlib.Core.Logic.{_⊎_, inl, inr, ⊎-elim}
 use Prim.Native.Nat.{ℕ, zero, suc, _-_, _<_}
 use native.Mathlib.Omega.{arith}
-use lib.Dec.{T, eqb, eqb→eq}
-use borrow.Author.Tests.{eq-eqb, ne-eqb, eqb-false}
+use lib.Dec.{T, leb, eqb, eqb→eq}
+use borrow.Author.Tests.{lt-leb, leb-false, eq-eqb, ne-eqb, eqb-false}
 use Rattle.finite.specs.Truth.{decided, true-of, false-of, fails, refuted}
 use Rattle.board.specs.Reach.{reaches}
 use Rattle.board.specs.laws.ReachLaws.{reaches-squares, king-reaches}
@@ -16,12 +16,13 @@ use Rattle.position.specs.declared.Men.{Men}
 use Rattle.position.specs.declared.Place.{Place}
 use Rattle.position.specs.Keyed.{boardOf}
 use Rattle.position.specs.Posed.{posed, boardIn}
-use Rattle.movegen.specs.Places.{menStrike, squareAfter, placeAfter}
+use Rattle.index.specs.laws.SeatLaws.{known-one, known-two}
+use Rattle.movegen.specs.Places.{menStrike, placeAfter}
 use Rattle.rules.specs.laws.Legal.{legal-facts}
 use Rattle.movegen.specs.laws.Places.{occupied-men}
 use Rattle.movegen.specs.laws.Lines.{line-cut, line-own, reaches-met}
 use Rattle.retracting.specs.Retracting.{Missing, LegalLeft, Seat, loser, putAgain, placeBefore, CompleteApart, othersStrike}
-use Rattle.retracting.specs.laws.Back.{Free, free-after, occupied-before}
+use Rattle.retracting.specs.laws.Back.{Free, man-stays, man-goes, free-after, occupied-before}
 use Rattle.retracting.specs.laws.Sources.{free-empty, seat-free, side-before}
 use Rattle.retracting.specs.laws.Checks.{quiet-man, legal-men, legal-kings}
 
@@ -50,14 +51,6 @@ still-king q to s side k e n = go (eqb side 0) e
     go true e = rw (ne-eqb (q .white) to (λ z. n (e ∙ z))) (sym e)
     go false e = rw (ne-eqb (q .black) to (λ z. n (e ∙ z))) (sym e)
 
--- a man who stays, and the one who goes back
-stays : (to s a : ℕ) → (a ≡ s → ⊥) → (a ≡ to → ⊥) → squareAfter to s a ≡ a
-stays to s a n d = rw (ne-eqb a s n, ne-eqb a to d)
-
-goes-back : (to s : ℕ) → (to ≡ s → ⊥) → squareAfter to s to ≡ s
-goes-back to s d = rw (ne-eqb to s d, eq-eqb to to refl)
-
--- where a man stands before the move, and that he does not strike, or does as the piece that moved does
 -- a piece's square is occupied
 seat-there : (m : Men) (q : Place) (kind owner to : ℕ) → to < 64 → Seat m q kind owner to → occupied (boardIn m q) to ≡ true
 seat-there m q kind owner to h seat = occupied-men m q to h ∙ go kind owner to seat
@@ -131,9 +124,6 @@ module _ (m : Men) (q : Place) (taken : ℕ) (w : LegalLeft m q taken) (kind own
   ls : s < 64
   ls = reaches-squares (occupied (boardIn m q)) kind to s h .1
 
-  differ : to ≡ s → ⊥
-  differ = seat-free m q kind owner to s seat f
-
   king-off : k ≡ to → ⊥
   king-off z = off m q taken w kind owner to (q .side) seat (w .side) mover (sym ek ∙ z)
 
@@ -175,17 +165,17 @@ module _ (m : Men) (q : Place) (taken : ℕ) (w : LegalLeft m q taken) (kind own
   first-goes e = go taken (w .missing)
     where
       go : (i : ℕ) → Missing m q i → placeBefore q i s to .first ≡ s
-      go i (Missing.nobody a b) = ap (squareAfter to s) e ∙ goes-back to s differ
+      go i (Missing.nobody a b) = man-goes to s (q .first) (f .first) e
       go i (Missing.first a b c) = absurd (omega (arith, a, e, lt))
-      go i (Missing.second a b c) = ap (squareAfter to s) e ∙ goes-back to s differ
+      go i (Missing.second a b c) = man-goes to s (q .first) (f .first) e
 
   second-goes : q .second ≡ to → o .second ≡ s
   unfolding putAgain placeAfter
   second-goes e = go taken (w .missing)
     where
       go : (i : ℕ) → Missing m q i → placeBefore q i s to .second ≡ s
-      go i (Missing.nobody a b) = ap (squareAfter to s) e ∙ goes-back to s differ
-      go i (Missing.first a b c) = ap (squareAfter to s) e ∙ goes-back to s differ
+      go i (Missing.nobody a b) = man-goes to s (q .second) (f .second) e
+      go i (Missing.first a b c) = man-goes to s (q .second) (f .second) e
       go i (Missing.second a b c) = absurd (omega (arith, b, e, lt))
 
   kings-there : (o .white ≡ carried to s (q .white)) × (o .black ≡ carried to s (q .black))
@@ -224,6 +214,41 @@ module _ (m : Men) (q : Place) (taken : ℕ) (w : LegalLeft m q taken) (kind own
   foe-king (suc zero) h e = ((λ z. e), λ z. absurd (omega arith))
   foe-king (suc (suc n)) h e = absurd (omega arith)
 
+  -- no man is a king
+  first-small : m .first < 4
+  first-small = go (leb 4 (m .second)) refl
+    where
+      go : (b : Bool) → leb 4 (m .second) ≡ b → m .first < 4
+      go true e = known-one m (w .ending) e .0
+      go false e = let x = known-two m (w .ending) e in omega (arith, x .0, x .1)
+
+  second-small : q .second ≡ to → m .second < 4
+  second-small e = go (w .missing)
+    where
+      go : {i : ℕ} → Missing m q i → m .second < 4
+      go (Missing.nobody a b) = leb-false 4 (m .second) (sym b ∙ lt-leb 64 (q .second) (omega (arith, e, lt)))
+      go (Missing.first a b c) = c
+      go (Missing.second a b c) = c
+
+  -- the kings touch before a king's move where he stood next to the other, and before a man's they do not
+  pub king-touches : kind ≡ 5 → touching (boardIn m o) ≡ reaches stood 5 k s
+  king-touches e = go kind owner to seat refl refl refl
+    where
+      go : (i j t : ℕ) → Seat m q i j t → i ≡ kind → j ≡ owner → t ≡ to → touching (boardIn m o) ≡ reaches stood 5 k s
+      go i j t Seat.white ei ej et = white-near et (sym (foe-king (q .side) (w .side) ek .0 (ej ∙ mover)))
+      go i j t Seat.black ei ej et = black-near et (sym (foe-king (q .side) (w .side) ek .1 (ej ∙ mover)))
+      go i j t Seat.first ei ej et = absurd (omega (arith, first-small, ei, e))
+      go i j t Seat.second ei ej et = absurd (omega (arith, second-small et, ei, e))
+
+  pub man-touches : (kind ≡ 5 → ⊥) → touching (boardIn m o) ≡ false
+  man-touches n = go kind owner to seat refl refl
+    where
+      go : (i j t : ℕ) → Seat m q i j t → i ≡ kind → t ≡ to → touching (boardIn m o) ≡ false
+      go i j t Seat.white ei et = absurd (n (sym ei))
+      go i j t Seat.black ei et = absurd (n (sym ei))
+      go i j t Seat.first ei et = men-apart (λ z. w .white-first (z ∙ sym et)) (λ z. w .black-first (z ∙ sym et))
+      go i j t Seat.second ei et = men-apart (λ z. w .white-second (z ∙ sym et)) (λ z. w .black-second (z ∙ sym et))
+
   -- ---- another man strikes, and the piece does not stand between
 
   strikes-on : (j a : ℕ) → T (reaches stood j a k) → (T (reaches stood j a s) → T (reaches stood j k s) → ⊥) → T (reaches occ j a k)
@@ -245,9 +270,9 @@ module _ (m : Men) (q : Place) (taken : ℕ) (w : LegalLeft m q taken) (kind own
       struck (strike-by (q .first) (o .second) (there taken (w .missing)) refl ∙ rw (eq-eqb 0 (1 - q .side) e, y))
     where
       there : (i : ℕ) → Missing m q i → placeBefore q i s to .first ≡ q .first
-      there i (Missing.nobody a b) = stays to s (q .first) (f .first) n
+      there i (Missing.nobody a b) = man-stays to s (q .first) (f .first) n
       there i (Missing.first a b c) = let x = reaches-squares stood (m .first) (q .first) k r .0 in absurd (omega (arith, a, x))
-      there i (Missing.second a b c) = stays to s (q .first) (f .first) n
+      there i (Missing.second a b c) = man-stays to s (q .first) (f .first) n
 
   pub second-strikes : m .colour ≡ 1 - q .side → (q .second ≡ to → ⊥) → T (reaches stood (m .second) (q .second) k)
       → (T (reaches stood (m .second) (q .second) s) → T (reaches stood (m .second) k s) → ⊥) → CompleteApart m o → legal (boardIn m o) ≡ false
@@ -258,8 +283,8 @@ module _ (m : Men) (q : Place) (taken : ℕ) (w : LegalLeft m q taken) (kind own
       ∙ rw (eq-eqb (m .colour) (1 - q .side) e, y) (or-true (eqb 0 (1 - q .side) && reaches occ (m .first) (o .first) k)))
     where
       there : (i : ℕ) → Missing m q i → placeBefore q i s to .second ≡ q .second
-      there i (Missing.nobody a b) = stays to s (q .second) (f .second) n
-      there i (Missing.first a b c) = stays to s (q .second) (f .second) n
+      there i (Missing.nobody a b) = man-stays to s (q .second) (f .second) n
+      there i (Missing.first a b c) = man-stays to s (q .second) (f .second) n
       there i (Missing.second a b c) = let x = reaches-squares stood (m .second) (q .second) k r .0 in absurd (omega (arith, b, x))
 
   -- ---- no other man strikes
@@ -279,11 +304,11 @@ module _ (m : Men) (q : Place) (taken : ℕ) (w : LegalLeft m q taken) (kind own
       where
         go : (i : ℕ) → Missing m q i → i ≡ taken → (x : ℕ) × First x
         go i (Missing.nobody a b) e =
-            (q .first, (subst (λ (i : ℕ). placeBefore q i s to .first ≡ q .first) e (stays to s (q .first) (f .first) n), other 0 (m .first) (q .first) n (quiet .0)))
+            (q .first, (subst (λ (i : ℕ). placeBefore q i s to .first ≡ q .first) e (man-stays to s (q .first) (f .first) n), other 0 (m .first) (q .first) n (quiet .0)))
         go i (Missing.first a b c) e =
             (to, (subst (λ (i : ℕ). placeBefore q i s to .first ≡ to) e refl, victim 0 (m .first) to (subst (λ (i : ℕ). (i ≡ 0 → ⊥) → loser m i ≡ q .side) (sym e) lost (λ z. omega (arith, z)))))
         go i (Missing.second a b c) e =
-            (q .first, (subst (λ (i : ℕ). placeBefore q i s to .first ≡ q .first) e (stays to s (q .first) (f .first) n), other 0 (m .first) (q .first) n (quiet .0)))
+            (q .first, (subst (λ (i : ℕ). placeBefore q i s to .first ≡ q .first) e (man-stays to s (q .first) (f .first) n), other 0 (m .first) (q .first) n (quiet .0)))
 
     abbrev Second : ℕ → Type 0
     Second y = (o .second ≡ y) × ((eqb (m .colour) (1 - q .side) && reaches occ (m .second) y k) ≡ false)
@@ -294,9 +319,9 @@ module _ (m : Men) (q : Place) (taken : ℕ) (w : LegalLeft m q taken) (kind own
       where
         go : (i : ℕ) → Missing m q i → i ≡ taken → (y : ℕ) × Second y
         go i (Missing.nobody a b) e =
-            (q .second, (subst (λ (i : ℕ). placeBefore q i s to .second ≡ q .second) e (stays to s (q .second) (f .second) n), other (m .colour) (m .second) (q .second) n (quiet .1)))
+            (q .second, (subst (λ (i : ℕ). placeBefore q i s to .second ≡ q .second) e (man-stays to s (q .second) (f .second) n), other (m .colour) (m .second) (q .second) n (quiet .1)))
         go i (Missing.first a b c) e =
-            (q .second, (subst (λ (i : ℕ). placeBefore q i s to .second ≡ q .second) e (stays to s (q .second) (f .second) n), other (m .colour) (m .second) (q .second) n (quiet .1)))
+            (q .second, (subst (λ (i : ℕ). placeBefore q i s to .second ≡ q .second) e (man-stays to s (q .second) (f .second) n), other (m .colour) (m .second) (q .second) n (quiet .1)))
         go i (Missing.second a b c) e =
             (to, (subst (λ (i : ℕ). placeBefore q i s to .second ≡ to) e refl, victim (m .colour) (m .second) to (subst (λ (i : ℕ). (i ≡ 0 → ⊥) → loser m i ≡ q .side) (sym e) lost (λ z. omega (arith, z)))))
 

@@ -25,11 +25,9 @@ use Rattle.numbering.specs.Kings.{separate}
 use Rattle.numbering.specs.Number.{numberOf}
 use Rattle.position.specs.declared.Men.{Men}
 use Rattle.position.specs.declared.Place.{Place}
-use Rattle.position.specs.Keyed.{boardOf}
-use Rattle.position.specs.Posed.{posed, boardIn, Complete}
+use Rattle.position.specs.Posed.{boardIn, Complete}
 use Rattle.position.specs.laws.PosedLaws.{complete-spread}
 use Rattle.index.specs.Seats.{Seated}
-use Rattle.index.specs.laws.CompleteLaws.{complete-seated, complete-has}
 use Rattle.movegen.specs.declared.Reach.{Reach}
 use Rattle.movegen.specs.Places.{squareAfter, placeAfter}
 use Rattle.movegen.specs.laws.Places.{place-moved}
@@ -40,14 +38,16 @@ use Rattle.successors.specs.laws.ByteLaws.{all-there, own-seated, byte-own, byt
 use Rattle.successors.specs.laws.KingKeys.{moved-separate}
 use Rattle.successors.specs.laws.ChoiceLaws.{suitsTo, suitingSet, zero-fails}
 use Rattle.successors.specs.laws.VerdictLaws.{depth-refuted, depth-told}
-use Rattle.retracting.specs.Retracting.{Leads, placeBefore}
+use Rattle.retracting.specs.Retracting.{Leads, GoesBack, placeBefore}
 use Rattle.retracting.specs.laws.Causes.{place-eq}
+use Rattle.retracting.specs.laws.Stepping.{leads-goes}
 use Rattle.working_back.specs.Admitted.{over, Admitted}
 use Rattle.working_back.specs.Trying.{Midway}
 use Rattle.working_back.specs.Back.{Few, Ripe, TriesPlace}
 use Rattle.working_back.specs.laws.Trying.{settling}
 use Rattle.working_back.specs.laws.Places.{tried-lost, tried-kept}
 use Rattle.working_back.specs.Bare.{bareOn, Bare, struckBy, byteOn, Knows, QuietLoss}
+use Rattle.working_back.specs.laws.Numbers.{number-as}
 use Rattle.working_back.specs.laws.BareMoves.{place-is, complete, only-king, goals-are}
 
 even-draw : (k : ℕ) → k % 2 ≡ 0 → refutes (2 + k) 1 ≡ true
@@ -155,14 +155,11 @@ module _ (m : Men) (q : Place) (taken to white x y : ℕ) (v : Bare m q taken to
 -- ---- as code has them
 
 -- his number before the move
-pub bare-at : (m : Men) (q : Place) (taken to white x y : ℕ) → Bare m q taken to white x y → (s : ℕ)
-    → Leads m (placeBefore q taken s to) s to q → (n : ℕ)
+pub bare-at : (m : Men) (q : Place) (taken to white x y : ℕ) → Bare m q taken to white x y → (s : ℕ) → GoesBack m q taken s to → (n : ℕ)
     → (Seated m (bareOn 1 white s x y) → T (separate white s) → n ≡ numberOf (boardIn m (bareOn 1 white s x y)))
     → n ≡ numberOf (boardIn m (placeBefore q taken s to))
-bare-at m q taken to white x y v s l n f =
-    let w = complete m q taken to white x y v s l in
-    f (complete-seated m (bareOn 1 white s x y) w) (unfold boardOf posed in complete-has m (bareOn 1 white s x y) w .kings)
-    ∙ ap (λ (o : Place). numberOf (boardIn m o)) (sym (place-is m q taken to white x y v s l))
+bare-at m q taken to white x y v s b n f =
+    number-as m (placeBefore q taken s to) (b .complete) (bareOn 1 white s x y) (place-is m q taken to white x y v s b) n f
 
 even-deep : (k : ℕ) → 0 < k → k % 2 ≡ 0 → refutes (2 + k) (1 + k) ≡ false
 unfolding refutes spoils winning
@@ -190,7 +187,7 @@ module _ (m : Men) (q : Place) (taken to white x y : ℕ) (v : Bare m q taken to
     (eh : (t : ℕ) → t < 64 → has shut t ≡ (struckBy m white x y t || eqb t to))
     (eg : goals ≡ setOf (λ (u : ℕ). has steps u && not (has shut u))) where
   same : placeBefore q taken s to ≡ bareOn 1 white s x y
-  same = place-is m q taken to white x y v s l
+  same = place-is m q taken to white x y v s (leads-goes m q taken s to (v .legal) l)
 
   pub goals-hold : (t : ℕ) → t < 64 → has goals t ≡ (canMove (boardIn m (bareOn 1 white s x y)) s t && not (eqb t to))
   goals-hold = goals-are m q taken to white x y v s l steps shut goals es eh eg

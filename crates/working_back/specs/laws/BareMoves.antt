@@ -1,19 +1,19 @@
 -- A black king without men: from each square he goes to those next to it that White's pieces, who stand still, do not attack; nothing else moves.
 use mathlib.Core.Path.{_≡_, refl, sym, ap, ap₂, subst, subst⁻¹, _∙_}
-use mathlib.Core.Bool.{Bool, true, false, cond, not, _&&_, _||_}
+use mathlib.Core.Bool.{Bool, true, false, not, _&&_, _||_}
 use mathlib.Core.Logic.{_⊎_, inl, inr}
 use Prim.Native.Nat.{ℕ, _-_, _<_}
 use native.Mathlib.Omega.{arith}
 use lib.Bits.{bitOr}
 use lib.Dec.{T, eqb}
-use borrow.Author.Tests.{eq-eqb, ne-eqb, eqb-true}
+use borrow.Author.Tests.{ne-eqb, eqb-true}
 use Rattle.finite.specs.Truth.{refuted}
 use Rattle.board.specs.Reach.{reaches}
 use Rattle.board.specs.Sets.{has, setOf}
 use Rattle.board.specs.laws.ReachLaws.{reaches-same, king-reaches}
 use Rattle.board.specs.laws.Blocking.{reaches-own}
 use Rattle.board.specs.laws.SetLaws.{has-none, set-is, set-has, has-or}
-use Rattle.rules.specs.Rules.{Board, occupied, king, stands, goes, carried, canMove}
+use Rattle.rules.specs.Rules.{Board, occupied, king, stands, goes, canMove}
 use Rattle.rules.specs.laws.CanMove.{can-on}
 use Rattle.position.specs.declared.Men.{Men}
 use Rattle.position.specs.declared.Place.{Place}
@@ -22,7 +22,6 @@ use Rattle.position.specs.Over.{attackedOver, goesOver, lifted}
 use Rattle.position.specs.Posed.{posed, boardIn, Complete}
 use Rattle.position.specs.Spread.{Spread}
 use Rattle.position.specs.laws.PosedLaws.{complete-spread}
-use Rattle.movegen.specs.Places.{squareAfter, placeAfter}
 use Rattle.movegen.specs.Reach.{Alone}
 use Rattle.movegen.specs.laws.Places.{occupied-men, stands-men}
 use Rattle.movegen.specs.laws.Alone.{king-alone, first-man, second-man}
@@ -30,10 +29,11 @@ use Rattle.movegen.specs.laws.Lifted.{king-moves}
 use Rattle.movegen.specs.laws.Struck.{attacked-split}
 use Rattle.successors.specs.Successors.{kingAt}
 use Rattle.successors.specs.laws.PlaceLaws.{starts}
-use Rattle.retracting.specs.Retracting.{Leads, putAgain, placeBefore}
-use Rattle.retracting.specs.laws.Causes.{place-eq}
-use Rattle.retracting.specs.laws.Sources.{was-free}
+use Rattle.retracting.specs.Retracting.{Leads, GoesBack, placeBefore}
+use Rattle.retracting.specs.laws.Sources.{free-of}
+use Rattle.retracting.specs.laws.Stepping.{leads-goes}
 use Rattle.working_back.specs.Bare.{bareOn, Bare, stoodOn, struckBy}
+use Rattle.working_back.specs.laws.KingBack.{king-back}
 
 -- a man of the other side, or one who is not there
 man-none : (m : Men) (q : Place) (kind owner square : ℕ) → Alone m q kind owner square
@@ -69,30 +69,21 @@ struck-is m white x y to i j k stood near far out ei ej ek es en a c ea ec ef eo
         ap (λ (z : ℕ). has z u) es ∙ has-or i (bitOr j k) u
         ∙ ap₂ _||_ (set-has _ ei u g) (has-or j k u ∙ ap₂ _||_ (set-has _ ej u g) (set-has _ ek u g))
 
+-- the place before his move, by its squares
+pub place-is : (m : Men) (q : Place) (taken to white x y : ℕ) → Bare m q taken to white x y → (s : ℕ) → GoesBack m q taken s to
+    → placeBefore q taken s to ≡ bareOn 1 white s x y
+place-is m q taken to white x y v s b =
+    let h = v .side in
+    king-back m q taken to s (v .legal) (free-of m q s (b .square) (b .free)) x y (v .at-first) (v .at-second) 1 (omega arith) (v .king)
+    ∙ ap (λ (w : ℕ). bareOn 1 w s x y) (sym (v .at-white))
+
 module _ (m : Men) (q : Place) (taken to white x y : ℕ) (v : Bare m q taken to white x y) (s : ℕ)
     (l : Leads m (placeBefore q taken s to) s to q) where
-  abbrev pub p : Place
+  abbrev p : Place
   p = bareOn 1 white s x y
 
-  king-stays : (w : ℕ) → (w ≡ to → ⊥) → carried to s w ≡ w
-  king-stays w n = ap (λ (b : Bool). cond b s w) (ne-eqb w to n)
-
-  man-stays : (u : ℕ) → (u ≡ s → ⊥) → (u ≡ to → ⊥) → squareAfter to s u ≡ u
-  man-stays u a b = rw (ne-eqb u s a, ne-eqb u to b)
-
-  -- the place before his move, by its squares
-  pub place-is : placeBefore q taken s to ≡ p
-  unfolding placeAfter putAgain
-  place-is =
-      let g = v .legal in
-      let w = was-free m q (placeBefore q taken s to) s to taken g l in
-      place-eq (ap (λ (z : ℕ). 1 - z) (v .side)) (king-stays (q .white) (λ e. g .white-black (e ∙ v .king)) ∙ sym (v .at-white))
-      (ap (λ (b : Bool). cond b s (q .black)) (eq-eqb (q .black) to (sym (v .king))))
-      (ap (cond (eqb taken 1) to) (man-stays (q .first) (w .first) (λ e. g .black-first (sym (e ∙ v .king)))) ∙ sym (v .at-first))
-      (ap (cond (eqb taken 2) to) (man-stays (q .second) (w .second) (λ e. g .black-second (sym (e ∙ v .king)))) ∙ sym (v .at-second))
-
   pub complete : Complete m p
-  complete = subst (Complete m) place-is (l .complete)
+  complete = subst (Complete m) (place-is m q taken to white x y v s (leads-goes m q taken s to (v .legal) l)) (l .complete)
 
   spread : Spread m p
   spread = complete-spread complete
@@ -107,9 +98,6 @@ module _ (m : Men) (q : Place) (taken to white x y : ℕ) (v : Bare m q taken to
   white-is : king b 0 ≡ white
   unfolding boardOf posed
   white-is = refl
-
-  pub on : s < 64
-  on = spread .black
 
   -- what stands there with him lifted
   stood : (u : ℕ) → u < 64 → lifted (occupied b) s u ≡ stoodOn white x y u

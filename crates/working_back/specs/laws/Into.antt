@@ -1,15 +1,16 @@
 -- The three pieces that may have moved into a position.
-use Rattle.finite.specs.Truth.{of-true, and-left, and-right}
+use Rattle.finite.specs.Truth.{of-true, and-left, and-right, or-cases}
 use mathlib.Core.Path.{_≡_, refl, sym, ap, subst, subst⁻¹, _∙_}
-use mathlib.Core.Bool.{Bool, true, false, cond, _&&_}
+use mathlib.Core.Bool.{Bool, true, false, cond, _&&_, _||_}
 use mathlib.Core.Logic.{_⊎_, inl, inr, ⊎-elim}
 use mathlib.Core.List.{List}
-use Prim.Native.Nat.{ℕ, zero, suc, _+_, _-_, _<_}
+use Prim.Native.Nat.{ℕ, zero, suc, _+_, _-_, _<_, _≤_}
 use native.Mathlib.Omega.{arith}
-use lib.Dec.{eqb, eqb→eq}
-use borrow.Author.Tests.{eq-eqb, ne-eqb}
+use lib.Dec.{leb, eqb, eqb→eq, leb→le}
+use borrow.Author.Tests.{eq-eqb, ne-eqb, eqb-false}
 use Rattle.rules.specs.Rules.{carried}
 use Rattle.rules.specs.Chess.{chess}
+use Rattle.rules.specs.laws.CanMove.{can-on}
 use Rattle.numbering.specs.Number.{numberOf}
 use Rattle.position.specs.declared.Men.{Men}
 use Rattle.position.specs.declared.Place.{Place}
@@ -20,7 +21,8 @@ use Rattle.successors.specs.Successors.{kingAt}
 use Rattle.successors.specs.laws.PlaceLaws.{starts}
 use Rattle.retracting.specs.Retracting.{Leads, LegalLeft, Seat}
 use Rattle.retracting.specs.laws.Sources.{moves-on}
-use Rattle.retracting.specs.laws.Code.{no-source}
+use Rattle.retracting.specs.laws.Code.{no-source, mover}
+use Rattle.retracting.specs.laws.Unchecked.{or-none}
 use Rattle.working_back.specs.Admitted.{over, Admitted}
 use Rattle.working_back.specs.Back.{TriesTo, TriesInto}
 use Rattle.working_back.specs.laws.Admitted.{sized, admitted-kept}
@@ -40,19 +42,18 @@ king-went o from to h e = by (o .side) h e
     by (suc (suc s)) h e = absurd (omega arith)
 
 -- what code asks of a king without men
-pub bare-told : (a b c : ℕ) → (eqb a 0 && (eqb b 0 && eqb c 0)) ≡ true → (a ≡ 0) × (b ≡ 0) × (c ≡ 0)
-bare-told a b c e =
+pub bare-told : (a b : ℕ) → (eqb a 0 && eqb b 0) ≡ true → (a ≡ 0) × (b ≡ 0)
+bare-told a b e =
     let f = of-true e in
-    let g = and-right (eqb a 0) (eqb b 0 && eqb c 0) f in (
-      eqb→eq a 0 (and-left (eqb a 0) (eqb b 0 && eqb c 0) f),
-      eqb→eq b 0 (and-left (eqb b 0) (eqb c 0) g),
-      eqb→eq c 0 (and-right (eqb b 0) (eqb c 0) g),
-    )
+    (eqb→eq a 0 (and-left (eqb a 0) (eqb b 0) f), eqb→eq b 0 (and-right (eqb a 0) (eqb b 0) f))
 
 -- with White to move the king who moved is Black's
 pub black-king : (q : Place) → q .side ≡ 0 → (mover to : ℕ) → mover ≡ 1 - q .side → to ≡ cond (eqb mover 0) (q .white) (q .black) → to ≡ q .black
 black-king q e mover to f g =
     g ∙ ap (λ (b : Bool). cond b (q .white) (q .black)) (ne-eqb mover 0 (λ z. omega (arith, e, f, z)))
+
+pub bare-seat : (m : Men) (q : Place) → q .side ≡ 0 → Seat m q 5 (1 - q .side) (q .black)
+bare-seat m q e = subst (λ (o : ℕ). Seat m q 5 o (q .black)) (omega arith) Seat.black
 
 module _ (m : Men) (q : Place) (taken : ℕ) (w : LegalLeft m q taken) where
   -- where a move into q went
@@ -122,20 +123,34 @@ module _ (m : Men) (q : Place) (taken : ℕ) (w : LegalLeft m q taken) where
     own-none : (kind owner to : ℕ) → Seat m q kind owner to → owner ≡ q .side → TriesTo m first second k q to u u 0
     own-none kind owner to seat e =
         taken-end m first second k q taken to u a 0 u 0 0 refl (taken-start m first second k q taken to u a 0)
-        (no-source m q taken kind owner to w seat e)
+        (no-source m q taken kind owner to w seat e .all)
+
+    -- nor has one who is not on the board
+    off-none : (to : ℕ) → 64 ≤ to → TriesTo m first second k q to u u 0
+    off-none to h =
+        taken-end m first second k q taken to u a 0 u 0 0 refl (taken-start m first second k q taken to u a 0)
+        (λ o from l. let x = can-on (boardIn m o) from to (l .can) .1 in absurd (omega (arith, x, h)))
+
+    pub man-none : (kind owner s to : ℕ) → Seat m q kind owner s → s ≡ to → (eqb owner (q .side) || leb 64 s) ≡ true → TriesTo m first second k q to u u 0
+    man-none kind owner s to seat z e = tries-at u s to 0 z
+        (⊎-elim (λ x. own-none kind owner s seat (eqb→eq owner (q .side) x)) (λ x. off-none s (leb→le 64 s x))
+        (or-cases (eqb owner (q .side)) (leb 64 s) (of-true e)))
+
+    -- one who moved is the other side's
+    pub man-moved : (kind owner s : ℕ) → Seat m q kind owner s → (eqb owner (q .side) || leb 64 s) ≡ false → Seat m q kind (1 - q .side) s
+    man-moved kind owner s seat e =
+        subst (λ (o : ℕ). Seat m q kind o s) (mover m q taken kind owner s w seat (eqb-false owner (q .side) (or-none (eqb owner (q .side)) (leb 64 s) e .0))) seat
 
 -- Black has no men: his king alone
 pub into-king : (m : Men) (q : Place) (taken : ℕ) → LegalLeft m q taken → (first second : List ℕ) (k : ℕ) (u : List ℕ) → Admitted m first second u
     → (v : List ℕ) (did : ℕ) → (eqb (q .side) 0 && eqb (m .colour) 0) ≡ true
     → TriesTo m first second k q (cond (eqb (1 - q .side) 0) (q .white) (q .black)) u v did → TriesInto m first second k q u v did
 into-king m q taken w first second k u a v did e f =
-    let x = of-true e in
-    let s = eqb→eq (q .side) 0 (and-left (eqb (q .side) 0) (eqb (m .colour) 0) x) in
-    let c = eqb→eq (m .colour) 0 (and-right (eqb (q .side) 0) (eqb (m .colour) 0) x) in
+    let x = bare-told (q .side) (m .colour) e in
     let b = admitted-kept m first second u a v (f .0 .long) in
     subst (TriesInto m first second k q u v) (none did)
-    (into-all m q taken w first second k u a v v v did 0 0 f (own-none m q taken w first second k v b (m .first) 0 (q .first) Seat.first (sym s))
-    (own-none m q taken w first second k v b (m .second) (m .colour) (q .second) Seat.second (c ∙ sym s)))
+    (into-all m q taken w first second k u a v v v did 0 0 f (own-none m q taken w first second k v b (m .first) 0 (q .first) Seat.first (sym (x .0)))
+    (own-none m q taken w first second k v b (m .second) (m .colour) (q .second) Seat.second (x .1 ∙ sym (x .0))))
   where
     none : (i : ℕ) → i + 0 + 0 ≡ i
     none i = omega arith

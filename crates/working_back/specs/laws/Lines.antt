@@ -6,11 +6,10 @@ use Prim.Native.Nat.{ℕ, _+_, _-_, _*_, _/_, _^_, _<_, _≤_}
 use native.Mathlib.Omega.{arith}
 use lib.Bits.{bitXor}
 use lib.Dec.{T, leb, ltb, eqb, leb→le}
-use borrow.Author.Tests.{le-leb, lt-leb, eq-eqb, ne-eqb, eqb-true, eqb-false}
+use borrow.Author.Tests.{le-leb, lt-leb, eqb-true, eqb-false}
 use Rattle.finite.specs.Truth.{decided, le-or-lt, true-of, false-of, true-not-false}
 use Rattle.board.specs.laws.ReachLaws.{reaches-squares}
-use Rattle.rules.specs.Rules.{occupied, carried}
-use Rattle.rules.specs.laws.CanMove.{can-on}
+use Rattle.rules.specs.Rules.{occupied, legal}
 use Rattle.numbering.specs.Number.{numberOf}
 use Rattle.position.specs.declared.Men.{Men}
 use Rattle.position.specs.declared.Place.{Place}
@@ -24,9 +23,10 @@ use Rattle.movegen.specs.Places.{squareAfter, placeAfter}
 use Rattle.successors.specs.declared.Frame.{Frame}
 use Rattle.successors.specs.Framing.{frameFor, chosenDigits, numberOn}
 use Rattle.successors.specs.laws.FramingLaws.{number-framed, number-single, number-double, chosen-plain}
-use Rattle.retracting.specs.Retracting.{Leads, LegalLeft, Missing, Seat, putAgain, placeBefore}
-use Rattle.retracting.specs.laws.Back.{Free}
-use Rattle.retracting.specs.laws.Sources.{was-free, free-of, seat-free}
+use Rattle.retracting.specs.Retracting.{GoesBack, LegalLeft, Missing, Seat, putAgain, placeBefore}
+use Rattle.retracting.specs.laws.Back.{Free, king-stays, man-stays, man-goes}
+use Rattle.retracting.specs.laws.Sources.{free-of}
+use Rattle.retracting.specs.laws.Stepping.{leads-goes}
 use Rattle.working_back.specs.declared.lines.Line.{Line}
 use Rattle.working_back.specs.Lines.{baseOf, scaleOf, LinedBefore, LinedAfter}
 use Rattle.working_back.specs.Spared.{Quietly}
@@ -149,86 +149,61 @@ module _ (m : Men) (q : Place) (taken to s : ℕ) (g : LegalLeft m q taken) (on 
         go (inl h) = let y = le-leb 4 (m .second) h in at 1 (hs ∙ rw y) (line-one h w base (hb ∙ rw y))
         go (inr h) = two h (decided (eqb (q .first) to))
 
-module _ (m : Men) (q : Place) (taken to s : ℕ) (g : LegalLeft m q taken) (l : Leads m (placeBefore q taken s to) s to q) where
+module _ (m : Men) (q : Place) (taken to s : ℕ) (g : LegalLeft m q taken) (v : GoesBack m q taken s to) where
   abbrev o : Place
   o = placeBefore q taken s to
 
-  on-board : to < 64
-  on-board = can-on (boardIn m o) s to (l .can) .1
-
-  king-stays : (w : ℕ) → (w ≡ to → ⊥) → carried to s w ≡ w
-  king-stays w n = ap (λ (b : Bool). cond b s w) (ne-eqb w to n)
-
-  man-stays : (x : ℕ) → (x ≡ s → ⊥) → (x ≡ to → ⊥) → squareAfter to s x ≡ x
-  man-stays x a b = rw (ne-eqb x s a, ne-eqb x to b)
-
-  man-goes : (x : ℕ) → (x ≡ s → ⊥) → x ≡ to → squareAfter to s x ≡ s
-  man-goes x a b = rw (ne-eqb x s a, eq-eqb x to b)
+  was : Free q s
+  was = free-of m q s (v .square) (v .free)
 
   -- who is missing does not stand on the target
   missed : (i : ℕ) → Missing m q i → (to ≡ q .first → eqb i 1 ≡ false) × (to ≡ q .second → eqb i 2 ≡ false)
   missed i (Missing.nobody a b) = (λ e. refl, λ e. refl)
-  missed i (Missing.first a b c) = (λ e. absurd (omega (arith, a, e, on-board)), λ e. refl)
-  missed i (Missing.second a b c) = (λ e. refl, λ e. absurd (omega (arith, b, e, on-board)))
+  missed i (Missing.first a b c) = (λ e. absurd (omega (arith, a, e, v .target)), λ e. refl)
+  missed i (Missing.second a b c) = (λ e. refl, λ e. absurd (omega (arith, b, e, v .target)))
 
   -- before the move
   before-first : to ≡ q .first → Beside q o s (cond (eqb taken 2) to (q .second))
   unfolding placeAfter putAgain
-  before-first z =
-      let w = was-free m q o s to taken g l in
-      record {
-        white = king-stays (q .white) (λ y. g .white-first (y ∙ z));
-        black = king-stays (q .black) (λ y. g .black-first (y ∙ z));
-        first = ap (λ (b : Bool). cond b to (squareAfter to s (q .first))) (missed taken (g .missing) .0 z) ∙ man-goes (q .first) (w .first) (sym z);
-        second = ap (cond (eqb taken 2) to) (man-stays (q .second) (w .second) (λ y. g .first-second (sym z ∙ sym y)));
-      }
+  before-first z = record {
+    white = king-stays to s (q .white) (λ y. g .white-first (y ∙ z));
+    black = king-stays to s (q .black) (λ y. g .black-first (y ∙ z));
+    first = ap (λ (b : Bool). cond b to (squareAfter to s (q .first))) (missed taken (g .missing) .0 z) ∙ man-goes to s (q .first) (was .first) (sym z);
+    second = ap (cond (eqb taken 2) to) (man-stays to s (q .second) (was .second) (λ y. g .first-second (sym z ∙ sym y)));
+  }
 
   before-second : to ≡ q .second → Beside q o (cond (eqb taken 1) to (q .first)) s
   unfolding placeAfter putAgain
-  before-second z =
-      let w = was-free m q o s to taken g l in
-      record {
-        white = king-stays (q .white) (λ y. g .white-second (y ∙ z));
-        black = king-stays (q .black) (λ y. g .black-second (y ∙ z));
-        first = ap (cond (eqb taken 1) to) (man-stays (q .first) (w .first) (λ y. g .first-second (y ∙ z)));
-        second = ap (λ (b : Bool). cond b to (squareAfter to s (q .second))) (missed taken (g .missing) .1 z) ∙ man-goes (q .second) (w .second) (sym z);
-      }
+  before-second z = record {
+    white = king-stays to s (q .white) (λ y. g .white-second (y ∙ z));
+    black = king-stays to s (q .black) (λ y. g .black-second (y ∙ z));
+    first = ap (cond (eqb taken 1) to) (man-stays to s (q .first) (was .first) (λ y. g .first-second (y ∙ z)));
+    second = ap (λ (b : Bool). cond b to (squareAfter to s (q .second))) (missed taken (g .missing) .1 z) ∙ man-goes to s (q .second) (was .second) (sym z);
+  }
 
   pub line-before : (f : Frame) → f ≡ frameFor (1 - q .side) (q .white) (q .black) → f .exchange ≡ 0 → alike m ≡ false
       → (to ≡ q .first) ⊎ (to ≡ q .second) → (base scale : ℕ) → base ≡ baseOf m q taken to f → scale ≡ scaleOf m q to
       → base + bitXor s (f .flip) * scale ≡ numberOf (boardIn m o)
   unfolding placeAfter putAgain
-  line-before = line-of m q taken to s g on-board o (complete-seated m o (l .complete)) before-first before-second
+  line-before = line-of m q taken to s g (v .target) o (complete-seated m o (v .complete)) before-first before-second
 
   -- after another move
-  module _ (kind t : ℕ) (seat : Seat m o kind (o .side) s) (w : Quietly m o kind s t) where
+  module _ (legality : T (legal (boardIn m o))) (kind t : ℕ) (seat : Seat m o kind (o .side) s) (w : Quietly m o kind s t) where
     free : Free o t
     free = free-of m o t (reaches-squares (occupied (boardIn m o)) kind s t (w .reached) .1) (w .free)
 
-    differ : s ≡ t → ⊥
-    differ = seat-free m o kind (o .side) s t seat free
-
     apart : Spread m o
-    apart = complete-spread (l .complete)
-
-    king-still : (w : ℕ) → (w ≡ s → ⊥) → carried s t w ≡ w
-    king-still w n = ap (λ (b : Bool). cond b t w) (ne-eqb w s n)
-
-    man-still : (x : ℕ) → (x ≡ t → ⊥) → (x ≡ s → ⊥) → squareAfter s t x ≡ x
-    man-still x a b = rw (ne-eqb x t a, ne-eqb x s b)
-
-    man-gone : (x : ℕ) → x ≡ s → squareAfter s t x ≡ t
-    man-gone x e = ap (squareAfter s t) e ∙ rw (ne-eqb s t differ, eq-eqb s s refl)
+    apart = complete-spread (v .complete)
 
     after-first : to ≡ q .first → Beside q (placeAfter o s t) t (cond (eqb taken 2) to (q .second))
     unfolding placeAfter
     after-first z =
         let b = before-first z in
         record {
-          white = king-still (o .white) (λ y. apart .white-first (y ∙ sym (b .first))) ∙ b .white;
-          black = king-still (o .black) (λ y. apart .black-first (y ∙ sym (b .first))) ∙ b .black;
-          first = man-gone (o .first) (b .first);
-          second = man-still (o .second) (free .second) (λ y. apart .first-second (b .first ∙ sym y)) ∙ b .second;
+          white = king-stays s t (o .white) (λ y. apart .white-first (y ∙ sym (b .first))) ∙ b .white;
+          black = king-stays s t (o .black) (λ y. apart .black-first (y ∙ sym (b .first))) ∙ b .black;
+          first = man-goes s t (o .first) (free .first) (b .first);
+          second = man-stays s t (o .second) (free .second) (λ y. apart .first-second (b .first ∙ sym y)) ∙ b .second;
         }
 
     after-second : to ≡ q .second → Beside q (placeAfter o s t) (cond (eqb taken 1) to (q .first)) t
@@ -236,10 +211,10 @@ module _ (m : Men) (q : Place) (taken to s : ℕ) (g : LegalLeft m q taken) (l :
     after-second z =
         let b = before-second z in
         record {
-          white = king-still (o .white) (λ y. apart .white-second (y ∙ sym (b .second))) ∙ b .white;
-          black = king-still (o .black) (λ y. apart .black-second (y ∙ sym (b .second))) ∙ b .black;
-          first = man-still (o .first) (free .first) (λ y. apart .first-second (y ∙ sym (b .second))) ∙ b .first;
-          second = man-gone (o .second) (b .second);
+          white = king-stays s t (o .white) (λ y. apart .white-second (y ∙ sym (b .second))) ∙ b .white;
+          black = king-stays s t (o .black) (λ y. apart .black-second (y ∙ sym (b .second))) ∙ b .black;
+          first = man-stays s t (o .first) (free .first) (λ y. apart .first-second (y ∙ sym (b .second))) ∙ b .first;
+          second = man-goes s t (o .second) (free .second) (b .second);
         }
 
     side-again : placeAfter o s t .side ≡ q .side
@@ -250,7 +225,7 @@ module _ (m : Men) (q : Place) (taken to s : ℕ) (g : LegalLeft m q taken) (l :
         → (to ≡ q .first) ⊎ (to ≡ q .second) → (base scale : ℕ) → base ≡ baseOf m q taken to f → scale ≡ scaleOf m q to
         → base + bitXor t (f .flip) * scale ≡ numberOf (boardIn m (placeAfter o s t))
     line-after f hf =
-        line-of m q taken to t g on-board (placeAfter o s t) (complete-seated m (placeAfter o s t) (whole m o kind s t (l .complete) (l .legality) seat w))
+        line-of m q taken to t g (v .target) (placeAfter o s t) (complete-seated m (placeAfter o s t) (whole m o kind s t (v .complete) legality seat w))
         after-first after-second f (hf ∙ ap (λ (z : ℕ). frameFor z (q .white) (q .black)) (sym side-again))
 
 -- ---- as code has it
@@ -263,18 +238,18 @@ none-lined m q taken to line e h = (
   record { bounded = h; serves = λ kind s t l seat w r. absurd (true-not-false r e) },
 )
 
-pub plain-lined : (m : Men) (q : Place) (taken to side : ℕ) → LegalLeft m q taken → (to ≡ q .first) ⊎ (to ≡ q .second) → (f : Frame)
-    → f ≡ frameFor side (q .white) (q .black) → f .exchange ≡ 0 → alike m ≡ false → (base scale : ℕ) → base ≡ baseOf m q taken to f
+pub plain-lined : (m : Men) (q : Place) (taken to : ℕ) → LegalLeft m q taken → (to ≡ q .first) ⊎ (to ≡ q .second) → (f : Frame)
+    → f .exchange ≡ 0 → alike m ≡ false → (base scale : ℕ) → base ≡ baseOf m q taken to f
     → base < 2 ^ 48 → scale ≡ scaleOf m q to → (line : Line) → line ≡ record { plain = true; base = base; flip = f .flip; scale = scale }
-    → (side ≡ 1 - q .side → LinedBefore m q taken to line) × (side ≡ q .side → LinedAfter m q taken to line)
-plain-lined m q taken to side g w f hf e n base scale hb bound hs line z = (
-  λ d. subst⁻¹ (LinedBefore m q taken to) z (record {
+    → (f ≡ frameFor (1 - q .side) (q .white) (q .black) → LinedBefore m q taken to line)
+    × (f ≡ frameFor (q .side) (q .white) (q .black) → LinedAfter m q taken to line)
+plain-lined m q taken to g w f e n base scale hb bound hs line z = (
+  λ hf. subst⁻¹ (LinedBefore m q taken to) z (record {
     bounded = bound;
-    serves = λ s l t. line-before m q taken to s g l f (subst (λ (x : ℕ). f ≡ frameFor x (q .white) (q .black)) d hf) e n w base scale hb hs;
+    serves = λ s v t. line-before m q taken to s g v f hf e n w base scale hb hs;
   }),
-  λ d. subst⁻¹ (LinedAfter m q taken to) z (record {
+  λ hf. subst⁻¹ (LinedAfter m q taken to) z (record {
     bounded = bound;
-    serves = λ kind s t l seat v r.
-        line-after m q taken to s g l kind t seat v f (subst (λ (x : ℕ). f ≡ frameFor x (q .white) (q .black)) d hf) e n w base scale hb hs;
+    serves = λ kind s t l seat v r. line-after m q taken to s g (leads-goes m q taken s to g l) (l .legality) kind t seat v f hf e n w base scale hb hs;
   }),
 )

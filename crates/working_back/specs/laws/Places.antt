@@ -14,7 +14,7 @@ use Rattle.theory.specs.Game.{next}
 use Rattle.theory.specs.Required.{requiredAt}
 use Rattle.table_theory.specs.Tables.{Numbering, settles, reads}
 use Rattle.rules.specs.declared.Piece.{Piece}
-use Rattle.rules.specs.Rules.{Board, empty}
+use Rattle.rules.specs.Rules.{Board, empty, legal}
 use Rattle.rules.specs.Chess.{chess, played, in-moves}
 use Rattle.rules.specs.laws.Legal.{legal-pawnless}
 use Rattle.rules.specs.laws.CanMove.{can-on}
@@ -37,6 +37,7 @@ use Rattle.working_back.specs.Admitted.{over, Admitted}
 use Rattle.working_back.specs.Trying.{Midway}
 use Rattle.working_back.specs.Back.{Ripe, TriesPlace}
 use Rattle.working_back.specs.laws.Admitted.{sized}
+use Rattle.working_back.specs.laws.Numbers.{number-legal}
 use Rattle.working_back.specs.laws.Few.{few-none, few-one}
 use Rattle.working_back.specs.laws.Trying.{settles-midway, went-none, went-one, now-there}
 use Rattle.working_back.specs.laws.Won.{settles-at, won-from}
@@ -102,63 +103,75 @@ module _ (m : Men) (o q : Place) (from to : ℕ) (l : Leads m o from to q) where
         subst (λ (f : Board → ℕ). getD t (f b) 0 ≡ 1 → T (settles chess N k t (f b)))
         (pieces-number M (l .complete .ending)) (won-in t odd r)
 
-    -- ---- what trying it comes to
+-- ---- what trying a number comes to
 
-    module _ (u : List ℕ) (a : Admitted m first second u) where
-      long-t : (t : List ℕ) → Midway chess N k t u → length t ≡ N .size
-      long-t t w = sym (w .long) ∙ sized m first second u a
+module _ (m : Men) (o q : Place) (first second : List ℕ) (k : ℕ) (u : List ℕ) (a : Admitted m first second u) where
+  abbrev at : ℕ
+  at = numberOf (boardIn m o)
 
-      -- it does not hold 1
-      pub place-other : (getD u (numberOf b) 0 ≡ 1 → ⊥) → TriesPlace m first second k q o u u 0
-      place-other e = (few-none k 1 u, λ t w r. (went-none chess N k t (long-t t w) u w, λ s z. e z))
+  abbrev W : Numbering chess
+  W = over m first second
 
-      pub place-out : length u ≤ numberOf b → TriesPlace m first second k q o u u 0
-      place-out h =
-          place-other (λ z. let y : getD u (numberOf b) 0 ≡ 0 = List·getD-eq-default u 0 h in omega (arith, y, z))
+  long-t : (t : List ℕ) → Midway chess W k t u → length t ≡ W .size
+  long-t t w = sym (w .long) ∙ sized m first second u a
 
-      module _ (h : numberOf b < length u) (e : getD u (numberOf b) 0 ≡ 1) where
-        settled : ((t : List ℕ) → Midway chess N k t u → Ripe m first second k t q → T (settles chess N k t (numberOf b)))
-            → TriesPlace m first second k q o u (set u (numberOf b) (2 + k)) 1
-        settled f = (
-          few-one k u (numberOf b) h e,
-          λ t w r. (
-            went-one chess N k t (long-t t w) u w (numberOf b) h (f t w r) e,
-            λ s z. omega (arith, z, now-there chess N k t (long-t t w) u w (numberOf b) h),
-          ),
-        )
+  -- it does not hold 1
+  place-other : (getD u at 0 ≡ 1 → ⊥) → TriesPlace m first second k q o u u 0
+  place-other e = (few-none k 1 u, λ t w r. (went-none chess W k t (long-t t w) u w, λ s z. e z))
 
-        was : (t : List ℕ) → Midway chess N k t u
-            → (getD u (numberOf b) 0 ≡ getD t (numberOf b) 0) ⊎ (T (settles chess N k t (numberOf b)) × (getD u (numberOf b) 0 ≡ 2 + k))
-            → getD t (numberOf b) 0 ≡ 1
-        was t w (inl x) = sym x ∙ e
-        was t w (inr x) = absurd (omega (arith, e, x .1))
+  module _ (h : at < length u) (e : getD u at 0 ≡ 1) where
+    settled : ((t : List ℕ) → Midway chess W k t u → Ripe m first second k t q → T (settles chess W k t at))
+        → TriesPlace m first second k q o u (set u at (2 + k)) 1
+    settled f = (
+      few-one k u at h e,
+      λ t w r. (
+        went-one chess W k t (long-t t w) u w at h (f t w r) e,
+        λ s z. omega (arith, z, now-there chess W k t (long-t t w) u w at h),
+      ),
+    )
 
-        pub place-odd : k % 2 ≡ 1 → TriesPlace m first second k q o u (set u (numberOf b) (2 + k)) 1
-        place-odd odd = settled (λ t w r. place-won t odd r (was t w (w .byte (numberOf b))))
+    was : (t : List ℕ) → Midway chess W k t u
+        → (getD u at 0 ≡ getD t at 0) ⊎ (T (settles chess W k t at) × (getD u at 0 ≡ 2 + k)) → getD t at 0 ≡ 1
+    was t w (inl x) = sym x ∙ e
+    was t w (inr x) = absurd (omega (arith, e, x .1))
 
-        pub place-lost : ((t : List ℕ) → Midway chess N k t u → Ripe m first second k t q → eqb (requiredAt chess (reads chess N u) b) (2 + k) ≡ true)
-            → TriesPlace m first second k q o u (set u (numberOf b) (2 + k)) 1
-        place-lost f =
-            settled (λ t w r. subst T (settles-midway chess N k t u w (numberOf b) e) (subst⁻¹ T (place-settles u e) (of-true (f t w r))))
+    -- k odd: what holds 1 is legal
+    place-odd : Complete m o → (from to : ℕ) → (T (legal (boardIn m o)) → Leads m o from to q) → k % 2 ≡ 1
+        → TriesPlace m first second k q o u (set u at (2 + k)) 1
+    unfolding numbered
+    place-odd c from to f odd =
+        settled (λ t w r.
+        let y = was t w (w .byte at) in
+        let l = f (number-legal m o c (r .ready .alive at (λ z. omega (arith, y, z)))) in
+        place-won m o q from to l first second k t odd r y)
 
-        pub place-kept : ((t : List ℕ) → Midway chess N k t u → Ripe m first second k t q → eqb (requiredAt chess (reads chess N u) b) (2 + k) ≡ false)
-            → TriesPlace m first second k q o u u 0
-        place-kept f = (
-          few-none k 1 u,
-          λ t w r. (
-            went-none chess N k t (long-t t w) u w,
-            λ s z. refuted (sym (settles-midway chess N k t u w (numberOf b) e) ∙ place-settles u e ∙ f t w r) s,
-          ),
-        )
+    module _ (from to : ℕ) (l : Leads m o from to q) where
+      place-lost : ((t : List ℕ) → Midway chess W k t u → Ripe m first second k t q
+          → eqb (requiredAt chess (reads chess W u) (boardIn m o)) (2 + k) ≡ true)
+          → TriesPlace m first second k q o u (set u at (2 + k)) 1
+      place-lost f =
+          settled (λ t w r. subst T (settles-midway chess W k t u w at e)
+          (subst⁻¹ T (place-settles m o q from to l first second k u e) (of-true (f t w r))))
+
+      place-kept : ((t : List ℕ) → Midway chess W k t u → Ripe m first second k t q
+          → eqb (requiredAt chess (reads chess W u) (boardIn m o)) (2 + k) ≡ false)
+          → TriesPlace m first second k q o u u 0
+      place-kept f = (
+        few-none k 1 u,
+        λ t w r. (
+          went-none chess W k t (long-t t w) u w,
+          λ s z. refuted (sym (settles-midway chess W k t u w at e) ∙ place-settles m o q from to l first second k u e ∙ f t w r) s,
+        ),
+      )
 
 -- as code has the number
-module _ (m : Men) (o q : Place) (from to : ℕ) (l : Leads m o from to q) (first second : List ℕ) (k : ℕ) (u : List ℕ)
-    (a : Admitted m first second u) (n : ℕ) (z : n ≡ numberOf (boardIn m o)) where
-  pub tried-out : length u ≤ n → TriesPlace m first second k q o u u 0
-  tried-out h = place-out m o q from to l first second k u a (subst (λ (i : ℕ). length u ≤ i) z h)
-
+module _ (m : Men) (o q : Place) (first second : List ℕ) (k : ℕ) (u : List ℕ) (a : Admitted m first second u) (n : ℕ)
+    (z : n ≡ numberOf (boardIn m o)) where
   pub tried-other : (getD u n 0 ≡ 1 → ⊥) → TriesPlace m first second k q o u u 0
-  tried-other d = place-other m o q from to l first second k u a (subst (λ (i : ℕ). getD u i 0 ≡ 1 → ⊥) z d)
+  tried-other d = place-other m o q first second k u a (subst (λ (i : ℕ). getD u i 0 ≡ 1 → ⊥) z d)
+
+  pub tried-out : length u ≤ n → TriesPlace m first second k q o u u 0
+  tried-out h = tried-other (λ y. let x : getD u n 0 ≡ 0 = List·getD-eq-default u 0 h in omega (arith, x, y))
 
   -- told where the table has it and it holds 1
   pub tried-unless : (n < length u → getD u n 0 ≡ 1 → TriesPlace m first second k q o u u 0) → TriesPlace m first second k q o u u 0
@@ -179,23 +192,29 @@ module _ (m : Men) (o q : Place) (from to : ℕ) (l : Leads m o from to q) (firs
         → TriesPlace m first second k q o u (set u n (2 + k)) did
     written {did} x = subst⁻¹ (λ (i : ℕ). TriesPlace m first second k q o u (set u i (2 + k)) did) z x
 
-    pub tried-odd : k % 2 ≡ 1 → TriesPlace m first second k q o u (set u n (2 + k)) 1
-    tried-odd odd = written (place-odd m o q from to l first second k u a here one odd)
-
-    pub tried-lost : ((t : List ℕ) → Midway chess (over m first second) k t u → Ripe m first second k t q
-        → eqb (requiredAt chess (reads chess (over m first second) u) (boardIn m o)) (2 + k) ≡ true)
+    pub tried-odd : Complete m o → (from to : ℕ) → (T (legal (boardIn m o)) → Leads m o from to q) → k % 2 ≡ 1
         → TriesPlace m first second k q o u (set u n (2 + k)) 1
-    tried-lost f = written (place-lost m o q from to l first second k u a here one f)
+    tried-odd c from to f odd = written (place-odd m o q first second k u a here one c from to f odd)
 
-    pub tried-kept : ((t : List ℕ) → Midway chess (over m first second) k t u → Ripe m first second k t q
-        → eqb (requiredAt chess (reads chess (over m first second) u) (boardIn m o)) (2 + k) ≡ false)
-        → TriesPlace m first second k q o u u 0
-    tried-kept f = place-kept m o q from to l first second k u a here one f
+module _ (m : Men) (o q : Place) (from to : ℕ) (l : Leads m o from to q) (first second : List ℕ) (k : ℕ) (u : List ℕ)
+    (a : Admitted m first second u) (n : ℕ) (z : n ≡ numberOf (boardIn m o)) (h : n < length u) (e : getD u n 0 ≡ 1) where
+  pub tried-lost : ((t : List ℕ) → Midway chess (over m first second) k t u → Ripe m first second k t q
+      → eqb (requiredAt chess (reads chess (over m first second) u) (boardIn m o)) (2 + k) ≡ true)
+      → TriesPlace m first second k q o u (set u n (2 + k)) 1
+  tried-lost f =
+      written m o q first second k u a n z h e
+      (place-lost m o q first second k u a (here m o q first second k u a n z h e) (one m o q first second k u a n z h e) from to l f)
 
-    -- what the look forward tells
-    pub told-required : (made : Place) (r : Bool) → made ≡ o
-        → (Complete m made → r ≡ eqb (requiredAt chess (reads chess (over m first second) u) (boardIn m made)) (2 + k))
-        → eqb (requiredAt chess (reads chess (over m first second) u) (boardIn m o)) (2 + k) ≡ r
-    told-required made r y f =
-        sym (f (subst⁻¹ (Complete m) y (l .complete))
-        ∙ ap (λ (p : Place). eqb (requiredAt chess (reads chess (over m first second) u) (boardIn m p)) (2 + k)) y)
+  pub tried-kept : ((t : List ℕ) → Midway chess (over m first second) k t u → Ripe m first second k t q
+      → eqb (requiredAt chess (reads chess (over m first second) u) (boardIn m o)) (2 + k) ≡ false)
+      → TriesPlace m first second k q o u u 0
+  tried-kept f =
+      place-kept m o q first second k u a (here m o q first second k u a n z h e) (one m o q first second k u a n z h e) from to l f
+
+  -- what the look forward tells
+  pub told-required : (made : Place) (r : Bool) → made ≡ o
+      → (Complete m made → r ≡ eqb (requiredAt chess (reads chess (over m first second) u) (boardIn m made)) (2 + k))
+      → eqb (requiredAt chess (reads chess (over m first second) u) (boardIn m o)) (2 + k) ≡ r
+  told-required made r y f =
+      sym (f (subst⁻¹ (Complete m) y (l .complete))
+      ∙ ap (λ (p : Place). eqb (requiredAt chess (reads chess (over m first second) u) (boardIn m p)) (2 + k)) y)

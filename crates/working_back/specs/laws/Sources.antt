@@ -21,7 +21,7 @@ use Rattle.position.specs.declared.Place.{Place}
 use Rattle.position.specs.Posed.{boardIn}
 use Rattle.index.specs.Seats.{Seated}
 use Rattle.index.specs.laws.CompleteLaws.{complete-seated}
-use Rattle.retracting.specs.Retracting.{Retracts, placeBefore, Leads}
+use Rattle.retracting.specs.Retracting.{placeBefore, Leads, GoesBack}
 use Rattle.working_back.specs.Admitted.{over, Admitted}
 use Rattle.working_back.specs.Trying.{Midway, Went, Tried}
 use Rattle.working_back.specs.Back.{Few, Ripe, TriesPlace, TriesTo}
@@ -116,15 +116,16 @@ module _ (m : Men) (first second : List ℕ) (k : ℕ) (q : Place) (taken to : �
           ),
     )
 
-    pub taken-end : (v : List ℕ) (rest did : ℕ) → rest ≡ 0 → Taken set u v rest did → Retracts m q taken to set
+    pub taken-end : (v : List ℕ) (rest did : ℕ) → rest ≡ 0 → Taken set u v rest did
+        → ((o : Place) (from : ℕ) → Leads m o from to q → T (has set from) × (o ≡ placeBefore q taken from to))
         → TriesTo m first second k q to u v did
-    taken-end v rest did e f r = (
+    taken-end v rest did e f all = (
       few-most k (64 - length (members rest)) 64 u v did (omega arith) (f .0),
       λ t w ripe.
           let p = f .1 t w ripe in (
             p .0,
             λ o from l.
-                let x = r .all o from l in
+                let x = all o from l in
                 subst⁻¹ (λ (c : Place). Tried chess (over m first second) k t v (numberOf (boardIn m c))) (x .1)
                 (⊎-elim (λ g. absurd (refuted (has-none from) (subst (λ (z : ℕ). T (has z from)) e g))) (λ g. g)
                 (p .1 from (can-on (boardIn m o) from to (l .can) .0) (x .0))),
@@ -132,7 +133,7 @@ module _ (m : Men) (first second : List ℕ) (k : ℕ) (q : Place) (taken to : �
     )
 
   -- its number
-  pub number-of-source : (s n : ℕ) → Leads m (placeBefore q taken s to) s to q → (o : Place) → o ≡ placeBefore q taken s to
+  pub number-of-source : (s n : ℕ) → GoesBack m q taken s to → (o : Place) → o ≡ placeBefore q taken s to
       → (Seated m o → n ≡ numberOf (boardIn m o)) → n ≡ numberOf (boardIn m (placeBefore q taken s to))
   number-of-source s n l o e f =
       f (subst⁻¹ (Seated m) e (complete-seated m (placeBefore q taken s to) (l .complete)))

@@ -20,21 +20,15 @@ use Rattle.rules.specs.Chess.{chess}
 use Rattle.rules.specs.laws.Legal.{legal-facts}
 use Rattle.rules.specs.laws.CanMove.{can-on}
 use Rattle.table_theory.specs.Tables.{settles}
-use Rattle.numbering.specs.Keys.{boardAt}
-use Rattle.numbering.specs.Number.{numberOf, used}
-use Rattle.numbering.specs.Material.{menOf}
+use Rattle.numbering.specs.Number.{numberOf}
 use Rattle.numbering.specs.declared.Material.{Material}
-use Rattle.numbering.specs.laws.AtLaws.{image-at}
 use Rattle.position.specs.declared.Men.{Men}
 use Rattle.position.specs.declared.Place.{Place}
 use Rattle.position.specs.Keyed.{boardOf}
 use Rattle.position.specs.Posed.{posed, boardIn, materialFor, Complete}
-use Rattle.index.specs.laws.CompleteLaws.{complete-has}
 use Rattle.movegen.specs.Places.{placeAfter}
 use Rattle.movegen.specs.laws.Lines.{reaches-again}
 use Rattle.four_men.specs.Reading.{legalNumberOf, numbered}
-use Rattle.four_men.specs.laws.Numbered.{live-is, legal-by}
-use Rattle.four_men.specs.laws.Materials.{own-material}
 use Rattle.successors.specs.Successors.{bytesIn}
 use Rattle.successors.specs.laws.PlaceVerdicts.{plain}
 use Rattle.successors.specs.laws.ByteLaws.{all-there, byte-own, byte-moved}
@@ -48,6 +42,7 @@ use Rattle.working_back.specs.Trying.{Midway, Alive}
 use Rattle.working_back.specs.Back.{TriesPlace}
 use Rattle.working_back.specs.Spared.{Quietly, Sparing, Spared}
 use Rattle.working_back.specs.laws.Trying.{held-one}
+use Rattle.working_back.specs.laws.Numbers.{number-legal}
 use Rattle.working_back.specs.laws.Places.{tried-kept}
 
 module _ (m : Men) (o : Place) (kind s t : ℕ) (c : Complete m o) (l : T (legal (boardIn m o))) (seat : Seat m o kind (o .side) s)
@@ -96,14 +91,6 @@ module _ (m : Men) (o : Place) (kind s t : ℕ) (c : Complete m o) (l : T (legal
   abbrev M : Material
   M = materialFor m
 
-  -- a live number's boards are legal
-  number-legal : T (legalNumberOf M (numberOf (boardIn m a))) → T (legal (boardIn m a))
-  number-legal live =
-      let n = numberOf (boardIn m a) in
-      let i = image-at (own-material M (c .ending)) (boardIn m a) (complete-has m a whole) in
-      subst T (ap legal (i .1) ∙ legal-by (i .0) (boardIn m a))
-      (and-right (used (boardAt (menOf M) n)) (legal (boardAt (menOf M) n)) (subst T (live-is M (c .ending) n) live))
-
   module _ (live : T (legalNumberOf M (numberOf (boardIn m a)))) where
     side-of : o .side ≡ 1 - a .side
     unfolding placeAfter
@@ -116,7 +103,7 @@ module _ (m : Men) (o : Place) (kind s t : ℕ) (c : Complete m o) (l : T (legal
     can : T (canMove (boardIn m o) s t)
     can =
         subst (λ (p : Place). T (canMove (boardIn m p) s t)) back
-        (leads-back m a 0 (all-left m a whole (number-legal live)) kind (o .side) s t
+        (leads-back m a 0 (all-left m a whole (number-legal m a whole live)) kind (o .side) s t
         (unfold putAgain in seat-before m o 0 kind (o .side) s t (here .missing) differ (squares .0) seat)
         side-of (λ n. absurd (n refl))
         (reaches-again (occupied (boardIn m o)) (occupied (boardIn m a)) kind s t (λ u h x y. occupied-else m o s t u h x y) (w .reached))

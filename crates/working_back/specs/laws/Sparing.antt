@@ -144,7 +144,7 @@ module _ (m : Men) (q : Place) (taken kind to : ℕ) (g : LegalLeft m q taken) (
     unsettled : (t : ℕ) → t < 64 → has (ground .shut) t ≡ false → Sparing m k (placeOn q taken to t) u → (spared : ℕ)
         → spared ≡ setOf (reaches (has (ground .stood)) kind t) → Unsettled m first second k q taken to u spared
     unsettled t h e x spared es s hs gs l =
-        tried-unless m (placeBefore q taken s to) q s to l first second k u a (numberOf (boardIn m (placeBefore q taken s to))) refl
+        tried-unless m (placeBefore q taken s to) q first second k u a (numberOf (boardIn m (placeBefore q taken s to))) refl
         (λ i one. tried-spared m (placeBefore q taken s to) q s to l first second k u a (numberOf (boardIn m (placeBefore q taken s to))) refl i one some kind
         (seat-then m q taken kind s to g l seat)
         (spared-there s l ground gr t h e (subst T (set-has (reaches (has (ground .stood)) kind t) es s hs) gs) k u x))

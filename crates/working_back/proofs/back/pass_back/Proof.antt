@@ -10,7 +10,7 @@ use Rattle.working_back.proofs.back.pass_back.Statement.{statement}
 use Rattle.working_back.proofs.back.pass_back.Tie as tie
 
 pass-captures-requires : tie.Need-pass-captures-requires
-pass-captures-requires c κs = let s = c .before .before .before .before in (s .pre .0, s .pre .1, s .pre .2)
+pass-captures-requires c κs = let s = c .before .before .before .before in (s .pre .0, s .pre .1, s .pre .2, s .pre .3 .1 .alive)
 
 pass-own-requires : tie.Need-pass-own-requires
 pass-own-requires c κs =

@@ -64,6 +64,7 @@ try-into-requires c κs =
           (standing-live (x .m) (c .before .before .before .loop .j) _ (p .3)
           (c .before .place-at .ensures (p .3) (a .colour) (in-size (x .m) (x .first .now) (x .second .now) _ a _ h))
           (alive-number (x .m) (x .first .now) (x .second .now) _ a (c .before .before .before .loop .j) (x .k) (l .3) (l .1 h))),
+      l .3,
     )
 
 add-settled : tie.Need-add-settled Inv-loop μ-loop

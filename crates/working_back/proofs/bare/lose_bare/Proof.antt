@@ -7,7 +7,11 @@ use lib.ListN.{length}
 use Rattle.finite.specs.Truth.{or-right}
 use Rattle.board.specs.Sets.{has, members}
 use Rattle.board.specs.laws.LowestLaws.{lowest-of}
+use Rattle.rules.specs.Chess.{chess}
+use Rattle.working_back.specs.Admitted.{over}
+use Rattle.working_back.specs.Trying.{Alive}
 use Rattle.working_back.specs.Bare.{Knows}
+use Rattle.working_back.specs.laws.Few.{alive-kept}
 use Rattle.working_back.specs.laws.BareLost.{knows-none}
 use Rattle.working_back.specs.laws.Admitted.{admitted-kept}
 use Rattle.working_back.specs.laws.Sources.{Taken, taken-start, taken-turn, taken-end, lowest-in}
@@ -19,6 +23,7 @@ Inv-loop m k q taken to squares first second table₀ white x y shut others sett
     × ((s : ℕ) → s < 64 → T (has rest s) → T (has squares s))
     × Taken m first second k q taken to squares table₀ table rest settled
     × Knows m k white x y table saving harmless
+    × Alive chess (over m first second) table
 
 abbrev μ-loop : tie.MeasureT-loop
 μ-loop m k q taken to squares first second table₀ white x y shut others settled₀ saving₀ harmless₀ rest₀ table settled saving harmless rest = length (members rest)
@@ -42,6 +47,7 @@ loop-holds c =
       (λ i h t. t),
       taken-start (x .m) (x .first .now) (x .second .now) (x .k) (x .q) (x .taken) (x .to) _ (c .before .before .before .before .before .before .before .pre .3) _,
       knows-none _ _ _ _ _ _,
+      c .before .before .before .before .before .before .before .pre .9,
     )
 
 lowest-requires : tie.Need-lowest-requires Inv-loop μ-loop
@@ -70,6 +76,7 @@ lose-one-requires c κs =
       p .4 .sound (c .before .lowest .result) (z .0) (l .inv .1 (c .before .lowest .result) (z .0) (z .1)),
       l .inv .3,
       c .before .before .before .before .still-black .ensures,
+      l .inv .4,
     )
 
 add-settled : tie.Need-add-settled Inv-loop μ-loop
@@ -95,6 +102,7 @@ loop-again c =
       taken-turn (x .m) (x .first .now) (x .second .now) (x .k) (x .q) (x .taken) (x .to) _ (c .before .before .before .before .before .before .before .before .before .before .before .before .before .before .before .before .pre .3) _ _ _ (l .rest)
           (c .without .result) t (l .settled) _ (l .inv .2) w (e .0),
       e .1,
+      alive-kept chess (over (x .m) (x .first .now) (x .second .now)) (x .k) 1 _ _ _ (e .0 .0) (l .inv .4),
     )
 
 same-length : tie.Need-same-length Inv-loop μ-loop
@@ -105,7 +113,7 @@ returns c =
     let x = c .before .before .before .before .before .before .before .before .before .args in
     let l = c .before .loop in
     taken-end (x .m) (x .first .now) (x .second .now) (x .k) (x .q) (x .taken) (x .to) _ (c .before .before .before .before .before .before .before .before .before .pre .3) _ _ (l .rest) (l .settled)
-    (c .loop-test .left) (l .inv .2) (c .before .before .before .before .before .before .before .before .before .pre .4)
+    (c .loop-test .left) (l .inv .2) (c .before .before .before .before .before .before .before .before .before .pre .4 .all)
 
 pub lose-bare-spec : {M : Type 1} → statement M
 lose-bare-spec =

@@ -4,7 +4,7 @@ use mathlib.Core.Bool.{Bool, _||_}
 use borrow.Author.Needs.{needs}
 use Rattle.retracting.specs.Retracting.{placeBefore}
 use Rattle.working_back.specs.laws.Places.{tried-other}
-use Rattle.working_back.specs.laws.BareMoves.{on}
+use Rattle.working_back.specs.laws.Numbers.{holds-legal}
 use Rattle.working_back.specs.laws.BareLost.{bare-at, taking-can, goal-seated, bare-quiet, held-inside, knows-kept}
 use Rattle.working_back.proofs.bare.lose_one.Statement.{statement}
 use Rattle.working_back.proofs.bare.lose_one.Tie as tie
@@ -13,7 +13,7 @@ still-number-requires : tie.Need-still-number-requires
 still-number-requires c κs =
     let p = c .before .before .before .pre in
     let x = c .before .before .before .args in
-    (on (x .m) (x .q) (x .taken) (x .to) (x .white) (x .x) (x .y) (p .4) (x .s) (p .6), p .8 .base-fits, p .8 .unit-fits)
+    (p .6 .square, p .8 .base-fits, p .8 .unit-fits)
 
 byte-of-requires : tie.Need-byte-of-requires
 byte-of-requires c κs = tt
@@ -27,7 +27,7 @@ returns c =
     let x = c .before .before .before .before .before .before .before .args in
     let r = c .before .before .before .still-number in
     let z = bare-at (x .m) (x .q) (x .taken) (x .to) (x .white) (x .x) (x .y) (p .4) (x .s) (p .6) (r .result) (r .ensures (x .m) _ (p .8)) in (
-      tried-other (x .m) (placeBefore (x .q) (x .taken) (x .s) (x .to)) (x .q) (x .s) (x .to) (p .6) (x .first .now) (x .second .now) (x .k) _ (p .3) (r .result) z
+      tried-other (x .m) (placeBefore (x .q) (x .taken) (x .s) (x .to)) (x .q) (x .first .now) (x .second .now) (x .k) _ (p .3) (r .result) z
           (λ e. c .if1 .taken (c .before .byte-of .ensures ∙ e)),
       p .7,
     )
@@ -56,10 +56,11 @@ lose-taking-requires c κs =
     let b = c .before .before .before .before .before .before .before .before .byte-of in
     let h = held-inside (x .table .now) (r .result) (b .result) (b .ensures) (c .before .before .before .before .before .before .before .if1 .left) in
     let one = sym (b .ensures) ∙ c .before .before .before .before .before .before .before .if1 .left in
-    let can = taking-can (x .m) (x .q) (x .taken) (x .to) (x .white) (x .x) (x .y) (p .4) (x .s) (p .6) (x .first .now) (x .second .now) (x .k) _ (p .3)
+    let l = p .6 .legally (holds-legal (x .m) (placeBefore (x .q) (x .taken) (x .s) (x .to)) (p .6 .complete) (x .first .now) (x .second .now) (x .table .now) (p .9) (r .result) z one) in
+    let can = taking-can (x .m) (x .q) (x .taken) (x .to) (x .white) (x .x) (x .y) (p .4) (x .s) l (x .first .now) (x .second .now) (x .k) _ (p .3)
     (p .0) (p .2) (r .result) z h one (c .before .before .before .before .before .before .targets .result) (x .shut) (c .before .before .before .before .before .minus .result) (c .before .before .before .before .before .before .targets .ensures) (p .5) (c .before .before .before .before .before .minus .ensures) _ _
     (c .before .before .before .before .has .ensures) (ap (λ (e : Bool). c .before .before .before .before .has .result || e) (sym (c .before .before .before .has2 .ensures)) ∙ c .before .before .if2 .taken) (c .before .again .ensures) in
-    (p .0, p .1, p .3, p .6, z, h, one, can)
+    (p .0, p .1, p .3, l, z, h, one, can)
 
 same-length-2 : tie.Need-same-length-2
 same-length-2 c = search needs
@@ -79,10 +80,11 @@ lose-quiet-requires c κs =
     let z = bare-at (x .m) (x .q) (x .taken) (x .to) (x .white) (x .x) (x .y) (p .4) (x .s) (p .6) (r .result) (r .ensures (x .m) _ (p .8)) in
     let b = c .before .before .before .before .before .before .before .byte-of in
     let h = held-inside (x .table .now) (r .result) (b .result) (b .ensures) (c .before .before .before .before .before .before .if1 .left) in
-    let one = sym (b .ensures) ∙ c .before .before .before .before .before .before .if1 .left in (
+    let one = sym (b .ensures) ∙ c .before .before .before .before .before .before .if1 .left in
+    let l = p .6 .legally (holds-legal (x .m) (placeBefore (x .q) (x .taken) (x .s) (x .to)) (p .6 .complete) (x .first .now) (x .second .now) (x .table .now) (p .9) (r .result) z one) in (
       p .1,
       h,
-      goal-seated (x .m) (x .q) (x .taken) (x .to) (x .white) (x .x) (x .y) (p .4) (x .s) (p .6) (x .first .now) (x .second .now) (x .k) _ (p .3)
+      goal-seated (x .m) (x .q) (x .taken) (x .to) (x .white) (x .x) (x .y) (p .4) (x .s) l (x .first .now) (x .second .now) (x .k) _ (p .3)
           (p .0) (p .2) (r .result) z h one (c .before .before .before .before .before .targets .result) (x .shut) (c .before .before .before .before .minus .result) (c .before .before .before .before .before .targets .ensures) (p .5) (c .before .before .before .before .minus .ensures) (sym (ap₂ _||_ (c .before .before .before .has .ensures) (c .before .before .has2 .ensures)) ∙ c .before .if2 .left),
       p .7,
       p .8,
@@ -100,8 +102,9 @@ returns-3 c =
     let b = c .before .before .before .before .before .before .before .before .before .before .byte-of in
     let h = held-inside (x .table .now) (r .result) (b .result) (b .ensures) (c .before .before .before .before .before .before .before .before .before .if1 .left) in
     let one = sym (b .ensures) ∙ c .before .before .before .before .before .before .before .before .before .if1 .left in
+    let l = p .6 .legally (holds-legal (x .m) (placeBefore (x .q) (x .taken) (x .s) (x .to)) (p .6 .complete) (x .first .now) (x .second .now) (x .table .now) (p .9) (r .result) z one) in
     let q = c .before .before .lose-quiet .ensures in
-    let w = bare-quiet (x .m) (x .q) (x .taken) (x .to) (x .white) (x .x) (x .y) (p .4) (x .s) (p .6) (x .first .now) (x .second .now) (x .k) _ (p .3)
+    let w = bare-quiet (x .m) (x .q) (x .taken) (x .to) (x .white) (x .x) (x .y) (p .4) (x .s) l (x .first .now) (x .second .now) (x .k) _ (p .3)
     (p .0) (p .2) (r .result) z h one (c .before .before .before .before .before .before .before .before .targets .result) (x .shut) (c .before .before .before .before .before .before .before .minus .result) (c .before .before .before .before .before .before .before .before .targets .ensures) (p .5) (c .before .before .before .before .before .before .before .minus .ensures) (sym (ap₂ _||_ (c .before .before .before .before .before .before .has .ensures) (c .before .before .before .before .before .has2 .ensures)) ∙ c .before .before .before .before .if2 .left) _ _ (q .0) in
     (w, knows-kept (x .m) (x .k) (x .white) (x .x) (x .y) (p .2) (x .table .now) _ 1 _ _ _ (w .0) (q .1))
 

@@ -3,7 +3,10 @@ use mathlib.Core.Path.{refl}
 use mathlib.Core.Logic.{inl, inr}
 use native.Mathlib.Omega.{arith}
 use borrow.Author.Needs.{needs}
+use Rattle.rules.specs.Chess.{chess}
+use Rattle.working_back.specs.Admitted.{over}
 use Rattle.working_back.specs.laws.Admitted.{admitted-kept}
+use Rattle.working_back.specs.laws.Few.{alive-kept}
 use Rattle.working_back.specs.laws.Captures.{none-swept, all-swept, lent-second, lent-like, lent-unlike}
 use Rattle.working_back.proofs.captures.pass_captures.Statement.{statement}
 use Rattle.working_back.proofs.captures.pass_captures.Tie as tie
@@ -16,7 +19,7 @@ returns c =
 pass-lent-requires : tie.Need-pass-lent-requires
 pass-lent-requires c κs =
     let s = c .before .before .before .before .before .before in
-    (s .pre .0, s .pre .1, s .pre .2, c .before .if1 .left, inr refl, lent-second (s .args .m) (s .args .first .now) (s .args .second .now))
+    (s .pre .0, s .pre .1, s .pre .2, s .pre .3, c .before .if1 .left, inr refl, lent-second (s .args .m) (s .args .first .now) (s .args .second .now))
 
 pass-lent-requires-2 : tie.Need-pass-lent-requires-2
 pass-lent-requires-2 c κs =
@@ -24,6 +27,7 @@ pass-lent-requires-2 c κs =
       s .pre .0,
       s .pre .1,
       admitted-kept _ _ _ _ (s .pre .2) _ (c .before .before .before .before .before .pass-lent .ensures .0 .long),
+      alive-kept chess (over (s .args .m) (s .args .first .now) (s .args .second .now)) (s .args .k) 11354112 _ _ _ (c .before .before .before .before .before .pass-lent .ensures .0) (s .pre .3),
       c .before .before .before .before .before .before .before .if1 .left,
       inl refl,
       lent-like (s .args .m) (s .args .first .now) (s .args .second .now) (c .before .if2 .taken),
@@ -47,6 +51,7 @@ pass-lent-requires-3 c κs =
       s .pre .0,
       s .pre .1,
       admitted-kept _ _ _ _ (s .pre .2) _ (c .before .before .before .before .before .pass-lent .ensures .0 .long),
+      alive-kept chess (over (s .args .m) (s .args .first .now) (s .args .second .now)) (s .args .k) 11354112 _ _ _ (c .before .before .before .before .before .pass-lent .ensures .0) (s .pre .3),
       c .before .before .before .before .before .before .before .if1 .left,
       inl refl,
       lent-unlike (s .args .m) (s .args .first .now) (s .args .second .now) (c .before .if2 .left),

@@ -16,7 +16,7 @@ cast-legal-at : tie.Need-cast-legal-at
 cast-legal-at c =
     let s = c .before .before .before .before in
     let x = s .args in
-    let h = lone-in (x .m) (x .first .now) (x .second .now) (x .k) _ (s .pre .2) (s .pre .3) (x .taken) (s .pre .4) (x .j) _ refl (s .pre .5) in
+    let h = lone-in (x .m) (x .first .now) (x .second .now) (x .k) _ (s .pre .2) (s .pre .4) (x .taken) (s .pre .5) (x .j) _ refl (s .pre .6) in
     omega (arith, h)
 
 legal-at-requires : tie.Need-legal-at-requires
@@ -36,10 +36,11 @@ try-into-requires c κs =
       s .pre .1,
       s .pre .2,
       subst⁻¹ (λ (p : Place). LegalLeft (x .m) p (x .taken)) (c .before .left-place .ensures)
-          (lone-left (x .m) (x .first .now) (x .second .now) (x .k) _ (s .pre .2) (s .pre .3) (x .taken) (s .pre .4) (x .j) _
+          (lone-left (x .m) (x .first .now) (x .second .now) (x .k) _ (s .pre .2) (s .pre .4) (x .taken) (s .pre .5) (x .j) _
           (told-legal (loneOf (x .m) (x .taken)) (x .j) _ _ (c .before .before .before .standing .given .1)
-          (lone-standing (x .m) (x .first .now) (x .second .now) (x .k) _ (s .pre .2) (s .pre .3) (x .taken) (s .pre .4) (x .j)
-          _ refl (s .pre .5) _ (c .before .before .before .before .before .legal-at .result) (c .before .before .before .before .before .before .lone-men .ensures) (c .before .before .before .before .before .legal-at .ensures)))),
+          (lone-standing (x .m) (x .first .now) (x .second .now) (x .k) _ (s .pre .2) (s .pre .4) (x .taken) (s .pre .5) (x .j)
+          _ refl (s .pre .6) _ (c .before .before .before .before .before .legal-at .result) (c .before .before .before .before .before .before .lone-men .ensures) (c .before .before .before .before .before .legal-at .ensures)))),
+      s .pre .3,
     )
 
 enum-told : tie.Need-enum-told
@@ -52,11 +53,11 @@ returns : tie.Need-returns
 returns c =
     let s = c .before .before .before .before .before .before .before .before .before .before .before .before .before in
     let x = s .args in
-    lone-tried (x .m) (x .first .now) (x .second .now) (x .k) _ (s .pre .2) (s .pre .3) (x .taken) (s .pre .4) (x .j) _
+    lone-tried (x .m) (x .first .now) (x .second .now) (x .k) _ (s .pre .2) (s .pre .4) (x .taken) (s .pre .5) (x .j) _
     (told-legal (loneOf (x .m) (x .taken)) (x .j) _ _ (c .before .before .before .before .before .before .standing .given .1)
-    (lone-standing (x .m) (x .first .now) (x .second .now) (x .k) _ (s .pre .2) (s .pre .3) (x .taken) (s .pre .4) (x .j) _ refl (s .pre .5) _ (c .before .before .before .before .before .before .before .before .legal-at .result) (c .before .before .before .before .before .before .before .before .before .lone-men .ensures) (c .before .before .before .before .before .before .before .before .legal-at .ensures)))
-    (lone-in (x .m) (x .first .now) (x .second .now) (x .k) _ (s .pre .2) (s .pre .3) (x .taken) (s .pre .4) (x .j) _ refl (s .pre .5))
-    (s .pre .6) _ _
+    (lone-standing (x .m) (x .first .now) (x .second .now) (x .k) _ (s .pre .2) (s .pre .4) (x .taken) (s .pre .5) (x .j) _ refl (s .pre .6) _ (c .before .before .before .before .before .before .before .before .legal-at .result) (c .before .before .before .before .before .before .before .before .before .lone-men .ensures) (c .before .before .before .before .before .before .before .before .legal-at .ensures)))
+    (lone-in (x .m) (x .first .now) (x .second .now) (x .k) _ (s .pre .2) (s .pre .4) (x .taken) (s .pre .5) (x .j) _ refl (s .pre .6))
+    (s .pre .7) _ _
     (into-at (x .m) (x .first .now) (x .second .now) (x .k) _ _ _ _ _ (c .before .before .before .before .left-place .ensures)
     (c .before .before .try-into .ensures))
 
@@ -64,9 +65,9 @@ returns-2 : tie.Need-returns-2
 returns-2 c =
     let s = c .before .before .before .before .before .before .before in
     let x = s .args in
-    lone-nothing (x .m) (x .first .now) (x .second .now) (x .k) _ (s .pre .2) (s .pre .3) (x .taken) (s .pre .4) (x .j)
+    lone-nothing (x .m) (x .first .now) (x .second .now) (x .k) _ (s .pre .2) (s .pre .4) (x .taken) (s .pre .5) (x .j)
     (told-nothing (loneOf (x .m) (x .taken)) (x .j) _ (c .enum-told .given .1)
-    (lone-standing (x .m) (x .first .now) (x .second .now) (x .k) _ (s .pre .2) (s .pre .3) (x .taken) (s .pre .4) (x .j) _ refl (s .pre .5) _ (c .before .before .legal-at .result) (c .before .before .before .lone-men .ensures) (c .before .before .legal-at .ensures)))
+    (lone-standing (x .m) (x .first .now) (x .second .now) (x .k) _ (s .pre .2) (s .pre .4) (x .taken) (s .pre .5) (x .j) _ refl (s .pre .6) _ (c .before .before .legal-at .result) (c .before .before .before .lone-men .ensures) (c .before .before .legal-at .ensures)))
 
 pub try-lone-spec : {M : Type 1} → statement M
 try-lone-spec =

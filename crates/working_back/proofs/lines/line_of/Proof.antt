@@ -4,9 +4,6 @@ use Rattle.working_back.specs.laws.Lines.{unexchanged, plain-lined}
 use Rattle.working_back.proofs.lines.line_of.Statement.{statement}
 use Rattle.working_back.proofs.lines.line_of.Tie as tie
 
-frame-for-requires : tie.Need-frame-for-requires
-frame-for-requires c κs = tt
-
 alike-requires : tie.Need-alike-requires
 alike-requires c κs = tt
 
@@ -15,7 +12,7 @@ no-line-requires c κs = tt
 
 returns : tie.Need-returns
 returns c =
-    let x = c .before .before .before .before .before .args in
+    let x = c .before .before .before .before .args in
     let w = c .no-line .ensures (x .m) (x .q) (x .taken) (x .to) in
     (λ e. w .0, λ e. w .1)
 
@@ -27,15 +24,14 @@ scale-of-requires c κs = tt
 
 returns-2 : tie.Need-returns-2
 returns-2 c =
-    let x = c .before .before .before .before .before .before .args in
-    let p = c .before .before .before .before .before .before .pre in
-    let f = c .before .before .before .before .before .frame-for in
+    let x = c .before .before .before .before .before .args in
+    let p = c .before .before .before .before .before .pre in
     let a = c .before .before .before .alike in
-    let n = unexchanged (f .result .exchange) (a .result) (c .before .before .if1 .left) in
-    plain-lined (x .m) (x .q) (x .taken) (x .to) (x .side) (p .0) (p .1) (f .result) (f .ensures (p .0 .white) (p .0 .black)) (n .0)
-    (sym (a .ensures) ∙ n .1) _ _ (c .before .base-of .ensures .0) (c .before .base-of .ensures .1) (c .scale-of .ensures) _ refl
+    let n = unexchanged (x .f .exchange) (a .result) (c .before .before .if1 .left) in
+    plain-lined (x .m) (x .q) (x .taken) (x .to) (p .0) (p .1) (x .f) (n .0) (sym (a .ensures) ∙ n .1) _ _ (c .before .base-of .ensures .0)
+    (c .before .base-of .ensures .1) (c .scale-of .ensures) _ refl
 
 pub line-of-spec : {M : Type 1} → statement M
 line-of-spec =
     tie.close
-    (tie.spec frame-for-requires alike-requires no-line-requires returns base-of-requires scale-of-requires returns-2)
+    (tie.spec alike-requires no-line-requires returns base-of-requires scale-of-requires returns-2)

@@ -8,6 +8,7 @@ use lib.ListN.{length}
 use Rattle.finite.specs.Truth.{or-right}
 use Rattle.board.specs.Sets.{has, members}
 use Rattle.board.specs.laws.LowestLaws.{lowest-of}
+use Rattle.retracting.specs.laws.Stepping.{leads-goes}
 use Rattle.working_back.specs.laws.Admitted.{admitted-kept}
 use Rattle.working_back.specs.laws.Sources.{Taken, taken-start, taken-turn, taken-spared, taken-end, fewer-left, lowest-in}
 use Rattle.working_back.specs.laws.Saved.{rest-in}
@@ -45,7 +46,7 @@ lose-number-requires c κs =
     let l = c .before .before .before .before .loop in
     let z = lowest-in (l .rest) (c .before .before .lowest .result) (l .inv .0) (c .before .before .before .loop-test .taken) (c .before .before .lowest .ensures) in
     let w = p .3 .sound (c .before .before .lowest .result) (z .0) (l .inv .1 (c .before .before .lowest .result) (z .0) (z .1)) in
-    (p .0, p .1, admitted-kept _ _ _ _ (p .2) _ (l .inv .2 .0 .long), w, p .4, p .5, p .7, c .before .before .before .before .before .ground-of .ensures _, c .before .number-before .ensures w (p .6))
+    (p .0, p .1, admitted-kept _ _ _ _ (p .2) _ (l .inv .2 .0 .long), w, p .4, p .5, p .7, c .before .before .before .before .before .ground-of .ensures _, c .before .number-before .ensures (leads-goes _ _ _ _ _ (p .4) w) (p .6))
 
 add-settled : tie.Need-add-settled Inv-loop μ-loop
 add-settled c = omega (arith, c .before .before .before .before .before .before .before .before .loop .inv .2 .0 .few, c .before .before .before .lose-number .ensures .0 .0 .few)
@@ -87,7 +88,7 @@ returns c =
     let x = c .before .before .before .before .before .before .args in
     let l = c .before .loop in
     taken-end (x .m) (x .first .now) (x .second .now) (x .k) (x .q) (x .taken) (x .to) _ (c .before .before .before .before .before .before .pre .2) _ _ (l .rest) (l .settled)
-    (c .loop-test .left) (l .inv .2) (c .before .before .before .before .before .before .pre .3)
+    (c .loop-test .left) (l .inv .2) (c .before .before .before .before .before .before .pre .3 .all)
 
 pub lose-each-spec : {M : Type 1} → statement M
 lose-each-spec =

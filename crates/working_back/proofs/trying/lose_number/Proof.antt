@@ -10,7 +10,7 @@ returns : tie.Need-returns
 returns c =
     let x = c .before .before .before .before .args in
     let p = c .before .before .before .before .pre in (
-      tried-out (x .m) (placeBefore (x .q) (x .taken) (x .s) (x .to)) (x .q) (x .s) (x .to) (p .3) (x .first .now) (x .second .now) (x .k) _ (p .2) (x .n) (p .8) (c .if1 .taken),
+      tried-out (x .m) (placeBefore (x .q) (x .taken) (x .s) (x .to)) (x .q) (x .first .now) (x .second .now) (x .k) _ (p .2) (x .n) (p .8) (c .if1 .taken),
       unsettled-none (x .m) (x .first .now) (x .second .now) (x .k) (x .q) (x .taken) (x .to) _,
     )
 
@@ -21,7 +21,7 @@ returns-2 : tie.Need-returns-2
 returns-2 c =
     let x = c .before .before .before .before .before .before .args in
     let p = c .before .before .before .before .before .before .pre in (
-      tried-other (x .m) (placeBefore (x .q) (x .taken) (x .s) (x .to)) (x .q) (x .s) (x .to) (p .3) (x .first .now) (x .second .now) (x .k) _ (p .2) (x .n) (p .8) (c .if2 .taken),
+      tried-other (x .m) (placeBefore (x .q) (x .taken) (x .s) (x .to)) (x .q) (x .first .now) (x .second .now) (x .k) _ (p .2) (x .n) (p .8) (c .if2 .taken),
       unsettled-none (x .m) (x .first .now) (x .second .now) (x .k) (x .q) (x .taken) (x .to) _,
     )
 

@@ -9,8 +9,8 @@ use Rattle.board.specs.Sets.{has, members}
 use Rattle.board.specs.laws.LowestLaws.{lowest-of}
 use Rattle.working_back.specs.laws.Admitted.{admitted-kept}
 use Rattle.working_back.specs.laws.Sources.{Taken, taken-start, taken-turn, taken-end, lowest-in}
-use Rattle.working_back.proofs.trying.win_each.Statement.{statement}
-use Rattle.working_back.proofs.trying.win_each.Tie as tie
+use Rattle.working_back.proofs.winning.win_each.Statement.{statement}
+use Rattle.working_back.proofs.winning.win_each.Tie as tie
 
 abbrev Inv-loop : tie.InvT-loop
 Inv-loop m k q taken to line squares first second table₀ settled₀ rest₀ table settled rest = (rest < 2 ^ 64)
@@ -73,7 +73,7 @@ returns c =
     let x = c .before .before .before .before .before .args in
     let l = c .before .loop in
     taken-end (x .m) (x .first .now) (x .second .now) (x .k) (x .q) (x .taken) (x .to) _ (c .before .before .before .before .before .pre .2) _ _ (l .rest) (l .settled)
-    (c .loop-test .left) (l .inv .2) (c .before .before .before .before .before .pre .3)
+    (c .loop-test .left) (l .inv .2) (c .before .before .before .before .before .pre .3 .all)
 
 pub win-each-spec : {M : Type 1} → statement M
 win-each-spec =
