@@ -16,7 +16,7 @@ use slips::{Slip, answer_slip, placed_slip};
 const NONE: u8 = 4;
 
 // The slip of a line, and the man whose table is held afterwards.
-#[derive(Drop)]
+#[derive(Clone, Copy)]
 pub struct Reply {
     pub slip: Slip,
     pub held: u8,

@@ -2,14 +2,14 @@
 use rules::Move;
 
 // The move of an answer; none for mate and stalemate.
-#[derive(Drop)]
+#[derive(Clone, Copy)]
 pub enum BestMove {
     Play(Move),
     NoMove,
 }
 
 // What look-up says of the side to move: a depth in plies with a win or a loss.
-#[derive(Drop)]
+#[derive(Clone, Copy)]
 pub enum Answer {
     Win(u8, BestMove),
     Loss(u8, BestMove),
@@ -18,7 +18,7 @@ pub enum Answer {
 }
 
 // What checking says: accepted, the lowest wrong number, or a refusal.
-#[derive(Drop)]
+#[derive(Clone, Copy)]
 pub enum Checked {
     Accepted,
     Wrong(u32),
@@ -26,7 +26,7 @@ pub enum Checked {
 }
 
 // What filling says: the greatest depth, that no position is decided, or a refusal.
-#[derive(Drop)]
+#[derive(Clone, Copy)]
 pub enum Filled {
     Greatest(u8),
     NoneDecided,

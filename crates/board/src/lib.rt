@@ -11,7 +11,7 @@ pub use steps::step_to;
 pub use walks::{attacks, walk};
 
 // What a walk meets first: another piece, at a square, or the edge.
-#[derive(Drop)]
+#[derive(Clone, Copy)]
 pub enum Met {
     At(u8),
     Edge,

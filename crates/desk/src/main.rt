@@ -4,7 +4,7 @@ use libc::{STDIN_FILENO, STDOUT_FILENO};
 use stream::State;
 
 // What the desk keeps from one read to the next, and whether there is more to do.
-#[derive(Drop)]
+#[derive(Clone, Copy)]
 struct Desk {
     state: State,
     is_open: bool,

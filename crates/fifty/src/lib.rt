@@ -10,7 +10,7 @@ use position::{Position, Slot};
 pub const TOO_MANY_QUIET: u8 = 19;
 
 // Look-up's answer at a count, and whether it is marked "within fifty".
-#[derive(Drop)]
+#[derive(Clone, Copy)]
 pub struct Marked {
     pub answer: Answer,
     pub within_fifty: bool,

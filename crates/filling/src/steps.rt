@@ -25,14 +25,14 @@ pub const DONE: u8 = 1;
 pub const GAVE_TEN: u8 = 2;
 
 // What a call says: how many numbers it settled, filling going on; or how filling ends, or a refusal.
-#[derive(Drop)]
+#[derive(Clone, Copy)]
 pub enum Stepped {
     Settled(u32),
     Says(Filled),
 }
 
 // What a call hands back.
-#[derive(Drop)]
+#[derive(Clone, Copy)]
 pub struct Step {
     pub said: Stepped,
     pub progress: Progress,

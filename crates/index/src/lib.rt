@@ -34,14 +34,14 @@ pub const HALF: usize = PAIR_COUNT as usize * 64;
 pub const TABLE_SIZE: usize = 2 * HALF;
 
 // The men of a position in standard order and colours, and where they then stand.
-#[derive(Drop)]
+#[derive(Clone, Copy)]
 pub struct Arranged {
     pub men: Men,
     pub place: Place,
 }
 
 // What all pieces but one, who stand still, fix of the number: for each of its squares.
-#[derive(Drop)]
+#[derive(Clone, Copy)]
 pub struct Still {
     // There is no second man; both are alike.
     pub single: bool,
@@ -54,7 +54,7 @@ pub struct Still {
 }
 
 // The men, the normal place of a position's class, and the map that leads to it.
-#[derive(Drop)]
+#[derive(Clone, Copy)]
 pub struct NormalPlace {
     pub men: Men,
     pub place: Place,
@@ -62,14 +62,14 @@ pub struct NormalPlace {
 }
 
 // A number, or the refusal.
-#[derive(Drop)]
+#[derive(Clone, Copy)]
 pub enum NumberAnswer {
     Number(u32),
     Refused(u8),
 }
 
 // The position of a number, or the refusal.
-#[derive(Drop)]
+#[derive(Clone, Copy)]
 pub enum Placed {
     At(Position),
     Refused(u8),

@@ -12,7 +12,7 @@ use shape::shaped;
 
 // What a line asks: to look a position up, or for the position of a man's number; or its refusal. A wrong byte in a position's part puts it out of
 // range, and the position is refused with it.
-#[derive(Drop)]
+#[derive(Clone, Copy)]
 pub enum Request {
     LookUp(Position),
     Back(u8, u32),

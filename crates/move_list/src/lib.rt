@@ -14,20 +14,20 @@ pub use promoting::promoting_set;
 pub const ROOM: usize = 62;
 
 // The moves, in order; the places from `count` on hold zero.
-#[derive(Drop)]
+#[derive(Clone, Copy)]
 pub struct MoveList {
     pub moves: [Move; ROOM],
     pub count: u8,
 }
 
 // Refusal 0 and the moves, or a refusal from 1 to 6 and a list that is all zero.
-#[derive(Drop)]
+#[derive(Clone, Copy)]
 pub struct Listed {
     pub refusal: u8,
     pub list: MoveList,
 }
 
-#[derive(Drop)]
+#[derive(Clone, Copy)]
 pub enum Counted {
     Count(u8),
     Refused(u8),

@@ -9,7 +9,7 @@ pub use reaching::{king_targets, reach_of};
 
 // The legal targets of the side to move's king, and of an ending's men: none for a man of the other side, or one not
 // there.
-#[derive(Drop)]
+#[derive(Clone, Copy)]
 pub struct Reach {
     pub king: u64,
     pub first: u64,

@@ -1,6 +1,6 @@
 // The material of an ending: one man, by his kind; two, by the first's kind and the second's, and whether they are one
 // each; or a pawn.
-#[derive(Drop)]
+#[derive(Clone, Copy)]
 pub enum Material {
     One(u8),
     Two(u8, u8, bool),

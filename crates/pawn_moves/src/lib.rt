@@ -16,7 +16,7 @@ const PAWN: u8 = 4;
 
 // A byte against those of the successors: one refutes it; or none does, and this is the first move that suits it; or
 // none suits.
-#[derive(Drop)]
+#[derive(Clone, Copy)]
 pub enum Weighed {
     Refuted,
     Met(Move),

@@ -9,7 +9,7 @@ pub use numbers::{is_pawn_used, pawn_key, pawn_number_at, pawn_place_at, pawn_us
 pub const PAWN_SIZE: usize = 196608;
 
 // The side to move, the kings' squares, and a white pawn's.
-#[derive(Drop)]
+#[derive(Clone, Copy)]
 pub struct PawnPlace {
     pub side: u8,
     pub white: u8,
@@ -19,7 +19,7 @@ pub struct PawnPlace {
 
 // The normal place of a position, and the flip that makes it: the files reversed, the colours exchanged and the ranks
 // turned round, each or not.
-#[derive(Drop)]
+#[derive(Clone, Copy)]
 pub struct PawnNormal {
     pub place: PawnPlace,
     pub files: bool,

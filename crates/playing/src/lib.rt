@@ -11,7 +11,7 @@ use position_moves::legal_targets;
 use promoting::{is_named, make_as};
 
 // The position after the move; or the move is not legal; or a refusal from 1 to 6, or 18, of the position before it.
-#[derive(Drop)]
+#[derive(Clone, Copy)]
 pub enum Played {
     At(Position),
     NotLegal,

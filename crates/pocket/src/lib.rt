@@ -9,14 +9,14 @@ pub use packer::pack;
 pub use reader::look_up;
 
 // What packing says: done, or a refusal.
-#[derive(Drop)]
+#[derive(Clone, Copy)]
 pub enum Packed {
     Done,
     Refused(u8),
 }
 
 // What the pocket look-up says of the side to move, with no depth and no move.
-#[derive(Drop)]
+#[derive(Clone, Copy)]
 pub enum PocketAnswer {
     Win,
     Loss,
@@ -25,7 +25,7 @@ pub enum PocketAnswer {
 }
 
 // How many numbers have each of the four entries: byte 0, a draw, a win, a loss.
-#[derive(Drop)]
+#[derive(Clone, Copy)]
 pub struct Tallies {
     pub none: u16,
     pub draws: u16,
@@ -34,7 +34,7 @@ pub struct Tallies {
 }
 
 // What tallying says: the four tallies, or a refusal.
-#[derive(Drop)]
+#[derive(Clone, Copy)]
 pub enum Tallied {
     Counted(Tallies),
     Refused(u8),

@@ -53,14 +53,14 @@ pub const TOO_MANY_PLIES: u8 = 16;
 pub const BAD_PAWN: u8 = 18;
 
 // Room for a piece besides the kings.
-#[derive(Drop)]
+#[derive(Clone, Copy)]
 pub enum Slot {
     Absent,
     Present(Piece),
 }
 
 // The side to move, the kings' squares, and up to two men. As keyed: any bytes may come in.
-#[derive(Drop)]
+#[derive(Clone, Copy)]
 pub struct Position {
     pub side: u8,
     pub white_king: u8,
@@ -71,7 +71,7 @@ pub struct Position {
 
 // The men of an ending, fixed for a table: the first's kind, who is White's; the second's kind, 4 where there is none,
 // and colour.
-#[derive(Drop)]
+#[derive(Clone, Copy)]
 pub struct Men {
     pub first: u8,
     pub second: u8,
@@ -79,7 +79,7 @@ pub struct Men {
 }
 
 // Where an ending's pieces stand: five bytes, 64 for a man who has been taken or is not there.
-#[derive(Drop)]
+#[derive(Clone, Copy)]
 pub struct Place {
     pub side: u8,
     pub white: u8,
@@ -89,7 +89,7 @@ pub struct Place {
 }
 
 // One of the board's eight maps: the files reversed, the ranks reversed, then file and rank exchanged, each or not.
-#[derive(Drop)]
+#[derive(Clone, Copy)]
 pub struct Map {
     pub files: bool,
     pub ranks: bool,
@@ -97,14 +97,14 @@ pub struct Map {
 }
 
 // The normal position of a class, and the map that makes a position of it into that.
-#[derive(Drop)]
+#[derive(Clone, Copy)]
 pub struct Normal {
     pub position: Position,
     pub via: Map,
 }
 
 // A position's kings and men, each as a piece; an absent one stands off the board and has no steps.
-#[derive(Drop)]
+#[derive(Clone, Copy)]
 pub struct Pieces {
     pub white: Piece,
     pub black: Piece,

@@ -9,7 +9,7 @@ pub use targets::{legal_targets, taking_set};
 
 // The squares of the side to move's pieces, the legal targets of its king and of each man (none for a man of the other
 // side, or one not there), and whether it attacks the other king.
-#[derive(Drop)]
+#[derive(Clone, Copy)]
 pub struct Movers {
     pub own: u64,
     pub king: u64,

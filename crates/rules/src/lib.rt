@@ -7,7 +7,7 @@ ghost use Rattle.rules.specs.Rules.{move_of, promotion_of};
 pub use pawn::{pawn_goes, pawn_hits};
 
 // A piece on a square. Kinds: queen 0, rook 1, bishop 2, knight 3, pawn 4, king 5. Colours: White 0, Black 1.
-#[derive(Drop)]
+#[derive(Clone, Copy)]
 pub struct Piece {
     pub kind: u8,
     pub colour: u8,
@@ -16,7 +16,7 @@ pub struct Piece {
 
 // A move of the piece on a square to another square, whether it takes a piece there, and what a pawn becomes there: 0
 // nothing, or 1 and the kind.
-#[derive(Drop)]
+#[derive(Clone, Copy)]
 pub struct Move {
     pub from: u8,
     pub to: u8,

@@ -8,7 +8,7 @@ pub use second::second_opinion;
 pub use within::{lost_within, won_within};
 
 // What the search says of the side to move: a win or a loss in exactly so many plies, neither within those asked, or a refusal.
-#[derive(Drop)]
+#[derive(Clone, Copy)]
 pub enum Opinion {
     Win(u8),
     Loss(u8),

@@ -1,7 +1,7 @@
 // What the writer and the reader of a set of tables are asked and answer.
 
 // Which endings a set is to hold: a yes or no for each material code.
-#[derive(Drop)]
+#[derive(Clone, Copy)]
 pub struct Choice {
     pub queen: bool,
     pub rook: bool,
@@ -10,14 +10,14 @@ pub struct Choice {
 }
 
 // Where an ending's table starts in a set, or a refusal.
-#[derive(Drop)]
+#[derive(Clone, Copy)]
 pub enum Found {
     At(u32),
     Refused(u8),
 }
 
 // What writing a set says.
-#[derive(Drop)]
+#[derive(Clone, Copy)]
 pub enum Written {
     Done,
     Refused(u8),

@@ -11,7 +11,7 @@ use position::{Position, man_in};
 use writing::{blank, with_byte, with_number, with_square, with_text};
 
 // The line is the first `len` bytes; the rest are zero.
-#[derive(Drop)]
+#[derive(Clone, Copy)]
 pub struct Slip {
     pub bytes: [u8; 16],
     pub len: u8,

@@ -8,7 +8,7 @@ use slips::Slip;
 
 // What is kept from byte to byte: the unfinished line, the man whose table is held, and how much of the output waits.
 // Of a line the first 13 bytes are kept: any longer one has another length too.
-#[derive(Drop)]
+#[derive(Clone, Copy)]
 pub struct State {
     pub line: [u8; 13],
     pub len: u8,

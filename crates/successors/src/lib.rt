@@ -26,28 +26,28 @@ pub use numbers::{is_legal_number, legal_at};
 pub use verdicts::{requires_byte, requires_depth, verdict_on};
 
 // What stands at a number: a legal position, or nothing that is one.
-#[derive(Drop)]
+#[derive(Clone, Copy)]
 pub enum Standing {
     Legal(Place),
     Nothing,
 }
 
 // A byte compared with the successors by one piece's moves: one refutes it, or the targets whose bytes suit.
-#[derive(Drop)]
+#[derive(Clone, Copy)]
 pub enum Sifted {
     Refuted,
     Suited(u64),
 }
 
 // A byte compared with all successors: one refutes it, or the suiting targets of each piece.
-#[derive(Drop)]
+#[derive(Clone, Copy)]
 pub enum Judged {
     Refuted,
     Found(Reach),
 }
 
 // What the kings and the side to move fix of a number, whatever squares the men stand on.
-#[derive(Drop)]
+#[derive(Clone, Copy)]
 pub struct Frame {
     // side x 462 + pair
     pub kings: u32,
@@ -58,7 +58,7 @@ pub struct Frame {
 }
 
 // The first suiting move, by its squares; 64 twice where none suits. Whether it takes is asked once, of the one given.
-#[derive(Drop)]
+#[derive(Clone, Copy)]
 pub struct Seen {
     pub from: u8,
     pub to: u8,
@@ -66,7 +66,7 @@ pub struct Seen {
 
 // A byte weighed against all successors: one refutes it; none suits, though there are moves; there is no move; or the
 // first move that suits.
-#[derive(Drop)]
+#[derive(Clone, Copy)]
 pub enum Weighed {
     Refuted,
     Unmet,
@@ -75,7 +75,7 @@ pub enum Weighed {
 }
 
 // The verdict on a byte: it is not the one required; or it is, with the move that it advises.
-#[derive(Drop)]
+#[derive(Clone, Copy)]
 pub enum Verdict {
     Wrong,
     Right(BestMove),

@@ -3,7 +3,7 @@ use position::{Position, Slot};
 use rules::Piece;
 
 // The numbers of a line so far, and which of them comes next; the last of them whole; whether a byte has come.
-#[derive(Drop)]
+#[derive(Clone, Copy)]
 pub struct Line {
     pub numbers: [u8; 9],
     pub at: u8,

@@ -6,7 +6,7 @@ use position::{Position, man_in};
 use std::num::wrapping_add_u32;
 
 // The used numbers of each side, the unused ones, a checksum of the positions and one of their numbers.
-#[derive(Drop)]
+#[derive(Clone, Copy)]
 struct Tally {
     white: u32,
     black: u32,

@@ -6,7 +6,7 @@ use check_digits::seven_bytes;
 use index::{Placed, position_of};
 
 // A number's seven digits as bytes, refusal 0; or the refusal, with seven zero bytes.
-#[derive(Drop)]
+#[derive(Clone, Copy)]
 pub struct Written {
     pub refusal: u8,
     pub digits: [u8; 7],

@@ -37,7 +37,7 @@ fn struck(m: Men, white: u8, x: u8, y: u8, to: u8) -> u64
 }
 
 // Whether a number was settled, 1 or 0, and what is known then.
-#[derive(Drop)]
+#[derive(Clone, Copy)]
 struct Lost {
     settled: u32,
     saving: u64,

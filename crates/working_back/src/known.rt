@@ -22,7 +22,7 @@ pub fn byte_of(table: &[u8], n: usize) -> u8
 }
 
 // What is known of the squares that he may go to while White's pieces stand still: those that save him, and those that do not.
-#[derive(Drop)]
+#[derive(Clone, Copy)]
 pub struct Seen {
     pub saved: bool,
     pub saving: u64,

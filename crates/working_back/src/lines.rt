@@ -10,7 +10,7 @@ use retracting::again;
 use successors::{Frame, base_of_first, base_of_one, base_of_second};
 
 // A piece's squares: their numbers lie at equal steps from a base, or each is made where that is not plain.
-#[derive(Drop)]
+#[derive(Clone, Copy)]
 pub struct Line {
     pub plain: bool,
     pub base: usize,

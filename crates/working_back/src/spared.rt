@@ -23,7 +23,7 @@ const KING: u8 = 5;
 
 // What stands still while a piece is put back, and the squares that are not looked at: it takes nothing, a king does not go next to the other, and where
 // it went is known.
-#[derive(Drop)]
+#[derive(Clone, Copy)]
 pub struct Ground {
     pub stood: u64,
     pub shut: u64,
@@ -58,7 +58,7 @@ fn number_after(m: Men, o: Place, s: u8, t: u8, line: Line) -> usize
 }
 
 // A square that spares the loss, 64 if none does, and the squares read so far that do not.
-#[derive(Drop)]
+#[derive(Clone, Copy)]
 pub struct Saviour {
     pub square: u8,
     pub seen: u64,

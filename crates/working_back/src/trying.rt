@@ -53,7 +53,7 @@ pub fn number_before(m: Men, q: Place, taken: u8, s: u8, to: u8, line: Line) -> 
 }
 
 // How many numbers were settled, 1 or 0, the squares from which nothing is settled besides, and the piece's squares that are known not to spare its side.
-#[derive(Drop)]
+#[derive(Clone, Copy)]
 struct Told {
     settled: u32,
     spared: u64,
