@@ -1,4 +1,6 @@
 // One line to its slip, over a held table.
+#![tactic(auto)]
+
 ghost use Rattle.std.specs.Prelude.{◌≡◌};
 ghost use Rattle.position.specs.Keyed.{man_kind};
 ghost use Rattle.adjudication.specs.Reply.{Gives, look_up_reply, filled_reply};

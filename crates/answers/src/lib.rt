@@ -1,4 +1,6 @@
 // What checking, filling and looking up answer.
+#![tactic(auto)]
+
 use rules::Move;
 
 // The move of an answer; none for mate and stalemate.

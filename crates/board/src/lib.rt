@@ -1,4 +1,6 @@
 // Squares, the lines along which pieces attack, and sets of squares.
+#![tactic(auto)]
+
 mod empty_board;
 mod lines;
 mod sets;

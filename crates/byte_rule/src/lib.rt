@@ -1,4 +1,6 @@
 // The table's rule, a byte at a time. A byte: 0 and 1 a draw, 2 + n depth n, n odd a win and n even a loss for the side to move.
+#![tactic(auto)]
+
 ghost use Rattle.std.specs.Prelude.{◌≡◌};
 ghost use Rattle.theory.specs.Required.{winning};
 ghost use Rattle.theory.specs.Verdict.{spoils as spoils_of};

@@ -1,4 +1,6 @@
 // Two check digits after a number's five (ISO 7064 MOD 97-10): the test, the check of a number, and a number's digits with its check.
+#![tactic(auto)]
+
 ghost use Rattle.std.specs.Prelude.{◌≡◌, ◌+◌, ◌%◌};
 ghost use Rattle.check_digits.specs.Check.{right_number, check_after, with_check, digit_bytes};
 

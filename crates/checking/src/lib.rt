@@ -1,4 +1,6 @@
 // Checking a table: every byte must be the one that its successors' bytes require.
+#![tactic(auto)]
+
 mod checker;
 mod numbers;
 

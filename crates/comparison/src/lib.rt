@@ -1,5 +1,7 @@
 // A fill for comparison alone, as C calls it: every position is tried at every depth. The library has quicker ones with
 // the same promise.
+#![tactic(auto)]
+
 ghost use Rattle.std.specs.Prelude.{◌≡◌};
 ghost use Rattle.four_men.specs.Lending.{lent};
 ghost use Rattle.four_men.specs.Answers.{fill_with};

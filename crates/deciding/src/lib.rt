@@ -1,5 +1,7 @@
 // Whether a byte is the one required, whatever the ending: of pieces, or king and pawn. The pawn's men are 4 and 4, its
 // square the place's first; the four tables it borrows lie one after the other in `first`.
+#![tactic(auto)]
+
 mod numbers;
 mod pawn;
 mod row_sets;

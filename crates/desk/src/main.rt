@@ -1,4 +1,6 @@
 // The desk: answers standard input line by line on standard output. Here it reads and writes; cutting into lines and answering is proved in the crate stream.
+#![tactic(auto)]
+
 use index::TABLE_SIZE;
 use libc::{STDIN_FILENO, STDOUT_FILENO};
 use stream::State;

@@ -1,5 +1,7 @@
 // An answer at the plies since the last capture: whether a win or a loss comes before a fifty-move claim (02, P13). Looking up
 // with them is a crate above, so that what is asked of them waits for no look-up.
+#![tactic(auto)]
+
 ghost use Rattle.std.specs.Prelude.{◌≡◌, ◌+◌, leb};
 ghost use Rattle.fifty.specs.Marks.{marks, is_refused, at_count, pawnless, slot_free, marked_for};
 

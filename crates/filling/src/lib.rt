@@ -1,5 +1,7 @@
 // Filling a table by passes over the numbers that are not settled yet, at once or in steps; one man or two, captures
 // read in lent tables.
+#![tactic(auto)]
+
 mod bytes;
 mod deepest;
 mod fill_table;

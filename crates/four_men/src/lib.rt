@@ -1,4 +1,6 @@
 // What every part for one man and for two asks: whether the lent lengths fit, and which ending some men are.
+#![tactic(auto)]
+
 ghost use Rattle.std.specs.Prelude.{◌≡◌};
 ghost use Rattle.position.specs.Posed.{material_for};
 ghost use Rattle.four_men.specs.Lending.{lent};

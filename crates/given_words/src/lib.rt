@@ -1,4 +1,6 @@
 // The words that a position and an ending are given in (include/sledgewren.h).
+#![tactic(auto)]
+
 mod ending_words;
 mod men;
 

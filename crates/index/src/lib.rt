@@ -1,4 +1,6 @@
 // The number of a position, and the position of a number.
+#![tactic(auto)]
+
 use numbering::Material;
 use pairs::PAIR_COUNT;
 use position::{Map, Men, Place, Position, Slot};

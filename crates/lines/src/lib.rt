@@ -1,4 +1,6 @@
 // The request of one input line.
+#![tactic(auto)]
+
 mod fields;
 mod shape;
 

@@ -1,4 +1,6 @@
 // Looking a position up in its ending's table: of one man, of two, or of king and pawn.
+#![tactic(auto)]
+
 ghost use Rattle.std.specs.Prelude.{◌≡◌};
 ghost use Rattle.symmetry.specs.Symmetry.{inverse};
 ghost use Rattle.position.specs.Keyed.{man_kind};

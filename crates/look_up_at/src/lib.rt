@@ -1,4 +1,6 @@
 // Looking a position up with the plies since the last capture (02, P13).
+#![tactic(auto)]
+
 ghost use Rattle.std.specs.Prelude.{◌≡◌};
 ghost use Rattle.four_men.specs.Lending.{lent};
 ghost use Rattle.fifty.specs.Marks.{look_up_at, look_up_at_with};

@@ -1,4 +1,6 @@
 // Moves written to lent bytes as they are found, with no list between.
+#![tactic(auto)]
+
 ghost use Rattle.std.specs.Prelude.{◌≡◌, ◌+◌, ◌*◌, ◌≤◌, ◌<◌, length};
 ghost use mathlib.Core.List.{[], ◌∷◌, map, flat_map};
 ghost use Rattle.std.proofs.lemmas.List.Edits.{sets};

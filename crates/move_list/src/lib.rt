@@ -1,4 +1,6 @@
 // The legal moves of a position as keyed: listed by from-square and then by target, and counted.
+#![tactic(auto)]
+
 use rules::Move;
 
 mod answers;

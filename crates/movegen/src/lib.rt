@@ -1,4 +1,6 @@
 // Moves on an ending's place: where a piece stands after one, and the legal targets of the side to move's pieces.
+#![tactic(auto)]
+
 mod places;
 mod reaching;
 

@@ -1,4 +1,6 @@
 // The pairs of kings packed in words.
+#![tactic(auto)]
+
 ghost use Rattle.std.specs.Prelude.{◌≡◌, get_or};
 ghost use Rattle.packed_pairs.specs.Packed.{four_pairs, eight_blacks};
 

@@ -1,4 +1,6 @@
 // The 462 pairs of kings, in rising order of white king's square, then black king's.
+#![tactic(auto)]
+
 mod back;
 mod forth;
 mod rows;

@@ -1,5 +1,7 @@
 // King and pawn on a place: the legal place at a number, the byte after each legal move, a byte weighed against all of
 // them, and the end of the game. The pawn is White's and the place's first man; there is no second.
+#![tactic(auto)]
+
 use rules::Move;
 
 mod ends;

@@ -1,4 +1,6 @@
 // The number of a board with one pawn, and the board of a number, on squares as bytes.
+#![tactic(auto)]
+
 mod flips;
 mod numbers;
 

@@ -1,4 +1,6 @@
 // A legal move played on a position as keyed.
+#![tactic(auto)]
+
 mod promoting;
 
 ghost use Rattle.std.specs.Prelude.{◌≡◌};

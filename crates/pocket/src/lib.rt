@@ -1,4 +1,6 @@
 // The pocket edition of a table: two bits a number, for won, drawn and lost only.
+#![tactic(auto)]
+
 mod counter;
 mod packer;
 mod reader;

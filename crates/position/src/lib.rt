@@ -1,4 +1,6 @@
 // A position as it is keyed, the refusals it may meet, and the position under the board's maps.
+#![tactic(auto)]
+
 ghost use Rattle.std.specs.Prelude.{◌≡◌, ◌-◌};
 ghost use Rattle.position.specs.Keyed.{man_in, one_man, lone as lone_of};
 

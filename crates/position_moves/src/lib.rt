@@ -1,4 +1,6 @@
 // Moves of a position as keyed: a move made, the legal targets of a piece, and where a move takes.
+#![tactic(auto)]
+
 mod in_position;
 mod making;
 mod targets;

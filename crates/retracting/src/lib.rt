@@ -1,4 +1,6 @@
 // Moves taken back: the legal positions of an ending that have a legal move into a position.
+#![tactic(auto)]
+
 mod places;
 mod steps;
 

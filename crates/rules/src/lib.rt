@@ -1,4 +1,6 @@
 // Pieces, moves, and a pawn's steps.
+#![tactic(auto)]
+
 mod pawn;
 
 ghost use Rattle.std.specs.Prelude.{◌≡◌};

@@ -1,4 +1,6 @@
 // A second opinion without tables: a plain search straight from the rules.
+#![tactic(auto)]
+
 mod checks;
 mod movers;
 mod second;

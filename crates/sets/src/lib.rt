@@ -1,4 +1,5 @@
 // What the writer and the reader of a set of tables are asked and answer.
+#![tactic(auto)]
 
 // Which endings a set is to hold: a yes or no for each material code.
 #[derive(Clone, Copy)]

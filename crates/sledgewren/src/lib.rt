@@ -1,5 +1,7 @@
 // The library's functions for C (include/sledgewren.h): each answer as one word. In all of them values come first,
 // then the lent bytes that are only read, then those that are written to.
+#![tactic(auto)]
+
 mod desk;
 mod lists;
 mod numbers;

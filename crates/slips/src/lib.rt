@@ -1,4 +1,6 @@
 // The output slip of an answer: the bytes of its line, with the newline.
+#![tactic(auto)]
+
 mod writing;
 
 ghost use Rattle.std.specs.Prelude.{◌≡◌, []};

@@ -1,4 +1,6 @@
 // Bytes as they come: cut into lines, answered, and the slips written after each other.
+#![tactic(auto)]
+
 ghost use Rattle.std.specs.Prelude.{◌≡◌, take};
 ghost use Rattle.adjudication.specs.TrueSlip.{LinePromise};
 ghost use Rattle.stream.specs.Keeping.{sheet, put, put_all, started, emptied, with_byte, kept, line_answered, byte_taken, all_taken, last_answered};

@@ -1,5 +1,7 @@
 // A byte of a table compared with those of a position's successors, for one man and for two: whether it is the one
 // required, and the move that it advises.
+#![tactic(auto)]
+
 use answers::BestMove;
 use movegen::Reach;
 use position::Place;

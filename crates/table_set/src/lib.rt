@@ -1,4 +1,6 @@
 // One set of bytes for the tables of several endings: its reader and its writer.
+#![tactic(auto)]
+
 mod header;
 mod reader;
 mod tables;

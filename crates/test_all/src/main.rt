@@ -1,5 +1,7 @@
 // All that is compared with the second program but the desk: tables, steps, pockets and sets, then the lines of standard input. One program, since each loads what
 // is proved below it anew.
+#![tactic(auto)]
+
 mod answering;
 mod bench_cases;
 mod checksum;

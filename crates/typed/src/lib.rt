@@ -1,4 +1,6 @@
 // A number written with its check, as a clerk types it.
+#![tactic(auto)]
+
 ghost use Rattle.std.specs.Prelude.{◌≡◌};
 ghost use Rattle.typed.specs.Writing.{written_of};
 

@@ -1,4 +1,6 @@
 // The word of each answer (include/sledgewren.h).
+#![tactic(auto)]
+
 mod played;
 mod version;
 

@@ -1,4 +1,6 @@
 // A pass that works back from the positions just settled, for pieces.
+#![tactic(auto)]
+
 mod back;
 mod bare;
 mod captures;

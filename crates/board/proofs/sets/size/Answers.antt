@@ -1,0 +1,5 @@
+use Rattle.board.specs.laws.LowestLaws.{ones-members}
+use Rattle.board.proofs.sets.size.Goals as goal
+
+pub returns : goal.returns
+returns c = ones-members c.args.set c.ranges.set.fits

@@ -1,0 +1,6 @@
+use borrow.Author.Rules.{rules}
+use Rattle.board.specs.laws.StepLaws.{step_is}
+use Rattle.board.proofs.steps.step_at.Goals as goal
+
+pub returns : goal.returns
+returns c = step_is c.args.k c.requires

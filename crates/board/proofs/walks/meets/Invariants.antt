@@ -1,0 +1,25 @@
+-- The directions left give what all give.
+use mathlib.Core.Path.{◌≡◌, refl, sym, ap, ◌∙◌}
+use mathlib.Core.Bool.{Bool, true, false}
+use mathlib.Core.Logic.{⊎_elim}
+use Prim.Native.Nat.{ℕ, ◌+◌, ◌-◌, ◌<◌}
+use borrow.Author.Rules.{rules}
+use borrow.Author.Tests.{eq-eqb, ne_eqb}
+use Rattle.finite.specs.Members.{any}
+use Rattle.finite.specs.Numbers.{numbers, any-end, any-first}
+use Rattle.board.specs.Sets.{has, set_of}
+use Rattle.board.specs.laws.SetLaws.{set-has}
+use Rattle.board.specs.Walk.{walk_of, met_at, with_target, meets_first}
+use Rattle.board.specs.laws.WalkLaws.{walk_same}
+use Rattle.board.specs.declared.Met.{Met}
+use Rattle.board.proofs.walks.meets.Given as goal
+
+-- a walk in one of the directions k up to end meets t first
+abbrev pub ways : ℕ → ℕ → ℕ → ℕ → ℕ → Bool
+ways occ from end t k = any (meets_first (has occ) from t) (numbers (end - k) k)
+
+abbrev pub invariant-loop-direction : goal.invariant-loop-direction
+invariant-loop-direction l = ways l.occ l.from l.end l.t l.first ≡ ways l.occ l.from l.end l.t l.direction
+
+abbrev pub decreases-loop-direction : goal.decreases-loop-direction
+decreases-loop-direction l = l.end - l.direction

@@ -1,0 +1,27 @@
+-- What is left of the walk, from the square come to, is what the whole gives.
+use mathlib.Core.Path.{◌≡◌, refl, sym, ap, ◌∙◌}
+use Prim.Native.Nat.{ℕ, ◌<◌}
+use native.Mathlib.Omega.{arith}
+use borrow.Author.Rules.{rules}
+use Rattle.board.specs.Reach.{stepped}
+use Rattle.board.specs.Sets.{has}
+use Rattle.board.specs.SetLaws.{bit}
+use Rattle.board.specs.laws.StepLaws.{step_small, is-stepped}
+use Rattle.board.specs.Walk.{walk_of}
+use Rattle.board.specs.laws.WalkLaws.{walk-off, walk-nowhere}
+use Rattle.board.specs.laws.WalkBits.{left, on-board, nearer, meets-edge, meets-piece, goes_on}
+use Rattle.board.specs.declared.Met.{Met}
+use Rattle.board.proofs.walks.walk.Given as goal
+
+-- at is the bit of a square from which the walk goes on
+pub record Walking (occ from direction at : ℕ) : Type 0 where
+  pub square : ℕ
+  pub on : square < 64
+  pub is : at ≡ bit square
+  pub rest : walk_of (has occ) from direction ≡ walk_of (has occ) square direction
+
+abbrev pub invariant-loop-at : goal.invariant-loop-at
+invariant-loop-at l = Walking l.occ l.from l.direction l.at
+
+abbrev pub decreases-loop-at : goal.decreases-loop-at
+decreases-loop-at l = left l.step l.at

@@ -1,0 +1,13 @@
+-- `rule::refutes` meets its contract.
+use borrow.Author.Rules.{rules}
+use borrow.Author.Tests.{le-leb, lt-leb}
+use Rattle.theory.specs.Judge.{refutes}
+use Rattle.byte_rule.proofs.refutes.Goals as goal
+
+pub returns-then-b-le1 : goal.returns-then-b-le1
+unfolding refutes
+returns-then-b-le1 c = simp (le-leb _ _ c.if-b-le1.true)
+
+pub returns : goal.returns
+unfolding refutes
+returns c = simp (lt-leb _ _ c.if-b-le1.false, c.spoils.ensures)

@@ -1,0 +1,66 @@
+-- `checking::lowest_wrong` meets its contract. The loop's invariant: the bytes below n are right, and the place at the
+-- row's first number is kept.
+use mathlib.Core.Path.{◌≡◌, refl}
+use Prim.Native.Nat.{◌-◌, ◌%◌, ◌<◌, ◌≤◌}
+use native.Mathlib.Omega.{arith}
+use lib.Dec.{T}
+use lib.ListN.{length}
+use borrow.Author.Tests.{not-true, not-false}
+use Rattle.numbering.specs.Material.{known, size_of}
+use Rattle.position.specs.Posed.{material_for}
+use Rattle.four_men.specs.Lending.{lent}
+use Rattle.deciding.specs.Rows.{RowOf}
+use Rattle.deciding.specs.laws.Rows.{row_next}
+use Rattle.checking.specs.Right.{Numbers, RightBelow}
+use Rattle.checking.specs.laws.Laws.{right-more, found-wrong, found_right, size-most}
+use Rattle.checking.proofs.checker.lowest_wrong.Goals as goal
+
+-- a number of the table, and the place at the first number of its row
+here : (c : goal.After-row_at-row) → Numbers c.args.m c.loop-n.n
+    × (T (known (material_for c.args.m)) → RowOf c.args.m c.loop-n.n c.row_at-row.result)
+here c =
+    let x = c.requires in
+    let h : c.loop-n.n < size_of (material_for c.args.m) = omega (arith, x.1, c.loop-n-test.true) in
+    ((x.0, h), λ w. c.row_at-row.ensures w x.0.colour h (c.loop-n.invariant.2 w))
+
+pub loop-n-init : goal.loop-n-init
+loop-n-init c = (omega arith, λ k h. absurd (omega arith), λ w z. absurd (z refl))
+
+pub overflow_cast-n : goal.overflow_cast-n
+overflow_cast-n c = omega (arith, c.loop-n-test.true, c.requires.1, size-most (material_for c.args.m))
+
+pub overflow_cast-n-in-loop-n : goal.overflow_cast-n-in-loop-n
+overflow_cast-n-in-loop-n c = omega (arith, c.loop-n-test.true, c.requires.1, size-most (material_for c.args.m))
+
+pub bounds-table-n : goal.bounds-table-n
+bounds-table-n c = omega (arith, c.loop-n-test.true)
+
+pub is_right-requires : goal.is_right-requires
+is_right-requires c = here c.before
+
+pub overflow_cast-result : goal.overflow_cast-result
+overflow_cast-result c = omega (arith, c.loop-n-test.true, c.requires.1, size-most (material_for c.args.m))
+
+pub returns-then-not-is_right : goal.returns-then-not-is_right
+returns-then-not-is_right c =
+    found-wrong _ _ _ _ _ (here c.before.before.before).0.1 c.is_right.ensures (not-true _ c.if-not-is_right.true)
+    c.loop-n.invariant.1
+
+pub overflow_add-n : goal.overflow_add-n
+overflow_add-n c = omega arith
+
+pub loop-n-smaller : goal.loop-n-smaller
+loop-n-smaller c = omega (arith, c.loop-n-test.true)
+
+pub loop-n-preserved : goal.loop-n-preserved
+loop-n-preserved c =
+    (
+      omega (arith, c.loop-n-test.true),
+      right-more _ _ _ _ _ c.is_right.ensures (not-false _ c.if-not-is_right.false) c.loop-n.invariant.1,
+      λ w z. row_next _ _ _ ((here c.before.before.before).1 w) z,
+    )
+
+pub returns : goal.returns
+returns c =
+    found_right _ _ _ _ (omega (arith, c.loop-n-test.false, c.requires.1))
+    c.loop-n.invariant.1

@@ -1,0 +1,11 @@
+-- `numbers::is_legal_number` meets its contract.
+use borrow.Author.Rules.{rules}
+use mathlib.Core.Path.{sym}
+use Rattle.deciding.specs.laws.StandingLaws.{told-legal, told-nothing}
+use Rattle.deciding.proofs.numbers.is_legal_number.Goals as goal
+
+pub returns-in-Legal : goal.returns-in-Legal
+returns-in-Legal c = λ g l h. sym (told-legal _ _ _ _ c.in-Legal.is (c.legal_at-standing.ensures g l h)).0
+
+pub returns-in-Nothing : goal.returns-in-Nothing
+returns-in-Nothing c = λ g l h. sym (told-nothing _ _ _ c.in-Nothing.is (c.legal_at-standing.ensures g l h))

@@ -1,0 +1,14 @@
+-- `numbers::legal_of_pawn` meets its contract.
+use borrow.Author.Rules.{rules}
+use mathlib.Core.Path.{sym, ◌∙◌}
+use borrow.Author.Tests.{not-true, not-false}
+use Rattle.deciding.specs.laws.StandingLaws.{pawn-nothing, pawn-standing}
+use Rattle.deciding.proofs.numbers.legal_of_pawn.Goals as goal
+
+pub returns-then-not-is_pawn_legal : goal.returns-then-not-is_pawn_legal
+returns-then-not-is_pawn_legal c =
+    λ m e. pawn-nothing m _ _ e c.pawn_seat-q.ensures (sym c.is_pawn_legal.ensures ∙ not-true _ c.if-not-is_pawn_legal.true)
+
+pub returns : goal.returns
+returns c =
+    λ m e. pawn-standing m _ _ e c.pawn_seat-q.ensures (sym c.is_pawn_legal.ensures ∙ not-false _ c.if-not-is_pawn_legal.false)

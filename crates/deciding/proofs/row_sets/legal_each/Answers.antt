@@ -1,0 +1,45 @@
+-- `row_sets::legal_each` meets its contract. The loop's invariant: of the squares below s the set holds those asked for.
+use mathlib.Core.Path.{◌≡◌, sym, ◌∙◌}
+use mathlib.Core.Bool.{◌&&◌}
+use mathlib.Core.Logic.{⊎_elim}
+use Prim.Native.Nat.{ℕ, ◌+◌, ◌-◌, ◌*◌, ◌/◌, ◌<◌, ◌≤◌}
+use native.Mathlib.Omega.{arith}
+use lib.Dec.{ltb}
+use borrow.Author.Rules.{rules}
+use borrow.Author.Tests.{lt-ltb, le-ltb}
+use Rattle.board.specs.Sets.{has}
+use Rattle.board.specs.laws.SetLaws.{has-none, set-has}
+use Rattle.position.specs.Posed.{material_for}
+use Rattle.four_men.specs.Reading.{legal_number_of}
+use Rattle.deciding.specs.Rows.{RowOf}
+use Rattle.deciding.specs.laws.Rows.{row_same}
+use Rattle.deciding.specs.laws.Gathering.{gathered-in, gathered-out}
+use Rattle.deciding.proofs.row_sets.legal_each.Goals as goal
+
+pub loop-s-init : goal.loop-s-init
+loop-s-init c = (omega arith, λ r u h. rw (has-none u, le-ltb u 0 (omega arith)))
+
+pub loop-s-smaller : goal.loop-s-smaller
+loop-s-smaller c = omega (arith, c.loop-s-test.true)
+
+pub loop-s-preserved : goal.loop-s-preserved
+loop-s-preserved c =
+    let l = c.loop-s in
+    let x = c.args in
+    let h = c.loop-s-test.true in
+    let asked = legal_number_of (material_for x.m) in (
+      omega (arith, h),
+      λ w u g.
+          let told = c.is_legal_on.ensures (c.in_row.ensures (row_same _ _ _ w _ h)) in
+          ⊎_elim
+          (λ v. rw v.2
+          (gathered-in (λ (i : ℕ). asked (x.n / 64 * 64 + i)) l.legal l.s u (l.invariant.1 w u g) _ (set-has _ v.1.ensures u g) (sym told ∙ v.0.taken)))
+          (λ v. rw v.1
+          (gathered-out (λ (i : ℕ). asked (x.n / 64 * 64 + i)) l.legal l.s u (l.invariant.1 w u g) (sym told ∙ v.0.left)))
+          c.if-is_legal_on.branch,
+    )
+
+pub returns : goal.returns
+returns c =
+    let i = c.loop-s.invariant in
+    λ r u h. i.1 r u h ∙ rw (lt-ltb u c.loop-s.s (omega (arith, h, c.loop-s-test.false)))

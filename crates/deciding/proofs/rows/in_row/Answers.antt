@@ -1,0 +1,9 @@
+-- `rows::in_row` meets its contract.
+use mathlib.Core.Path.{subst⁻¹}
+use borrow.Author.Rules.{rules}
+use Rattle.index.specs.Seats.{StandsAt}
+use Rattle.deciding.specs.laws.Rows.{row-stands}
+use Rattle.deciding.proofs.rows.in_row.Goals as goal
+
+pub returns : goal.returns
+returns c = λ w. subst⁻¹ (StandsAt _ _) c.with_last.ensures (row-stands _ _ _ w)

@@ -1,0 +1,7 @@
+-- `filling::fill` meets its contract.
+use Rattle.filling.specs.laws.FillLaws.{promised-one}
+use borrow.Author.Rules.{rules}
+use Rattle.filling.proofs.fill_table.fill.Goals as goal
+
+pub returns : goal.returns
+returns c = promised-one _ _ _ _ _ _ c.fill_with.ensures

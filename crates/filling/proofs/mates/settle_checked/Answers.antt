@@ -1,0 +1,23 @@
+-- `filling::settle_checked` meets its contract.
+use mathlib.Core.Path.{refl, sym, ◌∙◌}
+use borrow.Author.Rules.{rules}
+use borrow.Author.Tests.{not-true, not-false}
+use Rattle.deciding.specs.laws.RowSets.{mate-in-row}
+use Rattle.filling.specs.laws.Code.{verdict-none}
+use Rattle.filling.specs.laws.Laws.{settle-no, settle-yes}
+use Rattle.filling.proofs.mates.settle_checked.Goals as goal
+
+pub returns-then-not-has : goal.returns-then-not-has
+returns-then-not-has c =
+    let a = c.args in
+    settle-no _ _ _ _ _ _
+    (verdict-none a.m a.first.now a.second.now a.table.now 0 a.n
+    (mate-in-row _ _ _ c.requires.2 (sym c.has.ensures ∙ not-true _ c.if-not-has.true) a.first.now a.second.now
+    a.table.now))
+    refl
+
+pub returns-then-not-settles : goal.returns-then-not-settles
+returns-then-not-settles c = settle-no _ _ _ _ _ _ c.settles.ensures (not-true _ c.if-not-settles.true)
+
+pub returns : goal.returns
+returns c = settle-yes _ _ _ _ _ _ c.settles.ensures (not-false _ c.if-not-settles.false)

@@ -1,0 +1,7 @@
+-- `filling::ended` meets its contract.
+use Rattle.filling.specs.laws.Laws.{ended_some}
+use borrow.Author.Rules.{rules}
+use Rattle.filling.proofs.steps.ended.Goals as goal
+
+pub returns : goal.returns
+returns c = ended_some _ c.if-last-eq0.false

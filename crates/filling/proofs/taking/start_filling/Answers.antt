@@ -1,0 +1,7 @@
+-- `filling::start_filling` meets its contract.
+use Rattle.filling.specs.laws.Handed.{start-one}
+use borrow.Author.Rules.{rules}
+use Rattle.filling.proofs.taking.start_filling.Goals as goal
+
+pub returns : goal.returns
+returns c = start-one _ _ _ _ c.start_with.ensures

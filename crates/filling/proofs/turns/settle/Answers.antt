@@ -1,0 +1,28 @@
+-- `filling::settle` meets its contract.
+use mathlib.Core.Path.{refl}
+use native.Mathlib.Omega.{arith}
+use borrow.Author.Rules.{rules}
+use borrow.Author.Tests.{not-true, not-false}
+use Rattle.working_back.specs.laws.Admitted.{small-number}
+use Rattle.filling.specs.laws.Code.{verdict-settled}
+use Rattle.filling.specs.laws.Laws.{settle-no, settle-yes}
+use Rattle.filling.proofs.turns.settle.Goals as goal
+
+pub returns-then-table-n-ne1 : goal.returns-then-table-n-ne1
+returns-then-table-n-ne1 c =
+    let a = c.args in
+    settle-no _ _ _ _ _ _ (verdict-settled a.m a.first.now a.second.now a.table.now a.k a.n c.if-table-n-ne1.true) refl
+
+pub overflow_cast-n : goal.overflow_cast-n
+overflow_cast-n c = let p = c.requires in omega (arith, small-number _ _ _ _ p.2 _ p.0)
+
+pub settles_on-requires : goal.settles_on-requires
+settles_on-requires c =
+    let p = c.requires in
+    (p.0, p.2, c.if-table-n-ne1.false, λ w. c.in_row-q.ensures (p.3 w))
+
+pub returns-then-not-settles_on : goal.returns-then-not-settles_on
+returns-then-not-settles_on c = settle-no _ _ _ _ _ _ c.settles_on.ensures (not-true _ c.if-not-settles_on.true)
+
+pub returns : goal.returns
+returns c = settle-yes _ _ _ _ _ _ c.settles_on.ensures (not-false _ c.if-not-settles_on.false)

@@ -1,0 +1,10 @@
+-- `index::least::number_at` meets its contract.
+use mathlib.Core.Path.{refl}
+use Rattle.index.specs.laws.KeyLaws.{number-by-key}
+use borrow.Author.Rules.{rules}
+use Rattle.index.proofs.least.number_at.Goals as goal
+
+pub returns : goal.returns
+returns c =
+    number-by-key _ _ s _ _ _ _ _ refl c.alike.ensures refl c.key_at.ensures.0
+    c.number_keyed.ensures

@@ -1,0 +1,15 @@
+-- `index::materials::men_of` meets its contract.
+use mathlib.Core.Path.{sym}
+use native.Mathlib.Omega.{arith}
+use Rattle.index.specs.laws.WithLaws.{men-one, men-two}
+use borrow.Author.Rules.{rules}
+use Rattle.index.proofs.materials.men_of.Goals as goal
+
+pub returns-in-One : goal.returns-in-One
+returns-in-One c = λ t. men-one _ _ c.in-One.is t
+
+pub returns-in-Two : goal.returns-in-Two
+returns-in-Two c = λ t. men-two _ _ _ _ _ c.in-Two.is c.second_colour.ensures t
+
+pub returns-in-Pawn : goal.returns-in-Pawn
+returns-in-Pawn c = λ t. (sym c.in-Pawn.is, omega arith)

@@ -1,0 +1,13 @@
+-- `index::place::is_used` meets its contract.
+use mathlib.Core.Path.{sym, ◌∙◌}
+use Rattle.index.specs.laws.PlaceLaws.{used-not, used-is}
+use borrow.Author.Rules.{rules}
+use Rattle.index.proofs.place.is_used.Goals as goal
+
+pub returns-then-shares : goal.returns-then-shares
+returns-then-shares c = λ s. used-not _ _ _ s (sym c.shares.ensures ∙ c.if-shares.true)
+
+pub returns : goal.returns
+returns c =
+    λ s.
+    rw (c.number_at.ensures s.seated) (used-is _ _ _ s (sym c.shares.ensures ∙ c.if-shares.false))

@@ -1,0 +1,8 @@
+-- `index::position_of` meets its contract: one man is an instance.
+use mathlib.Core.Path.{◌∙◌}
+use borrow.Author.Rules.{rules}
+use Rattle.index.specs.laws.AloneLaws.{placed-alone}
+use Rattle.index.proofs.position_of.Goals as goal
+
+pub returns : goal.returns
+returns c = c.position_with.ensures ∙ placed-alone _ _

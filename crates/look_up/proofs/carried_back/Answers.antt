@@ -1,0 +1,9 @@
+-- `look_up::carried_back` meets its contract: both squares of the move are carried back.
+use borrow.Author.Rules.{rules}
+use Rattle.look_up.specs.laws.Laws.{back-on-the-board}
+use Rattle.look_up.proofs.carried_back.Goals as goal
+
+pub returns-in-Play : goal.returns-in-Play
+returns-in-Play c =
+    back-on-the-board _ _ _ _ _ _ c.in-Play.is
+    c.back.ensures c.back-in-Play.ensures c.promotion_of.ensures

@@ -1,0 +1,46 @@
+-- `look_up::look_up_pawn` meets its contract.
+use mathlib.Core.Path.{refl, sym, ap, ◌∙◌}
+use Prim.Native.Nat.{ℕ}
+use native.Mathlib.Omega.{arith}
+use borrow.Author.Tests.{not-true, not-false}
+use Rattle.rules.specs.Rules.{Board, in_check}
+use Rattle.index.specs.laws.PawnLaws.{pawn-place-told}
+use Rattle.successors.specs.Successors.{verdict_of}
+use Rattle.deciding.specs.laws.PawnVerdicts.{for-pawn, own-byte}
+use Rattle.look_up.specs.laws.Checked.{placing-stands, check-stands, none-stands}
+use Rattle.look_up.specs.laws.Laws.{of-pawn, refused-standing, refused-length, told-answer, fit_of}
+use Rattle.look_up.proofs.look_up_pawn.Goals as goal
+
+pub returns-then-refusal-ne0 : goal.returns-then-refusal-ne0
+returns-then-refusal-ne0 c =
+    λ k.
+    refused-standing _ _ _ _ (placing-stands _ _ c.placing_with-refusal.ensures c.if-refusal-ne0.true) c.if-refusal-ne0.true
+
+pub returns-then-in_check : goal.returns-then-in_check
+returns-then-in_check c =
+    let z = sym c.placing_with-refusal.ensures ∙ c.if-refusal-ne0.false in
+    λ k. refused-standing _ _ _ 6
+    (check-stands _ z _ (c.in_check.ensures ∙ ap (in_check _) c.other.ensures) c.if-in_check.true)
+    (λ e. omega arith)
+
+pub returns-then-not-lengths_fit : goal.returns-then-not-lengths_fit
+returns-then-not-lengths_fit c =
+    let z = sym c.placing_with-refusal.ensures ∙ c.if-refusal-ne0.false in
+    λ k. refused-length _ _ _
+    (none-stands _ z _ (c.in_check.ensures ∙ ap (in_check _) c.other.ensures) c.if-in_check.false) _
+    (λ y. pawn-place-told _ _ refl k y _ c.pawn_normal_place-normal.ensures) _
+    (fit_of _ _ c.pawn_normal_place-normal.result.men _ _ c.material_for.ensures c.lengths_fit.ensures)
+    (not-true _ c.if-not-lengths_fit.true)
+
+pub returns : goal.returns
+returns c =
+    let z = sym c.placing_with-refusal.ensures ∙ c.if-refusal-ne0.false in
+    let own = c.pawn_normal_place-normal.ensures in
+    λ k. told-answer _ _ _
+    (none-stands _ z _ (c.in_check.ensures ∙ ap (in_check _) c.other.ensures) c.if-in_check.false) _
+    (λ y. pawn-place-told _ _ refl k y _ own) _
+    (fit_of _ _ c.pawn_normal_place-normal.result.men _ _ c.material_for.ensures c.lengths_fit.ensures)
+    (not-false _ c.if-not-lengths_fit.false) _ _ (λ s. own-byte _ _ _ _ _ _ (of-pawn _ _ own s) c.pawn_byte-byte.ensures)
+    (λ s. for-pawn _ _ (λ (g : Board → ℕ) (x : Board). verdict_of g c.pawn_byte-byte.result x) _ _ _ _ (of-pawn _ _ own s)
+    (c.pawn_verdict.ensures (of-pawn _ _ own s).on)) _
+    c.told.ensures

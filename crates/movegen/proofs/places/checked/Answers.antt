@@ -1,0 +1,7 @@
+-- `movegen::checked` meets its contract.
+use Rattle.position.specs.laws.PosedLaws.{complete-spread}
+use borrow.Author.Rules.{rules}
+use Rattle.movegen.proofs.places.checked.Goals as goal
+
+pub returns : goal.returns
+returns c = λ k. let w = complete-spread k in c.men_check.ensures w.pawnless w.kings

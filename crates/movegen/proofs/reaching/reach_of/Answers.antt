@@ -1,0 +1,50 @@
+-- `movegen::reach_of` meets its contract.
+use Rattle.position.specs.Keyed.{board_of}
+use Rattle.position.specs.Posed.{posed, Complete}
+use Rattle.position.specs.laws.PosedLaws.{complete-spread}
+use Rattle.movegen.specs.Reach.{View}
+use Rattle.movegen.specs.laws.Alone.{first-man, second-man}
+use Rattle.movegen.specs.laws.Reach.{view_of}
+use Rattle.movegen.specs.laws.Movers.{mover-of, mover-unpinned}
+use borrow.Author.Rules.{rules}
+use Rattle.movegen.proofs.reaching.reach_of.Goals as goal
+
+-- what is in hand once the foes' attack is known
+view : (s : goal.After-strike_set-strike)
+    → let x = s.args in
+    Complete x.m x.q
+    → View x.m x.q s.occupied_at-ocs.result
+    s.own_at-own.result s.strike_set-strike.result
+unfolding board_of posed
+view c d =
+    let w = complete-spread d in
+    view_of w (s.occupied_at-ocs.ensures _) (s.own_at-own.ensures w.side) _ _ _
+    s.king_set.ensures s.minus.ensures s.other.ensures s.strike_set-strike.ensures
+
+pub returns-then-strike-own-eq0 : goal.returns-then-strike-own-eq0
+returns-then-strike-own-eq0 c =
+    let x = c.args in
+    λ d.
+    let w = complete-spread d in
+    let v = view c.before.before.before.before.before.before d in (
+      c.king_reach-king.ensures _ _ v,
+      mover-unpinned v
+          (mover-of v _ _ _ _ _ (first-man x.m x.q w) c.struck_by.ensures c.minus-first.ensures)
+          c.if-strike-own-eq0.true c.minus-first.type_inv,
+      mover-unpinned v
+          (mover-of v _ _ _ _ _ (second-man x.m x.q w) c.struck_by-2.ensures c.minus-second.ensures)
+          c.if-strike-own-eq0.true c.minus-second.type_inv,
+    )
+
+pub returns : goal.returns
+returns c =
+    let x = c.args in
+    λ d.
+    let w = complete-spread d in
+    let v = view c.before.before.before.before.before.before.before.before d in (
+      c.king_reach-king.ensures _ _ v,
+      c.shielding.ensures _ _
+          (mover-of v _ _ _ _ _ (first-man x.m x.q w) c.struck_by.ensures c.minus-first.ensures),
+      c.shielding-2.ensures _ _
+          (mover-of v _ _ _ _ _ (second-man x.m x.q w) c.struck_by-2.ensures c.minus-second.ensures),
+    )

@@ -1,0 +1,28 @@
+-- `movegen::reaching::tested` meets its contract: the targets kept so far, and those of the rest that pass, are all
+-- that pass.
+use mathlib.Core.Path.{◌≡◌, sym, ◌∙◌}
+use mathlib.Core.Bool.{Bool, not, ◌&&◌, ◌||◌, or-false}
+use mathlib.Core.Logic.{⊎_elim}
+use Prim.Native.Nat.{ℕ, ◌^◌, ◌<◌}
+use lib.ListN.{length}
+use Rattle.board.specs.Sets.{has, members}
+use Rattle.board.specs.laws.SetLaws.{has-none, set-has}
+use Rattle.board.specs.laws.LowestLaws.{Lowest, lowest-of}
+use Rattle.rules.specs.Rules.{in_check, moved}
+use Rattle.position.specs.declared.Men.{Men}
+use Rattle.position.specs.declared.Place.{Place}
+use Rattle.position.specs.Posed.{board_in}
+use Rattle.movegen.specs.laws.Targets.{turn_in, turn-out}
+use Rattle.movegen.specs.Reach.{Stays}
+use Rattle.movegen.specs.laws.Struck.{check-placed}
+use Rattle.movegen.proofs.reaching.tested.Given as goal
+
+abbrev pub passes : Men → Place → ℕ → ℕ → Bool
+passes m q from t = not (in_check (moved (board_in m q) from t) q.side)
+
+abbrev pub invariant-loop-rest : goal.invariant-loop-rest
+invariant-loop-rest l = (l.rest < 2 ^ 64)
+    × (Stays l.m l.q l.from → (t : ℕ) → t < 64 → (has l.safe t || (has l.rest t && passes l.m l.q l.from t)) ≡ (has l.free t && passes l.m l.q l.from t))
+
+abbrev pub decreases-loop-rest : goal.decreases-loop-rest
+decreases-loop-rest l = length (members l.rest)

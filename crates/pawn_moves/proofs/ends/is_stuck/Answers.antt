@@ -1,0 +1,7 @@
+-- `ends::is_stuck` meets its contract.
+use borrow.Author.Rules.{rules}
+use Rattle.pawn_moves.specs.laws.SeatLaws.{stuck-by}
+use Rattle.pawn_moves.proofs.ends.is_stuck.Goals as goal
+
+pub returns : goal.returns
+returns c = stuck-by c.args.q _ _ c.lone.ensures c.count_of.ensures

@@ -1,0 +1,14 @@
+-- `numbers::is_pawn_legal` meets its contract.
+use borrow.Author.Rules.{rules}
+use mathlib.Core.Path.{sym, ◌∙◌}
+use borrow.Author.Tests.{not-true, not-false}
+use Rattle.pawn_moves.specs.laws.SeatLaws.{seat-shared, seat-quiet}
+use Rattle.pawn_moves.proofs.numbers.is_pawn_legal.Goals as goal
+
+pub returns-then-not-used : goal.returns-then-not-used
+returns-then-not-used c = seat-shared c.args.q (sym c.is_pawn_used-used.ensures ∙ not-true _ c.if-not-used.true)
+
+pub returns : goal.returns
+returns c =
+    seat-quiet c.args.q _ _ (sym c.is_pawn_used-used.ensures ∙ not-false _ c.if-not-used.false) c.other.ensures
+    c.is_checked.ensures

@@ -1,0 +1,11 @@
+-- `playing::promoting::slot_becoming` meets its contract.
+use mathlib.Core.Path.{sym, ap, ◌∙◌}
+use Rattle.playing.specs.Playing.{slot_becoming}
+use borrow.Author.Rules.{rules}
+use Rattle.playing.proofs.promoting.slot_becoming.Goals as goal
+
+pub returns-in-Present : goal.returns-in-Present
+returns-in-Present c =
+    let a = c.args in
+    sym (ap (slot_becoming a.side a.to a.kind) c.in-Present.is
+    ∙ rw (← c.kind_after.ensures))

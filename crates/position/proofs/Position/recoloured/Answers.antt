@@ -1,0 +1,9 @@
+-- `Position::recoloured` meets its contract.
+use Rattle.position.specs.laws.OwnerLaws.{by_slots}
+use borrow.Author.Rules.{rules}
+use Rattle.position.proofs.Position.recoloured.Goals as goal
+
+pub returns : goal.returns
+returns c =
+    by_slots c.args.self _ _ _ c.opposite.ensures
+    c.slot_recoloured.ensures c.slot_recoloured-2.ensures

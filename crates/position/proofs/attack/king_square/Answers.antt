@@ -1,0 +1,11 @@
+use borrow.Author.Tests.{eq-eqb, ne_eqb}
+use Rattle.position.specs.Keyed.{board_of}
+use Rattle.position.proofs.attack.king_square.Goals as goal
+
+pub returns-then-side-eq0 : goal.returns-then-side-eq0
+unfolding board_of
+returns-then-side-eq0 c = simp (eq-eqb _ _ c.if-side-eq0.true)
+
+pub returns-else-side-eq0 : goal.returns-else-side-eq0
+unfolding board_of
+returns-else-side-eq0 c = simp (ne_eqb _ _ c.if-side-eq0.false)

@@ -1,0 +1,19 @@
+-- `position::men_above` meets its contract.
+use mathlib.Core.Path.{◌∙◌}
+use Rattle.position.specs.laws.MapLaws.{none_above, next-above, first-above}
+use borrow.Author.Rules.{rules}
+use Rattle.position.proofs.maps.men_above.Goals as goal
+
+pub returns-then-m : goal.returns-then-m
+returns-then-m c =
+    c.is_above-then-m.ensures
+    ∙ next-above _ c.args.second _
+    c.in-Present.is c.if-m.true
+
+pub returns-in-Absent : goal.returns-in-Absent
+returns-in-Absent c = c.is_above.ensures ∙ none_above _ c.args.second c.in-Absent.is
+
+pub returns-else-m : goal.returns-else-m
+returns-else-m c =
+    first-above _ c.args.second _
+    c.in-Present.is c.if-m.false

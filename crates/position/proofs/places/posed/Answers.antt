@@ -1,0 +1,8 @@
+-- `position::posed` meets its contract.
+use Rattle.position.specs.Posed.{posed}
+use borrow.Author.Rules.{rules}
+use Rattle.position.proofs.places.posed.Goals as goal
+
+pub returns : goal.returns
+unfolding posed
+returns c = simp (c.slot_at.ensures, c.slot_at-2.ensures)

@@ -1,0 +1,7 @@
+-- `position::bad_square` meets its contract.
+use Rattle.position.specs.laws.SlotLaws.{off-by-slots}
+use borrow.Author.Rules.{rules}
+use Rattle.position.proofs.refusals.bad_square.Goals as goal
+
+pub returns : goal.returns
+returns c = rw (c.is_off.ensures, c.is_off-2.ensures) (off-by-slots c.args.p)

@@ -1,0 +1,10 @@
+use Rattle.rules.specs.laws.PawnSteps.{goes_set}
+use borrow.Author.Rules.{rules}
+use Rattle.rules.proofs.pawn.pawn_goes.Goals as goal
+
+pub returns : goal.returns
+returns c =
+    λ t h.
+    let a = c.args in
+    goes_set a.occ a.colour a.s _ _ t (c.straight_on.ensures t h)
+    (c.pawn_hits.ensures _ t h)

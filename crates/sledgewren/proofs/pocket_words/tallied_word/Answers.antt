@@ -1,0 +1,8 @@
+-- `host::tallied_word` meets its contract. Each arm by the case it is.
+use mathlib.Core.Path.{ap, sym, ◌∙◌}
+use borrow.Author.Rules.{rules}
+use Rattle.sledgewren.specs.PocketWords.{tallied_word}
+use Rattle.sledgewren.proofs.pocket_words.tallied_word.Goals as goal
+
+pub returns-in-Counted : goal.returns-in-Counted
+returns-in-Counted c = c.tallies_word.ensures ∙ sym (ap tallied_word c.in-Counted.is)

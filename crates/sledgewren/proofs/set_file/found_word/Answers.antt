@@ -1,0 +1,8 @@
+-- `host::found_word` meets its contract. Each arm by the case it is.
+use mathlib.Core.Path.{ap, sym}
+use borrow.Author.Rules.{rules}
+use Rattle.sledgewren.specs.SetWords.{found_word}
+use Rattle.sledgewren.proofs.set_file.found_word.Goals as goal
+
+pub returns-in-At : goal.returns-in-At
+returns-in-At c = sym (ap found_word c.in-At.is)

@@ -1,0 +1,7 @@
+-- `host::said_word` meets its contract.
+use borrow.Author.Rules.{rules}
+use Rattle.sledgewren.specs.laws.StepWordLaws.{settled-word}
+use Rattle.sledgewren.proofs.steps.said_word.Goals as goal
+
+pub returns-in-Settled : goal.returns-in-Settled
+returns-in-Settled c = settled-word _ _ c.in-Settled.is c.requires

@@ -1,0 +1,16 @@
+-- `typed::write_number` meets its contract, arm by arm.
+use mathlib.Core.Path.{sym, ◌∙◌}
+use borrow.Author.Rules.{rules}
+use Rattle.typed.specs.laws.WritingLaws.{writes_at, writes-refused}
+use Rattle.typed.proofs.write_number.Goals as goal
+
+pub returns-in-At : goal.returns-in-At
+returns-in-At c =
+    let e = c.position_of.ensures in
+    writes_at c.args.number _ (sym c.in-At.is ∙ e) _
+    c.seven_bytes.ensures
+
+pub returns-in-Refused : goal.returns-in-Refused
+returns-in-Refused c =
+    let e = c.position_of.ensures in
+    writes-refused c.args.number _ (sym c.in-Refused.is ∙ e)
