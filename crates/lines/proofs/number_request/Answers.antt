@@ -8,14 +8,14 @@ use Rattle.lines.proofs.number_request.Goals as goal
 pub returns-then-not-is_right : goal.returns-then-not-is_right
 returns-then-not-is_right c =
     wrong-check _ _ _ c.five_digits-five.ensures.0 c.typed_check-check.ensures.0
-    (sym c.is_right.ensures ∙ not-true _ c.if-not-is_right.true)
+    (sym c.is_right.ensures ∙ c.if-not-is_right.true)
 
 pub returns-then-kind-lt4 : goal.returns-then-kind-lt4
 returns-then-kind-lt4 c =
     right-man _ _ _ c.five_digits-five.ensures.0 c.typed_check-check.ensures.0 _
-    c.man_code-kind.ensures (sym c.is_right.ensures ∙ not-false _ c.if-not-is_right.false) c.if-kind-lt4.true
+    c.man_code-kind.ensures (sym c.is_right.ensures ∙ c.if-not-is_right.false) c.if-kind-lt4.true
 
 pub returns : goal.returns
 returns c =
     wrong-man _ _ _ c.five_digits-five.ensures.0 c.typed_check-check.ensures.0 _
-    c.man_code-kind.ensures (sym c.is_right.ensures ∙ not-false _ c.if-not-is_right.false) c.if-kind-lt4.false
+    c.man_code-kind.ensures (sym c.is_right.ensures ∙ c.if-not-is_right.false) c.if-kind-lt4.false

@@ -16,13 +16,13 @@ returns-then-not-lengths_fit c =
     let men = c.args.normal.men in
     λ p z k w. refused-length _ _ p
     (none-stands p z _ (check-of p _ z w k _ _ c.other.ensures c.checked.ensures) c.if-checked.false) _
-    (λ y. w) _ (fit_of _ _ men _ _ c.material_for.ensures c.lengths_fit.ensures) (not-true _ c.if-not-lengths_fit.true)
+    (λ y. w) _ (fit_of _ _ men _ _ c.material_for.ensures c.lengths_fit.ensures) c.if-not-lengths_fit.true
 
 pub returns : goal.returns
 returns c =
     let men = c.args.normal.men in
     λ p z k w. told-answer _ _ p
     (none-stands p z _ (check-of p _ z w k _ _ c.other.ensures c.checked.ensures) c.if-checked.false) _
-    (λ y. w) _ (fit_of _ _ men _ _ c.material_for.ensures c.lengths_fit.ensures) (not-false _ c.if-not-lengths_fit.false) _ _
+    (λ y. w) _ (fit_of _ _ men _ _ c.material_for.ensures c.lengths_fit.ensures) c.if-not-lengths_fit.false _ _
     (λ s. c.byte_at-byte.ensures (of-pieces p _ z w k s) _ _) (λ s. c.verdict_on-verdict.ensures (of-pieces p _ z w k s)) _
     c.told.ensures

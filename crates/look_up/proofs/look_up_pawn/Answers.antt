@@ -30,7 +30,7 @@ returns-then-not-lengths_fit c =
     (none-stands _ z _ (c.in_check.ensures ∙ ap (in_check _) c.other.ensures) c.if-in_check.false) _
     (λ y. pawn-place-told _ _ refl k y _ c.pawn_normal_place-normal.ensures) _
     (fit_of _ _ c.pawn_normal_place-normal.result.men _ _ c.material_for.ensures c.lengths_fit.ensures)
-    (not-true _ c.if-not-lengths_fit.true)
+    c.if-not-lengths_fit.true
 
 pub returns : goal.returns
 returns c =
@@ -40,7 +40,7 @@ returns c =
     (none-stands _ z _ (c.in_check.ensures ∙ ap (in_check _) c.other.ensures) c.if-in_check.false) _
     (λ y. pawn-place-told _ _ refl k y _ own) _
     (fit_of _ _ c.pawn_normal_place-normal.result.men _ _ c.material_for.ensures c.lengths_fit.ensures)
-    (not-false _ c.if-not-lengths_fit.false) _ _ (λ s. own-byte _ _ _ _ _ _ (of-pawn _ _ own s) c.pawn_byte-byte.ensures)
+    c.if-not-lengths_fit.false _ _ (λ s. own-byte _ _ _ _ _ _ (of-pawn _ _ own s) c.pawn_byte-byte.ensures)
     (λ s. for-pawn _ _ (λ (g : Board → ℕ) (x : Board). verdict_of g c.pawn_byte-byte.result x) _ _ _ _ (of-pawn _ _ own s)
     (c.pawn_verdict.ensures (of-pawn _ _ own s).on)) _
     c.told.ensures

@@ -13,19 +13,19 @@ pub returns-then-not-has : goal.returns-then-not-has
 returns-then-not-has c =
     let a = c.args in
     illegal-play a.p a.from a.to a.becomes _ c.standing_with-refusal.ensures c.if-refusal-ne0.false _
-    c.legal_targets.ensures c.legal_targets.type_inv _ c.has.ensures (not-true _ c.if-not-has.true)
+    c.legal_targets.ensures c.legal_targets.type_inv _ c.has.ensures c.if-not-has.true
 
 pub returns-then-not-is_named : goal.returns-then-not-is_named
 returns-then-not-is_named c =
     let a = c.args in
     unnamed-play a.p a.from a.to a.becomes _ c.standing_with-refusal.ensures c.if-refusal-ne0.false _
-    c.legal_targets.ensures c.legal_targets.type_inv _ c.has.ensures (not-false _ c.if-not-has.false) _
-    c.promoting_set.ensures _ c.has-2.ensures _ c.is_named.ensures (not-true _ c.if-not-is_named.true)
+    c.legal_targets.ensures c.legal_targets.type_inv _ c.has.ensures c.if-not-has.false _
+    c.promoting_set.ensures _ c.has-2.ensures _ c.is_named.ensures c.if-not-is_named.true
 
 pub returns : goal.returns
 returns c =
     let a = c.args in
     legal-play a.p a.from a.to a.becomes _ c.standing_with-refusal.ensures c.if-refusal-ne0.false _
-    c.legal_targets.ensures c.legal_targets.type_inv _ c.has.ensures (not-false _ c.if-not-has.false) _
+    c.legal_targets.ensures c.legal_targets.type_inv _ c.has.ensures c.if-not-has.false _
     c.promoting_set.ensures _ c.has-2.ensures _ c.is_named.ensures _ _
-    (not-false _ c.if-not-is_named.false) c.make_as.ensures c.closed_up.ensures
+    c.if-not-is_named.false c.make_as.ensures c.closed_up.ensures

@@ -54,7 +54,7 @@ module _ (G : Game) (N : Numbering G) (L : Lawful G N) (t : List ℕ) where
           ∙ sym (reads-outside G N t q (sym (L.same-inside p q s) ∙ e))
 
   reads_at : (n : ℕ) → n < N.size → T (N.live n) → reads G N t (N.at n) ≡ get_or t n 0
-  reads_at n h l = let a = L.Live-at n h l in reads-inside G N t (N.at n) a.1 ∙ ap (λ (m : ℕ). get_or t m 0) a.2
+  reads_at n h l = let a = L.live_at n h l in reads-inside G N t (N.at n) a.1 ∙ ap (λ (m : ℕ). get_or t m 0) a.2
 
   -- the byte of a position with a number is that of the number's own position
   reads-class : (p : G.Pos) → L.D p → T (N.inside p) → reads G N t p ≡ reads G N t (N.at (N.number p))
@@ -90,7 +90,7 @@ module _ (G : Game) (N : Numbering G) (L : Lawful G N) (t : List ℕ) where
     accepted-true ok = record {
       legal-true =
           λ n h l. subst (λ (b : ℕ). TrueByte G (N.at n) b) (reads_at n h l)
-          (consistent-true G L.D L.closed (reads G N t) (accepted-consistent ok) (N.at n) (L.Live-at n h l).0);
+          (consistent-true G L.D L.closed (reads G N t) (accepted-consistent ok) (N.at n) (L.live_at n h l).0);
       others-zero = λ n h e. right-byte G N t ok n h ∙ required-dead G N t n e;
     }
 
@@ -121,7 +121,7 @@ module _ (G : Game) (N : Numbering G) (L : Lawful G N) (t : List ℕ) where
       where
         go : T (N.live n) ⊎ T (not (N.live n)) → get_or t n 0 ≡ required_byte G N t n
         go (inl l) = sym (reads_at n h l)
-            ∙ true-consistent G L.D L.closed (reads G N t) (true-reads w) (N.at n) (L.Live-at n h l).0
+            ∙ true-consistent G L.D L.closed (reads G N t) (true-reads w) (N.at n) (L.live_at n h l).0
             ∙ sym (required-live G N t n l)
         go (inr o) = w.others-zero n h (false_of o) ∙ sym (required-dead G N t n (false_of o))
 

@@ -44,7 +44,7 @@ module _ (G : Game) (N : Numbering G) (L : Lawful G N) where
   holds-true k t w none = record {
     legal-true =
         λ n h l. subst (λ (b : ℕ). TrueByte G (N.at n) b) (sym (w.byte n h ∙ rw (true_of {b = N.live n} l)))
-        (complete G L.D L.closed k none (N.at n) (L.Live-at n h l).0);
+        (complete G L.D L.closed k none (N.at n) (L.live_at n h l).0);
     others-zero = λ n h e. w.byte n h ∙ rw e;
   }
 
@@ -55,7 +55,7 @@ module _ (G : Game) (N : Numbering G) (L : Lawful G N) where
     some-depth k t w s =
         let f = fails-below (λ n. not (settles G N k t n)) N.size s in
         let d = (settles-depth G N L truth k t w f.0 f.1).0 (twice (settles G N k t f.0) f.2) in
-        let a = L.Live-at f.0 f.1 d.0 in
+        let a = L.live_at f.0 f.1 d.0 in
         (N.at f.0, a.0, a.1, d.1)
       where
         twice : (b : Bool) → T (not (not b)) → T b

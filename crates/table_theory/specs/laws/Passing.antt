@@ -61,7 +61,7 @@ module _ (G : Game) (N : Numbering G) where
 
     right-next : (n : ℕ) → n < N.size → T (N.live n) → (q : G.Pos) → q ∈ next G (N.at n)
         → RightBelow G (reads G N t) k q
-    right-next n h l q i = reads-right q (L.closed (N.at n) q (L.Live-at n h l).0 i)
+    right-next n h l q i = reads-right q (L.closed (N.at n) q (L.live_at n h l).0 i)
 
     -- pass k settles exactly the numbers of depth k
     pub settles-depth : (n : ℕ) → n < N.size → T (settles G N k t n) ↔ (T (N.live n) × DepthIs G k (N.at n))

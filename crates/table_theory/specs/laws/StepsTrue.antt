@@ -202,7 +202,7 @@ module _ (G : Game) (N : Numbering G) (L : Lawful G N) (deeper : ℕ → Bool) w
                 where
                   either : (n ≤ k) ⊎ (k < n) → m < k
                   either (inl z) = omega arith
-                  either (inr z) = all-below G L.D L.closed k (none z) m (N.at i) (L.Live-at i h v).0 d
+                  either (inr z) = all-below G L.D L.closed k (none z) m (N.at i) (L.live_at i h v).0 d
 
           go : (u : List ℕ) → Bytes u → Settled G n (N.at i) (get_or u i 0)
           go u (Bytes.first k w l none) =

@@ -13,7 +13,7 @@ pub returns-then-not-has : goal.returns-then-not-has
 returns-then-not-has c =
     let full = c.on_empty in
     sym (never _ _ _ _
-    (sym (reaches-has nothing _ _ _ full.ensures full.type_inv) ∙ sym c.has.ensures ∙ not-true _ c.if-not-has.true))
+    (sym (reaches-has nothing _ _ _ full.ensures full.type_inv) ∙ sym c.has.ensures ∙ c.if-not-has.true))
 
 pub returns-then-kind-eq0 : goal.returns-then-kind-eq0
 returns-then-kind-eq0 c = c.meets.ensures ∙ sym (rw c.if-kind-eq0.true (attacks-by-walk _ 0 _ _ (lit< tt)))
@@ -29,7 +29,7 @@ returns-then-kind-eq2 c =
 pub returns : goal.returns
 returns c =
     let full = c.on_empty in
-    sym (not-false _ c.if-not-has.false)
+    sym c.if-not-has.false
     ∙ c.has.ensures
     ∙ reaches-has nothing _ _ _ full.ensures full.type_inv
     ∙ near_same nothing _ _ _ _ (omega arith)

@@ -13,6 +13,7 @@ use Rattle.board.specs.Walk.{walk_of, met_at, with_target, meets_first}
 use Rattle.board.specs.laws.WalkLaws.{walk_same}
 use Rattle.board.specs.declared.Met.{Met}
 use Rattle.board.proofs.walks.meets.Invariants.{ways}
+use Rattle.board.proofs.walks.meets.Goals.{in-At+else-u-t, in_default}
 use Rattle.board.proofs.walks.meets.Goals as goal
 
 -- one more direction: set is occ with t put in, r what the walk over it meets
@@ -48,7 +49,7 @@ loop-direction-preserved c =
     l.invariant
     ∙ miss a.occ a.from a.end a.t l.direction _ _ c.with-standing.ensures
     c.walk.ensures c.loop-direction-test.true
-    (⊎_elim (λ m. rw m.1.given.1 (ne_eqb _ _ m.3.left)) (λ m. rw m.1.given.1) c.in_default.in_default-own.branch)
+    (elim c.match-walk.branch [ in-At+else-u-t w ↦ rw w.in-At.is (ne_eqb _ _ w.if-u-t.false) | in_default w ↦ rw w.in_default.is refl ])
 
 pub returns : goal.returns
 returns c =

@@ -7,29 +7,29 @@ use Rattle.checking.proofs.checker.check_with.Goals as goal
 pub returns-then-not-is_given : goal.returns-then-not-is_given
 returns-then-not-is_given c =
     check-promised-with _ _ _ _
-    (refused-ending _ _ _ _ c.is_given.ensures (not-true _ c.if-not-is_given.true))
+    (refused-ending _ _ _ _ c.is_given.ensures c.if-not-is_given.true)
 
 pub returns-then-not-lengths_fit : goal.returns-then-not-lengths_fit
 returns-then-not-lengths_fit c =
     check-promised-with _ _ _ _
-    (refused-lengths _ _ _ _ c.is_given.ensures (not-false _ c.if-not-is_given.false) _
-    c.lengths_fit.ensures (not-true _ c.if-not-lengths_fit.true))
+    (refused-lengths _ _ _ _ c.is_given.ensures c.if-not-is_given.false _
+    c.lengths_fit.ensures c.if-not-lengths_fit.true)
 
 pub returns-then-not-lent_accepted : goal.returns-then-not-lent_accepted
 returns-then-not-lent_accepted c =
     check-promised-with _ _ _ _
-    (refused-lent _ _ _ _ c.is_given.ensures (not-false _ c.if-not-is_given.false) _
-    c.lengths_fit.ensures (not-false _ c.if-not-lengths_fit.false) _ c.lent_accepted.ensures
-    (not-true _ c.if-not-lent_accepted.true))
+    (refused-lent _ _ _ _ c.is_given.ensures c.if-not-is_given.false _
+    c.lengths_fit.ensures c.if-not-lengths_fit.false _ c.lent_accepted.ensures
+    c.if-not-lent_accepted.true)
 
 pub lowest_wrong-requires : goal.lowest_wrong-requires
 lowest_wrong-requires c =
-    their-table _ _ _ _ c.is_given.ensures (not-false _ c.if-not-is_given.false) _ c.lengths_fit.ensures
-    (not-false _ c.if-not-lengths_fit.false) _ c.men_of.ensures
+    their-table _ _ _ _ c.is_given.ensures c.if-not-is_given.false _ c.lengths_fit.ensures
+    c.if-not-lengths_fit.false _ c.men_of.ensures
 
 pub returns : goal.returns
 returns c =
     check-promised-with _ _ _ _
-    (found-last _ _ _ _ c.is_given.ensures (not-false _ c.if-not-is_given.false) _ c.lengths_fit.ensures
-    (not-false _ c.if-not-lengths_fit.false) _ c.lent_accepted.ensures (not-false _ c.if-not-lent_accepted.false)
+    (found-last _ _ _ _ c.is_given.ensures c.if-not-is_given.false _ c.lengths_fit.ensures
+    c.if-not-lengths_fit.false _ c.lent_accepted.ensures c.if-not-lent_accepted.false
     c.men_of.result c.men_of.ensures _ c.lowest_wrong.ensures)

@@ -43,7 +43,7 @@ overflow_cast-result c = omega (arith, c.loop-n-test.true, c.requires.1, size-mo
 
 pub returns-then-not-is_right : goal.returns-then-not-is_right
 returns-then-not-is_right c =
-    found-wrong _ _ _ _ _ (here c.before.before.before).0.1 c.is_right.ensures (not-true _ c.if-not-is_right.true)
+    found-wrong _ _ _ _ _ (here c.before.before.before).0.1 c.is_right.ensures c.if-not-is_right.true
     c.loop-n.invariant.1
 
 pub overflow_add-n : goal.overflow_add-n
@@ -56,7 +56,7 @@ pub loop-n-preserved : goal.loop-n-preserved
 loop-n-preserved c =
     (
       omega (arith, c.loop-n-test.true),
-      right-more _ _ _ _ _ c.is_right.ensures (not-false _ c.if-not-is_right.false) c.loop-n.invariant.1,
+      right-more _ _ _ _ _ c.is_right.ensures c.if-not-is_right.false c.loop-n.invariant.1,
       λ w z. row_next _ _ _ ((here c.before.before.before).1 w) z,
     )
 

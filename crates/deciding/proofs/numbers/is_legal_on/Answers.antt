@@ -10,11 +10,11 @@ use Rattle.deciding.proofs.numbers.is_legal_on.Goals as goal
 
 pub returns-then-not-is_used : goal.returns-then-not-is_used
 returns-then-not-is_used c =
-    λ s. sym (found-unused _ _ _ s.seated.ending s.board (sym (c.is_used.ensures s) ∙ not-true _ c.if-not-is_used.true))
+    λ s. sym (found-unused _ _ _ s.seated.ending s.board (sym (c.is_used.ensures s) ∙ c.if-not-is_used.true))
 
 pub returns : goal.returns
 returns c =
-    λ s. let u = sym (c.is_used.ensures s) ∙ not-false _ c.if-not-is_used.false in
+    λ s. let u = sym (c.is_used.ensures s) ∙ c.if-not-is_used.false in
     let w = used-complete _ _ _ s (of-true u) in
     let f = c.other.ensures in
     let k = s.seated.ending in

@@ -17,13 +17,13 @@ pub returns-then-not-is_used : goal.returns-then-not-is_used
 returns-then-not-is_used c =
     λ g f. let k = given-known c.args.m g c.if-m-eq-PAWN.false in
     let s = c.in_row-q.ensures (f k) in
-    found-unused _ _ _ k s.board (sym (c.is_used.ensures s) ∙ not-true _ c.if-not-is_used.true)
+    found-unused _ _ _ k s.board (sym (c.is_used.ensures s) ∙ c.if-not-is_used.true)
 
 pub returns-then-checked : goal.returns-then-checked
 returns-then-checked c =
     λ g f. let k = given-known c.args.m g c.if-m-eq-PAWN.false in
     let s = c.in_row-q.ensures (f k) in
-    let u = sym (c.is_used.ensures s) ∙ not-false _ c.if-not-is_used.false in
+    let u = sym (c.is_used.ensures s) ∙ c.if-not-is_used.false in
     let w = used-complete _ _ _ s (of-true u) in
     found-illegal _ _ _ k s.board u w
     (checked-other _ _ _ _ _ c.other.ensures (c.checked.ensures w) c.if-checked.true)
@@ -33,7 +33,7 @@ returns c =
     λ g f. let a = c.args in
     let k = given-known a.m g c.if-m-eq-PAWN.false in
     let s = c.in_row-q.ensures (f k) in
-    let u = sym (c.is_used.ensures s) ∙ not-false _ c.if-not-is_used.false in
+    let u = sym (c.is_used.ensures s) ∙ c.if-not-is_used.false in
     let w = used-complete _ _ _ s (of-true u) in
     pieces-standing a.m a.n (Standing.Legal c.in_row-q.result) k (found-legal _ _ _ k s.board u w
     (checked-other _ _ _ _ _ c.other.ensures (c.checked.ensures w) c.if-checked.false))

@@ -7,8 +7,8 @@ use Rattle.deciding.proofs.numbers.legal_of_pawn.Goals as goal
 
 pub returns-then-not-is_pawn_legal : goal.returns-then-not-is_pawn_legal
 returns-then-not-is_pawn_legal c =
-    λ m e. pawn-nothing m _ _ e c.pawn_seat-q.ensures (sym c.is_pawn_legal.ensures ∙ not-true _ c.if-not-is_pawn_legal.true)
+    λ m e. pawn-nothing m _ _ e c.pawn_seat-q.ensures (sym c.is_pawn_legal.ensures ∙ c.if-not-is_pawn_legal.true)
 
 pub returns : goal.returns
 returns c =
-    λ m e. pawn-standing m _ _ e c.pawn_seat-q.ensures (sym c.is_pawn_legal.ensures ∙ not-false _ c.if-not-is_pawn_legal.false)
+    λ m e. pawn-standing m _ _ e c.pawn_seat-q.ensures (sym c.is_pawn_legal.ensures ∙ c.if-not-is_pawn_legal.false)

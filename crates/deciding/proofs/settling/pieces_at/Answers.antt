@@ -18,12 +18,12 @@ returns-then-not-requires_on c =
     let a = c.args in
     λ w l h. let at = c.place_at-q.ensures w l h in
     let full = shared-complete _ _ _ at (sym c.shares.ensures ∙ c.if-shares.false) in
-    not-required a.m a.first.now a.second.now a.table.now a.k a.n w _ at.board _ (c.requires_on.ensures full) (not-true _ c.if-not-requires_on.true)
+    not-required a.m a.first.now a.second.now a.table.now a.k a.n w _ at.board _ (c.requires_on.ensures full) c.if-not-requires_on.true
 
 pub returns : goal.returns
 returns c =
     let a = c.args in
     λ w l h. let at = c.place_at-q.ensures w l h in
     let full = shared-complete _ _ _ at (sym c.shares.ensures ∙ c.if-shares.false) in
-    legal-required a.m a.first.now a.second.now a.table.now a.k a.n w _ at.board _ (c.requires_on.ensures full) (not-false _ c.if-not-requires_on.false) _
+    legal-required a.m a.first.now a.second.now a.table.now a.k a.n w _ at.board _ (c.requires_on.ensures full) c.if-not-requires_on.false _
     (c.is_legal_number.ensures w l h)

@@ -12,12 +12,12 @@ returns-then-not-has c =
     let a = c.args in
     settle-no _ _ _ _ _ _
     (verdict-none a.m a.first.now a.second.now a.table.now 0 a.n
-    (mate-in-row _ _ _ c.requires.2 (sym c.has.ensures ∙ not-true _ c.if-not-has.true) a.first.now a.second.now
+    (mate-in-row _ _ _ c.requires.2 (sym c.has.ensures ∙ c.if-not-has.true) a.first.now a.second.now
     a.table.now))
     refl
 
 pub returns-then-not-settles : goal.returns-then-not-settles
-returns-then-not-settles c = settle-no _ _ _ _ _ _ c.settles.ensures (not-true _ c.if-not-settles.true)
+returns-then-not-settles c = settle-no _ _ _ _ _ _ c.settles.ensures c.if-not-settles.true
 
 pub returns : goal.returns
-returns c = settle-yes _ _ _ _ _ _ c.settles.ensures (not-false _ c.if-not-settles.false)
+returns c = settle-yes _ _ _ _ _ _ c.settles.ensures c.if-not-settles.false

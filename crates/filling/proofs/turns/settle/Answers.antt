@@ -22,7 +22,7 @@ settles_on-requires c =
     (p.0, p.2, c.if-table-n-ne1.false, λ w. c.in_row-q.ensures (p.3 w))
 
 pub returns-then-not-settles_on : goal.returns-then-not-settles_on
-returns-then-not-settles_on c = settle-no _ _ _ _ _ _ c.settles_on.ensures (not-true _ c.if-not-settles_on.true)
+returns-then-not-settles_on c = settle-no _ _ _ _ _ _ c.settles_on.ensures c.if-not-settles_on.true
 
 pub returns : goal.returns
-returns c = settle-yes _ _ _ _ _ _ c.settles_on.ensures (not-false _ c.if-not-settles_on.false)
+returns c = settle-yes _ _ _ _ _ _ c.settles_on.ensures c.if-not-settles_on.false

@@ -38,7 +38,7 @@ returns-then-not-requires_on c =
     let full = shared-complete _ _ _ (p.3 w) (sym c.shares.ensures ∙ c.if-shares.false) in
     verdict-required a.m a.first.now a.second.now a.table.now a.k a.n p.2 _
     (not-required a.m a.first.now a.second.now a.table.now a.k a.n w _ (p.3 w).board _
-    (c.requires_on.ensures full) (not-true _ c.if-not-requires_on.true))
+    (c.requires_on.ensures full) c.if-not-requires_on.true)
 
 pub overflow_cast-n-2 : goal.overflow_cast-n-2
 overflow_cast-n-2 c = let p = c.requires in omega (arith, small-number _ _ _ _ p.1 _ p.0)
@@ -51,5 +51,5 @@ returns c =
     let full = shared-complete _ _ _ (p.3 w) (sym c.shares.ensures ∙ c.if-shares.false) in
     verdict-required a.m a.first.now a.second.now a.table.now a.k a.n p.2 _
     (legal-required a.m a.first.now a.second.now a.table.now a.k a.n w _ (p.3 w).board _
-    (c.requires_on.ensures full) (not-false _ c.if-not-requires_on.false) _
+    (c.requires_on.ensures full) c.if-not-requires_on.false _
     (c.is_legal_on.ensures (p.3 w)))

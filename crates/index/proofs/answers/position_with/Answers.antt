@@ -6,14 +6,14 @@ use borrow.Author.Rules.{rules}
 use Rattle.index.proofs.answers.position_with.Goals as goal
 
 pub returns-then-not-is_given : goal.returns-then-not-is_given
-returns-then-not-is_given c = with-unknown _ _ (sym c.is_given.ensures ∙ not-true _ c.if-not-is_given.true)
+returns-then-not-is_given c = with-unknown _ _ (sym c.is_given.ensures ∙ c.if-not-is_given.true)
 
 pub returns-then-size_of-n : goal.returns-then-size_of-n
 returns-then-size_of-n c =
-    with-above _ _ (sym c.is_given.ensures ∙ not-false _ c.if-not-is_given.false)
+    with-above _ _ (sym c.is_given.ensures ∙ c.if-not-is_given.false)
     (rw (← c.size_of.ensures) c.if-size_of-n.true)
 
 pub returns : goal.returns
 returns c =
-    with-found _ _ c.men_of.result (sym c.is_given.ensures ∙ not-false _ c.if-not-is_given.false) _ c.size_of.ensures
+    with-found _ _ c.men_of.result (sym c.is_given.ensures ∙ c.if-not-is_given.false) _ c.size_of.ensures
     c.if-size_of-n.false c.men_of.ensures _ c.found_at.ensures

@@ -20,7 +20,7 @@ loop-i-init c = record { alike = c.if-shape-line.false; within = omega arith; re
 pub returns-then-not-fits_place : goal.returns-then-not-fits_place
 returns-then-not-fits_place c =
     sym (c.loop-i.invariant.rest ∙ shape-first _ _ c.loop-i.i (omega arith) (omega arith)
-    ∙ rw (sym c.fits_place.ensures ∙ not-true _ c.if-not-fits_place.true))
+    ∙ rw (sym c.fits_place.ensures ∙ c.if-not-fits_place.true))
 
 pub loop-i-preserved : goal.loop-i-preserved
 loop-i-preserved c =
@@ -28,7 +28,7 @@ loop-i-preserved c =
       alike = c.loop-i.invariant.alike;
       within = omega arith;
       rest = c.loop-i.invariant.rest ∙ shape-first _ _ c.loop-i.i (omega arith) (omega arith)
-          ∙ rw (sym c.fits_place.ensures ∙ not-false _ c.if-not-fits_place.false);
+          ∙ rw (sym c.fits_place.ensures ∙ c.if-not-fits_place.false);
     }
 
 pub returns : goal.returns

@@ -15,7 +15,7 @@ pub returns-then-not-has : goal.returns-then-not-has
 unfolding board_of posed
 returns-then-not-has c =
     λ kind owner v. mover-free v c.if-free-eq0.false _ _ _ c.other-foe.ensures c.without.ensures
-    c.strike_set-strike.ensures _ c.king_at.ensures (sym c.has.ensures ∙ not-true _ c.if-not-has.true)
+    c.strike_set-strike.ensures _ c.king_at.ensures (sym c.has.ensures ∙ c.if-not-has.true)
     c.ranges.free.fits
 
 pub returns : goal.returns
@@ -25,5 +25,5 @@ returns c =
     let some = c.if-free-eq0.false in
     λ kind owner v. mover-parried v some _ _ _ foe c.without.ensures c.strike_set-strike.ensures _
     c.king_at.ensures _ (c.own_at.ensures (omega (arith, foe)))
-    (sym c.has.ensures ∙ not-false _ c.if-not-has.false) _ c.tested.type_inv
+    (sym c.has.ensures ∙ c.if-not-has.false) _ c.tested.type_inv
     (c.tested.ensures (mover-stays v some))

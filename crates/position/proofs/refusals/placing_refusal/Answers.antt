@@ -12,7 +12,7 @@ returns-then-bad_men c = sym (rw (sym c.bad_men.ensures ∙ c.if-bad_men.true))
 pub returns-then-not-is_refused : goal.returns-then-not-is_refused
 unfolding placing_refusal
 returns-then-not-is_refused c =
-    sym (rw (sym c.bad_men.ensures ∙ c.if-bad_men.false) (c.is_refused.ensures (not-true _ c.if-not-is_refused.true)))
+    sym (rw (sym c.bad_men.ensures ∙ c.if-bad_men.false) (c.is_refused.ensures c.if-not-is_refused.true))
 
 pub returns : goal.returns
 unfolding placing_refusal

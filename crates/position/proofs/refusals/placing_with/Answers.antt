@@ -12,7 +12,7 @@ returns-then-bad_men_of c = sym (rw (sym c.bad_men_of.ensures ∙ c.if-bad_men_o
 pub returns-then-not-is_refused : goal.returns-then-not-is_refused
 unfolding placing_with
 returns-then-not-is_refused c =
-    sym (rw (sym c.bad_men_of.ensures ∙ c.if-bad_men_of.false) (c.is_refused.ensures (not-true _ c.if-not-is_refused.true)))
+    sym (rw (sym c.bad_men_of.ensures ∙ c.if-bad_men_of.false) (c.is_refused.ensures c.if-not-is_refused.true))
 
 pub returns : goal.returns
 unfolding placing_with

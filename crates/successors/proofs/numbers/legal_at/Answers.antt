@@ -10,12 +10,12 @@ use Rattle.successors.proofs.numbers.legal_at.Goals as goal
 pub returns-then-not-is_used : goal.returns-then-not-is_used
 returns-then-not-is_used c =
     λ k l h. let s = c.place_at-q.ensures k l h in
-    found-unused _ _ _ k s.board (sym (c.is_used.ensures s) ∙ not-true _ c.if-not-is_used.true)
+    found-unused _ _ _ k s.board (sym (c.is_used.ensures s) ∙ c.if-not-is_used.true)
 
 pub returns-then-checked : goal.returns-then-checked
 returns-then-checked c =
     λ k l h. let s = c.place_at-q.ensures k l h in
-    let u = sym (c.is_used.ensures s) ∙ not-false _ c.if-not-is_used.false in
+    let u = sym (c.is_used.ensures s) ∙ c.if-not-is_used.false in
     let w = used-complete _ _ _ s (of-true u) in
     found-illegal _ _ _ k s.board u w
     (checked-other _ _ _ _ _ c.other.ensures (c.checked.ensures w) c.if-checked.true)
@@ -23,7 +23,7 @@ returns-then-checked c =
 pub returns : goal.returns
 returns c =
     λ k l h. let s = c.place_at-q.ensures k l h in
-    let u = sym (c.is_used.ensures s) ∙ not-false _ c.if-not-is_used.false in
+    let u = sym (c.is_used.ensures s) ∙ c.if-not-is_used.false in
     let w = used-complete _ _ _ s (of-true u) in
     found-legal _ _ _ k s.board u w
     (checked-other _ _ _ _ _ c.other.ensures (c.checked.ensures w) c.if-checked.false)

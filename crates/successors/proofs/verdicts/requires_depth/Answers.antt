@@ -8,7 +8,7 @@ use Rattle.successors.proofs.verdicts.requires_depth.Goals as goal
 
 pub returns-then-not-checked : goal.returns-then-not-checked
 returns-then-not-checked c =
-    λ w. place-quiet _ _ (sym (c.checked.ensures w) ∙ not-true _ c.if-not-checked.true)
+    λ w. place-quiet _ _ (sym (c.checked.ensures w) ∙ c.if-not-checked.true)
     ∙ depth-mate _ _ _ c.if-k-eq0.true
 
 pub returns-then-king_targets-ne0 : goal.returns-then-king_targets-ne0

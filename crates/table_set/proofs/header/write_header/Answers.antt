@@ -29,7 +29,7 @@ loop-code-smaller-then-not-chosen c = omega arith
 pub loop-code-preserved-then-not-chosen : goal.loop-code-preserved-then-not-chosen
 loop-code-preserved-then-not-chosen c =
     headed-pass _ _ _ _ _ _ _ c.loop-code.invariant _ c.chosen.ensures
-    c.loop-code-test.true (not-true _ c.if-not-chosen.true)
+    c.loop-code-test.true c.if-not-chosen.true
 
 pub overflow_cast-c : goal.overflow_cast-c
 overflow_cast-c c = omega arith
@@ -39,7 +39,7 @@ put_word-requires-in-loop-code c =
     omega (
       arith,
       headed-room _ _ _ _ _ _ _ c.loop-code.invariant _ c.chosen.ensures
-          c.loop-code-test.true (not-false _ c.if-not-chosen.false),
+          c.loop-code-test.true c.if-not-chosen.false,
     )
 
 pub overflow_add-at : goal.overflow_add-at
@@ -49,7 +49,7 @@ overflow_add-at c =
       headed-room _ _ _ _ _ _ _ c.loop-code.invariant _
           c.chosen.ensures
           c.loop-code-test.true
-          (not-false _ c.if-not-chosen.false),
+          c.if-not-chosen.false,
     )
 
 pub put_word-requires-in-loop-code-2 : goal.put_word-requires-in-loop-code-2
@@ -59,7 +59,7 @@ put_word-requires-in-loop-code-2 c =
       headed-room _ _ _ _ _ _ _ c.loop-code.invariant _
           c.chosen.ensures
           c.loop-code-test.true
-          (not-false _ c.if-not-chosen.false),
+          c.if-not-chosen.false,
       c.put_word-in-loop-code.auto.0,
     )
 
@@ -71,7 +71,7 @@ overflow_add-at-in-loop-code c =
           c.loop-code.invariant _
           c.chosen.ensures
           c.loop-code-test.true
-          (not-false _ c.if-not-chosen.false),
+          c.if-not-chosen.false,
     )
 
 pub put_word-requires-in-loop-code-3 : goal.put_word-requires-in-loop-code-3
@@ -82,7 +82,7 @@ put_word-requires-in-loop-code-3 c =
           c.loop-code.invariant _
           c.chosen.ensures
           c.loop-code-test.true
-          (not-false _ c.if-not-chosen.false),
+          c.if-not-chosen.false,
       c.put_word-in-loop-code.auto.0,
       c.put_word-in-loop-code-2.auto.0,
     )
@@ -92,7 +92,7 @@ overflow_add-at-in-loop-code-2 c =
     omega (
   arith,
   headed-room _ _ _ _ _ _ _
-      c.loop-code.invariant _ c.chosen.ensures c.loop-code-test.true (not-false _ c.if-not-chosen.false),
+      c.loop-code.invariant _ c.chosen.ensures c.loop-code-test.true c.if-not-chosen.false,
 )
 
 pub overflow_add-offset-in-loop-code : goal.overflow_add-offset-in-loop-code
@@ -113,7 +113,7 @@ loop-code-smaller c =
 pub loop-code-preserved : goal.loop-code-preserved
 loop-code-preserved c =
     headed-take _ _ _ _ _ _ _
-    c.loop-code.invariant _ c.chosen.ensures c.loop-code-test.true (not-false _ c.if-not-chosen.false) _ _ _ c.put_word-in-loop-code.ensures c.put_word-in-loop-code-2.ensures c.put_word-in-loop-code-3.ensures
+    c.loop-code.invariant _ c.chosen.ensures c.loop-code-test.true c.if-not-chosen.false _ _ _ c.put_word-in-loop-code.ensures c.put_word-in-loop-code-2.ensures c.put_word-in-loop-code-3.ensures
 
 pub shape_of-set : goal.shape_of-set
 shape_of-set c = c.loop-code.invariant.same_length ∙ c.put_word.auto.0

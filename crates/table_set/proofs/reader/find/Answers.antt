@@ -12,10 +12,10 @@ pub returns-then-code-gt3 : goal.returns-then-code-gt3
 returns-then-code-gt3 c = find-code _ _ c.if-code-gt3.true
 
 pub returns-then-not-is_set : goal.returns-then-not-is_set
-returns-then-not-is_set c = find-wrong _ _ c.if-code-gt3.false _ c.is_set.ensures (not-true _ c.if-not-is_set.true)
+returns-then-not-is_set c = find-wrong _ _ c.if-code-gt3.false _ c.is_set.ensures c.if-not-is_set.true
 
 pub word-n-requires : goal.word-n-requires
-word-n-requires c = (set-passed _ _ c.is_set.ensures (not-false _ c.if-not-is_set.false)).0
+word-n-requires c = (set-passed _ _ c.is_set.ensures c.if-not-is_set.false).0
 
 pub overflow_mul-offset : goal.overflow_mul-offset
 overflow_mul-offset c = omega arith
@@ -25,12 +25,12 @@ overflow_add-offset c = omega arith
 
 pub loop-left-init : goal.loop-left-init
 loop-left-init c =
-    let l = set-passed _ _ c.is_set.ensures (not-false _ c.if-not-is_set.false) in
+    let l = set-passed _ _ c.is_set.ensures c.if-not-is_set.false in
     let w = c.word-n.ensures.0 in (
       omega (arith, l.0, l.1, w),
       omega (arith, l.1, w),
       find-entries _ _ c.if-code-gt3.false _ c.is_set.ensures
-          (not-false _ c.if-not-is_set.false) _ w,
+          c.if-not-is_set.false _ w,
     )
 
 pub word-requires : goal.word-requires
@@ -41,7 +41,7 @@ overflow_cast-result c =
     omega (
       arith,
       c.loop-left.invariant.1,
-      (set-passed _ _ c.is_set.ensures (not-false _ c.if-not-is_set.false)).2,
+      (set-passed _ _ c.is_set.ensures c.if-not-is_set.false).2,
     )
 
 pub returns-then-word-wanted : goal.returns-then-word-wanted

@@ -44,7 +44,7 @@ pub returns-then-not-is_entry : goal.returns-then-not-is_entry
 returns-then-not-is_entry c =
     sym (sym c.loop-left.invariant.2
     ∙ entries-stop _ _ _ _ _ c.is_entry.ensures _ c.loop-left-test.true
-    (not-true _ c.if-not-is_entry.true))
+    c.if-not-is_entry.true)
 
 pub word-least-requires : goal.word-least-requires
 word-least-requires c = omega arith
@@ -70,7 +70,7 @@ loop-left-preserved c =
   omega arith,
   omega arith,
   entries-more _ _ _ _ _ c.is_entry.ensures _ _ c.loop-left-test.true
-      (not-false _ c.if-not-is_entry.false) c.word-least.ensures.0 ∙ c.loop-left.invariant.2,
+      c.if-not-is_entry.false c.word-least.ensures.0 ∙ c.loop-left.invariant.2,
 )
 
 pub returns : goal.returns

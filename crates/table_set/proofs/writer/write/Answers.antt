@@ -41,12 +41,12 @@ loop-code-smaller-then-not-chosen c = omega arith
 pub loop-code-preserved-then-not-chosen : goal.loop-code-preserved-then-not-chosen
 loop-code-preserved-then-not-chosen c =
     tabled-pass _ _ _ _ _ _ c.loop-code.invariant _ c.chosen.ensures
-    c.loop-code-test.true (not-true _ c.if-not-chosen.true)
+    c.loop-code-test.true c.if-not-chosen.true
 
 pub fill_at-requires : goal.fill_at-requires
 fill_at-requires c =
     tabled-room _ _ _ _ _ _ c.loop-code.invariant _ c.chosen.ensures
-    c.loop-code-test.true (not-false _ c.if-not-chosen.false)
+    c.loop-code-test.true c.if-not-chosen.false
 
 pub shape_of-set-then-is_refused : goal.shape_of-set-then-is_refused
 shape_of-set-then-is_refused c =
@@ -60,7 +60,7 @@ returns-then-is_refused c =
     c.loop-code.invariant _
     c.chosen.ensures
     c.loop-code-test.true
-    (not-false _ c.if-not-chosen.false) _ _ _ f.0
+    c.if-not-chosen.false _ _ _ f.0
     c.is_refused.ensures f.1 c.if-is_refused.true in
     write-is _ _ _ _ c.count-n.ensures.0
     c.if-set-first.false c.write_header.ensures _ _
@@ -74,7 +74,7 @@ overflow_add-at c =
       c.loop-code.invariant _
       c.chosen.ensures
       c.loop-code-test.true
-      (not-false _ c.if-not-chosen.false),
+      c.if-not-chosen.false,
 )
 
 pub loop-code-smaller : goal.loop-code-smaller
@@ -86,7 +86,7 @@ loop-code-preserved c =
     tabled-take _ _ _ _ _ _ c.loop-code.invariant _
     c.chosen.ensures
     c.loop-code-test.true
-    (not-false _ c.if-not-chosen.false) _ _ _ f.ensures.0
+    c.if-not-chosen.false _ _ _ f.ensures.0
     c.is_refused.ensures f.ensures.1 f.auto.1.1.0 c.if-is_refused.false
 
 pub shape_of-set : goal.shape_of-set

@@ -13,7 +13,7 @@ returns-then-not-requires_depth c =
     tried-kept x.m (place_before x.q x.taken x.s x.to) x.q x.s x.to p.2 x.first.now x.second.now x.k _ p.1 x.n p.3
     p.4 p.5
     (λ t w r. told-required x.m (place_before x.q x.taken x.s x.to) x.q x.s x.to p.2 x.first.now x.second.now x.k _ p.1 x.n p.3
-    p.4 p.5 _ _ c.place_before-o.ensures c.requires_depth.ensures ∙ not-true _ c.if-not-requires_depth.true)
+    p.4 p.5 _ _ c.place_before-o.ensures c.requires_depth.ensures ∙ c.if-not-requires_depth.true)
 
 pub returns : goal.returns
 returns c =
@@ -22,4 +22,4 @@ returns c =
     tried-lost x.m (place_before x.q x.taken x.s x.to) x.q x.s x.to p.2 x.first.now x.second.now x.k _ p.1 x.n p.3
     p.4 p.5
     (λ t w r. told-required x.m (place_before x.q x.taken x.s x.to) x.q x.s x.to p.2 x.first.now x.second.now x.k _ p.1 x.n p.3
-    p.4 p.5 _ _ c.place_before-o.ensures c.requires_depth.ensures ∙ not-false _ c.if-not-requires_depth.false)
+    p.4 p.5 _ _ c.place_before-o.ensures c.requires_depth.ensures ∙ c.if-not-requires_depth.false)
