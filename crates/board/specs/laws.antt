@@ -9,5 +9,4 @@ pub mod LowestLaws
 pub mod SweepLaws
 pub mod StepLaws
 pub mod WalkBits
-mod Walked
 pub mod EmptyLaws

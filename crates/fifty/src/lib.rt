@@ -1,11 +1,14 @@
-// An answer at the plies since the last capture: whether a win or a loss comes before a fifty-move claim (02, P13). Looking up
-// with them is a crate above, so that what is asked of them waits for no look-up.
+// Looking a position up with the plies since the last capture: whether a win or a loss comes before a fifty-move claim
+// (02, P13).
 #![tactic(auto)]
 
 ghost use Rattle.std.specs.Prelude.{◌≡◌, ◌+◌, leb};
+ghost use Rattle.four_men.specs.Lending.{lent};
 ghost use Rattle.fifty.specs.Marks.{marks, is_refused, at_count, pawnless, slot_free, marked_for};
+ghost use Rattle.fifty.specs.Marks.{look_up_at, look_up_at_with};
 
 use answers::Answer;
+use look_up::{look_up, look_up_with};
 use position::{Position, Slot};
 
 // Refusal 19: more plies than 99 since the last capture.
@@ -71,7 +74,7 @@ fn is_free(slot: Slot) -> bool
 }
 
 // Whether no man is a pawn.
-pub fn is_pawnless(p: Position) -> bool
+fn is_pawnless(p: Position) -> bool
     ensures { result ≡ pawnless p }
 {
     let first = p.first;
@@ -80,7 +83,7 @@ pub fn is_pawnless(p: Position) -> bool
 }
 
 // What look-up found, at a count, with its mark; with a pawn there is none.
-pub fn marked_at(free: bool, plies: u32, found: Answer) -> Marked
+fn marked_at(free: bool, plies: u32, found: Answer) -> Marked
     ensures { result ≡ marked_for free plies (at_count plies found) }
 {
     let answer = at_count(plies, found);
@@ -88,4 +91,19 @@ pub fn marked_at(free: bool, plies: u32, found: Answer) -> Marked
         answer,
         within_fifty: free & is_marked(plies, answer),
     }
+}
+
+// The answer and its mark, by the table of the position's own ending and the lent ones; or a refusal, 1 to 7, 11, 18 or
+// 19.
+pub fn look_up_at_with(p: Position, plies: u32, table: &[u8], first: &[u8], second: &[u8]) -> Marked
+    ensures { result ≡ look_up_at_with (lent first.now second.now) table.now plies p }
+{
+    marked_at(is_pawnless(p), plies, look_up_with(p, table, first, second))
+}
+
+// The same for the parts that keep to three men: two men are refused 1, and so is a pawn.
+pub fn look_up_at(table: &[u8], p: Position, plies: u32) -> Marked
+    ensures { result ≡ look_up_at table.now plies p }
+{
+    marked_at(true, plies, look_up(table, p))
 }

@@ -21,7 +21,7 @@ pub fn key_at(q: Place) -> u32
 fn reversing(white: u32) -> u32
     ensures { (white < 64 → result ≡ flip_of white) × (result < 64) }
 {
-    (white / 4 % 2 + white / 32 % 2 * 8) * 7
+    white / 4 % 2 * 7 + white / 32 % 2 * 56
 }
 
 // All squares of a key with the reversals for its white king; no second man is left at 0.

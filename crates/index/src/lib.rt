@@ -48,9 +48,9 @@ pub struct Still {
     // There is no second man; both are alike.
     pub single: bool,
     pub like: bool,
-    // The row of pairs with the other king: the numbers go from `base` on, `unit` from pair to pair. Or 0: `base` is the key with the piece on a1, to which
-    // each step of one square adds `unit`.
-    pub row: u8,
+    // A row of its squares, each of which forms a pair with the other king: the numbers go from `base` on, `unit` from pair to pair. Or none: `base` is the
+    // key with the piece on a1, to which each step of one square adds `unit`.
+    pub row: u64,
     pub base: u32,
     pub unit: u32,
 }

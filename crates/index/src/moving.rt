@@ -9,7 +9,7 @@ ghost use Rattle.index.specs.Moving.{row_beside, Keyed, Stands, king_on};
 use super::Still;
 use super::keys::{key_at, number_keyed};
 use super::least::{alike, number_by, rising_key};
-use pairs::{PAIR_COUNT, place_in, start_of};
+use pairs::{PAIR_COUNT, count_before, first_of, partners_of};
 use position::{Men, Place};
 
 // The squares of a piece that stands on a1 in this place: by the key.
@@ -26,13 +26,13 @@ fn still_keyed(m: Men, q: Place, unit: u32) -> Still
     }
 }
 
-// The row of a white king in the triangle a1-d1-d4 and off its diagonal, where nothing is turned or exchanged, wherever Black's stands: 23 less his square.
-// 0 where he stands elsewhere.
-fn row_beside(white: u8) -> u8
+// Black's squares that form a pair with the white king's, where he stands in the triangle a1-d1-d4 and off its diagonal: nothing is turned or exchanged then,
+// whichever of them it is. None where he stands elsewhere.
+fn row_beside(white: u8) -> u64
     ensures { result ≡ row_beside white }
 {
     if (white / 8 < white % 8) & (white % 8 < 4) {
-        return 23 - white;
+        return partners_of(white);
     }
     0
 }
@@ -48,13 +48,13 @@ fn pair_scale(single: bool) -> u32
 }
 
 // The squares of Black's king, who stands on a1 in this place, at the row of the white king's pairs.
-fn still_rowed(m: Men, row: u8, q: Place) -> Still
+fn still_rowed(m: Men, row: u64, q: Place) -> Still
     requires { (row ≡ row_beside q.white) × (row ≡ 0 → ⊥) × (q.black ≡ 0) }
     ensures { Stands m result (king_on false q.white 0 q.first q.second) }
 {
     let single = 64 <= q.second;
     let like = alike(m);
-    let first = start_of(q.white);
+    let first = first_of(q.white) as u16;
     Still {
         single,
         like,
@@ -108,6 +108,6 @@ pub fn still_number(l: Still, side: u8, s: u8) -> usize
     if row == 0 {
         return number_keyed(l.single, l.like, side, l.base + s as u32 * l.unit) as usize;
     }
-    let kings = side as usize * PAIR_COUNT as usize + place_in(row, s) as usize;
+    let kings = side as usize * PAIR_COUNT as usize + count_before(row, s) as usize;
     kings * l.unit as usize + l.base as usize
 }

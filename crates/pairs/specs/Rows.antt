@@ -1,5 +1,5 @@
 -- The pair of two kings by rows of bits, a second way to it beside the list of 640 entries. Definitions only.
-use Rattle.std.specs.Prelude.{Bool, cond, ◌&&◌, ℕ, ◌+◌, ◌-◌, ◌*◌, ◌/◌, ◌%◌, ◌^◌, eqb, ltb}
+use Rattle.std.specs.Prelude.{cond, ℕ, ◌+◌, ◌/◌, ◌%◌, ◌^◌, eqb}
 use Rattle.std.specs.Int.Count.{ones_in}
 
 -- for each of the ten squares of the white king, the set of the black king's squares that form a pair with his
@@ -33,21 +33,3 @@ first_of white =
 -- the pair of a white square and a black one on the board, counted from the first of its row; 65535 where they form none
 unfoldable pub pair_by_row : ℕ → ℕ → ℕ
 pair_by_row white black = cond (eqb (partners_of white / 2 ^ black % 2) 0) 65535 (first_of white + ones_in 64 (partners_of white % 2 ^ black))
-
--- the white king at home: in the triangle a1-d1-d4 and off its diagonal, where every square that does not touch his forms a pair with it
-abbrev pub at_home : ℕ → Bool
-at_home white = ltb (white / 8) (white % 8) && ltb (white % 8) 4
-
--- what his pairs are counted from
-unfoldable pub start_of : ℕ → ℕ
-start_of white =
-    cond (eqb (white - white / 8 * 4) 1) 27
-    (cond (eqb (white - white / 8 * 4) 2) 85
-    (cond (eqb (white - white / 8 * 4) 3) 143
-    (cond (eqb (white - white / 8 * 4) 6) 228
-    (cond (eqb (white - white / 8 * 4) 7) 283
-    (cond (eqb (white - white / 8 * 4) 11) 368 0)))))
-
--- a black square's place in his row: nine squares more, less three for each rank that he touches and that is passed; `row` is 23 less the white king's square
-unfoldable pub place_in : ℕ → ℕ → ℕ
-place_in row black = black + 13977 / 2 ^ ((black + row) / 8 % 16 * 4) % 16

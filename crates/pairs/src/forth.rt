@@ -1,5 +1,5 @@
 // The pair of two kings' squares, by a constant list and by the same list packed.
-ghost use Rattle.std.specs.Prelude.{◌≡◌, ◌/◌, ◌%◌, ◌<◌, T};
+ghost use Rattle.std.specs.Prelude.{◌≡◌, ◌/◌, ◌%◌, ◌<◌, T, get_or};
 ghost use Rattle.numbering.specs.Kings.{in_triangle, pair_of};
 ghost use Rattle.pairs.specs.Tables.{slot_of, pairs, pair_in};
 
@@ -83,11 +83,24 @@ pub fn pair_in(list: &PairList, white: u8, black: u8) -> u16
     list[slot as usize * 64 + black as usize]
 }
 
-// The pair of kings packed as white king's square x 64 + black king's, the white king in the triangle a1-d1-d4, from the packed words: nothing is built to
-// read it.
+// The list's entry, from the packed words: nothing is built to read one.
+fn pair_at(i: u16) -> u16
+    requires { i < 640 }
+    ensures { result ≡ get_or pairs i 0 }
+{
+    ((four_pairs(i / 4) >> (i % 4 * 16)) % 65536) as u16
+}
+
+// The pair of kings packed as white king's square x 64 + black king's, the white king in the triangle a1-d1-d4, where each rank has one square fewer
+// than the one below.
 pub fn pair_by(kings: u16) -> u16
     ensures { kings < 4096 → T (in_triangle (kings / 64)) → result ≡ pair_of (kings / 64) (kings % 64) }
 {
-    let word = four_pairs(((kings % 256 + 128) % 256) as u8);
-    ((word >> (kings / 512 % 4 * 16)) % 65536) as u16
+    let k = kings % 4096;
+    let rank = k / 64 / 8;
+    let i = k - rank * (rank + 9) * 32;
+    if 640 <= i {
+        return 65535;
+    }
+    pair_at(i)
 }

@@ -7,7 +7,7 @@ mod rows;
 
 pub use back::kings_of;
 pub use forth::{pair_by, pair_in, pair_list};
-pub use rows::{count_before, first_of, pair_by_row, partners_of, place_in, start_of};
+pub use rows::{count_before, first_of, pair_by_row, partners_of};
 
 // How many pairs there are.
 pub const PAIR_COUNT: u32 = 462;

@@ -3,10 +3,7 @@ ghost use Rattle.std.specs.Prelude.{◌≡◌, ◌%◌, ◌≤◌, ◌<◌};
 ghost use Rattle.std.specs.Int.Count.{ones};
 ghost use Rattle.board.specs.SetLaws.{bit};
 ghost use Rattle.numbering.specs.Kings.{pair_of};
-ghost use Rattle.pairs.specs.Rows.{partners_of, first_of, start_of, place_in};
-
-// Squares by ranks passed, a digit of four bits each: none and one, two, three.
-const AHEAD: u64 = 0x3699;
+ghost use Rattle.pairs.specs.Rows.{partners_of, first_of};
 
 // The black king's squares that form a pair with the white king's.
 pub fn partners_of(white: u8) -> u64
@@ -66,28 +63,4 @@ pub fn pair_by_row(white: u8, black: u8) -> u16
         return 65535;
     }
     (first_of(white) + count_before(row, black)) as u16
-}
-
-// What the pairs of a white king at home are counted from.
-pub fn start_of(white: u8) -> u16
-    ensures { (result ≡ start_of white) × (result ≤ 368) }
-{
-    match white - white / 8 * 4 {
-        1 => 27,
-        2 => 85,
-        3 => 143,
-        6 => 228,
-        7 => 283,
-        11 => 368,
-        _ => 0,
-    }
-}
-
-// How far a black square lies in the row of a white king at home, `row` being 23 less his square: nine more while the ranks that he touches lie ahead, three
-// fewer for each of them that is passed.
-pub fn place_in(row: u8, black: u8) -> u64
-    ensures { (result ≡ place_in row black) × (result ≤ 270) }
-{
-    let passed = (black as u64 + row as u64) / 8 % 16;
-    black as u64 + (AHEAD >> (passed * 4)) % 16
 }

@@ -11,9 +11,9 @@ ghost use Rattle.given_words.specs.Endings.{material_read};
 ghost use Rattle.sledgewren.specs.Words.{filled_word, checked_word, marked_word};
 
 use checking::check_with;
+use fifty::look_up_at_with;
 use filling::{fill_back, fill_with};
 use given_words::{material_read, position_read};
-use look_up_at::look_up_at_with;
 use words::{checked_word, filled_word, marked_word};
 
 // Refusals 1, 7 and 17 leave the table as it was, 10 all zero.

@@ -22,12 +22,11 @@ use Rattle.constants.specs.EmptyBoard.{king_steps, knight_steps, rook_lines, bis
 use Rattle.board.specs.laws.SetLaws.{has-none, has-and, has-or, set_of-same, set_is, set-has}
 use Rattle.board.specs.laws.ReachLaws.{reaches-squares, reaches-off, king-reaches, knight-reaches}
 use Rattle.board.specs.laws.Blocking.{reaches-fewer}
-use Rattle.board.specs.laws.Walked.{along, walked, among, walked-reaches}
 
 -- ---- the lists
 
 right : List ℕ → ℕ → ℕ → Bool
-right list kind s = eqb (get_or list s 0) (set_of (among (walked kind s (steps_of kind))))
+right list kind s = eqb (get_or list s 0) (set_of (reaches nothing kind s))
 
 -- off the board a list has nothing, and nothing is attacked from there
 module _ (list : List ℕ) (kind : ℕ) (n : length list ≡ 64) (t : T (all_below (right list kind) 64)) (s : ℕ) where
@@ -39,26 +38,23 @@ module _ (list : List ℕ) (kind : ℕ) (n : length list ≡ 64) (t : T (all_bel
   listed : get_or list s 0 ≡ set_of (reaches nothing kind s)
   unfolding right
   listed =
-      ⊎_elim off-board
-      (λ h.
-      eqb→eq (get_or list s 0) (set_of (among (walked kind s (steps_of kind)))) (below (right list kind) 64 t s h)
-      ∙ set_of-same (among (walked kind s (steps_of kind))) (reaches nothing kind s) (λ u l. walked-reaches kind s u))
+      ⊎_elim off-board (λ h. eqb→eq (get_or list s 0) (set_of (reaches nothing kind s)) (below (right list kind) 64 t s h))
       (le-or-lt 64 s)
 
 kings-right : T (all_below (right king_steps 5) 64)
-unfolding all_below right set_of pack any numbers along walked shift stays
+unfolding all_below right set_of pack reaches any numbers line shift stays
 kings-right = tt
 
 knights-right : T (all_below (right knight_steps 3) 64)
-unfolding all_below right set_of pack any numbers along walked shift stays
+unfolding all_below right set_of pack reaches any numbers line shift stays
 knights-right = tt
 
 rooks-right : T (all_below (right rook_lines 1) 64)
-unfolding all_below right set_of pack any numbers along walked shift stays
+unfolding all_below right set_of pack reaches any numbers line shift stays
 rooks-right = tt
 
 bishops-right : T (all_below (right bishop_lines 2) 64)
-unfolding all_below right set_of pack any numbers along walked shift stays
+unfolding all_below right set_of pack reaches any numbers line shift stays
 bishops-right = tt
 
 pub king-steps : (s : ℕ) → get_or king_steps s 0 ≡ set_of (reaches nothing 5 s)

@@ -77,20 +77,15 @@ pawn-board m q s =
 
 -- ---- bytes
 
--- one definition under two names: said once, so that no proof below counts the 59,136 bytes
-part_same : (kind : ℕ) (run : List ℕ) → part_of kind run ≡ kind_part kind run
-unfolding part_of kind_part
-part_same kind run = refl
-
 module _ (first second table : List ℕ) where
   by-men : (b : Board) → reads chess (numbered Material.Pawn (record { first = first; second = second })) table b ≡ pawn_bytes first table b
-  unfolding reads numbered byte_of pawn_bytes
+  unfolding reads numbered byte_of pawn_bytes part_of kind_part
   by-men b = go b.men refl
     where
       go : (l : List Piece) → b.men ≡ l
           → reads chess (numbered Material.Pawn (record { first = first; second = second })) table b ≡ pawn_bytes first table b
       go [] e = rw e
-      go (a ∷ l) e = rw (e, part_same a.kind first)
+      go (a ∷ l) e = rw e
 
   pub pawn-bytes : (m : Men) → material_for m ≡ Material.Pawn → bytes_in m first second table ≡ pawn_bytes first table
   pawn-bytes m e =

@@ -1,11 +1,12 @@
 -- Laws by which the code of the whole fill is proved: what the steps come to, and what is promised of it.
-use Rattle.std.specs.Prelude.{◌≡◌, refl, Bool, true, false, cond, length, get_or}
+use Rattle.std.specs.Prelude.{◌≡◌, refl, Bool, true, false, cond, ◌⊎◌, length, take, drop, get_or}
 use Rattle.std.proofs.Math.Path.{sym, ap, ap₂, subst⁻¹, fun_ext}
-use Rattle.std.proofs.Common.{subst, ◌∙◌}
+use Rattle.std.proofs.Common.{subst, ◌∙◌, inl, inr, arith, length-take, get_or-take, get_or-drop}
 use mathlib.Core.List.Memᴰ
 use mathlib.Core.List.{List}
-use Prim.Native.Nat.{ℕ, ◌-◌, ◌<◌}
-use Rattle.finite.specs.Truth.{of-true, refuted}
+use Prim.Native.Nat.{ℕ, ◌+◌, ◌*◌, ◌-◌, ◌<◌, ◌≤◌}
+use Rattle.std.proofs.Math.ListN.{get_or-eq_default}
+use Rattle.finite.specs.Truth.{of-true, le-or-lt, refuted}
 use Rattle.finite.specs.Members.{none_in}
 use Rattle.finite.specs.Mapped.{map_from, length-map_from}
 use Rattle.table_theory.specs.Tables.{Outcome, undecided, ended, start_byte}
@@ -26,7 +27,6 @@ use Rattle.four_men.specs.Truth.{FillTrueOf, LentBytes}
 use Rattle.four_men.specs.Steps.{nothing}
 use Rattle.four_men.specs.laws.Filling.{filled-1, filled-7, filled-17, fill-with-is, filled-true-with}
 use Rattle.four_men.specs.laws.Alone.{fill-alone}
-use Rattle.four_men.specs.laws.Parts.{part-byte}
 use Rattle.working_back.specs.Admitted.{over}
 use Rattle.working_back.specs.Trying.{Ready}
 use Rattle.working_back.specs.laws.Won.{ready-start}
@@ -72,9 +72,17 @@ module _ (m : Men) (first second t u : List ℕ)
 -- ---- what is promised
 
 -- a part of bytes is of bytes
-part-of : (kind : ℕ) (run : List ℕ) → ((n : ℕ) → get_or run n 0 < 256) → (t : List ℕ) → t ≡ part_of kind run → (n : ℕ)
+part-byte : (kind : ℕ) (run : List ℕ) → ((n : ℕ) → get_or run n 0 < 256) → (t : List ℕ) → t ≡ part_of kind run → (n : ℕ)
     → get_or t n 0 < 256
-part-of kind run f t e n = subst⁻¹ (λ (u : List ℕ). get_or u n 0 < 256) e (part-byte kind run f n)
+unfolding part_of
+part-byte kind run f t e n = subst⁻¹ (λ (u : List ℕ). get_or u n 0 < 256) e (go (le-or-lt 59136 n))
+  where
+    go : (59136 ≤ n) ⊎ (n < 59136) → get_or (take 59136 (drop (kind * 59136) run)) n 0 < 256
+    go (inl h) =
+        let z = length-take 59136 (drop (kind * 59136) run) in
+        let g : length (take 59136 (drop (kind * 59136) run)) ≤ n = omega (arith, z) in
+        rw (get_or-eq_default (take 59136 (drop (kind * 59136) run)) 0 g) (omega arith)
+    go (inr h) = rw (get_or-take, get_or-drop) (f (kind * 59136 + n))
 
 -- the lent tables are bytes
 pub lent-bytes : (m : Material) (first second : List ℕ) → ((n : ℕ) → get_or first n 0 < 256)
@@ -84,12 +92,12 @@ lent-bytes (Material.Two j k r) first second f s t (Memᴰ.head e) n =
     subst (λ (u : List ℕ). get_or u n 0 < 256) (sym e) (f n)
 lent-bytes (Material.Two j k r) first second f s t (Memᴰ.tail (Memᴰ.head e)) n =
     subst (λ (u : List ℕ). get_or u n 0 < 256) (sym e) (s n)
-lent-bytes Material.Pawn first second f s t (Memᴰ.head e) n = part-of 0 first f t e n
-lent-bytes Material.Pawn first second f s t (Memᴰ.tail (Memᴰ.head e)) n = part-of 1 first f t e n
+lent-bytes Material.Pawn first second f s t (Memᴰ.head e) n = part-byte 0 first f t e n
+lent-bytes Material.Pawn first second f s t (Memᴰ.tail (Memᴰ.head e)) n = part-byte 1 first f t e n
 lent-bytes Material.Pawn first second f s t (Memᴰ.tail (Memᴰ.tail (Memᴰ.head e))) n =
-    part-of 2 first f t e n
+    part-byte 2 first f t e n
 lent-bytes Material.Pawn first second f s t (Memᴰ.tail (Memᴰ.tail (Memᴰ.tail (Memᴰ.head e)))) n =
-    part-of 3 first f t e n
+    part-byte 3 first f t e n
 
 module _ (m : Material) (l : Lent) (t : List ℕ) (small : LentBytes m l) where
   promised : (a : Filled) (u : List ℕ) → a ≡ (fill_with m l t).answer → u ≡ (fill_with m l t).bytes

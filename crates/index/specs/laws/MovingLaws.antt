@@ -1,28 +1,30 @@
 -- The numbers of a king's squares while all other pieces stand still: his square put into the key of the others; and for Black's, the white king in the
 -- triangle and off its diagonal, the pairs of a row one after the other.
-use Rattle.std.specs.Prelude.{◌≡◌, refl, Bool, ◌&&◌, ℕ, ◌+◌, ◌-◌, ◌*◌, ◌/◌, ◌%◌, ◌^◌, ◌<◌, ◌≤◌, T, ltb}
+use Rattle.std.specs.Prelude.{◌≡◌, Bool, ◌&&◌, ℕ, ◌+◌, ◌*◌, ◌/◌, ◌%◌, ◌^◌, ◌<◌, ◌≤◌, T, ltb}
+use Rattle.std.proofs.Math.Path.{refl, ap, ap₂, subst⁻¹}
 use Rattle.std.proofs.Common.{sym, ◌∙◌, ltb→lt}
-use Rattle.std.proofs.Math.Path.{ap, ap₂, subst⁻¹}
 use Rattle.std.proofs.Math.Bool.{true, false, cond}
 use native.Mathlib.Omega.{arith}
 use Rattle.std.specs.Int.Bits.{xor_zero_r}
+use Rattle.std.specs.Int.Count.{ones}
 use Rattle.std.proofs.Math.Dec.{leb}
 use borrow.Author.Tests.{lt-ltb, le-ltb, leb-false, ne_eqb}
 use Rattle.finite.specs.Truth.{and_left, and_right}
+use Rattle.board.specs.SetLaws.{bit}
 use Rattle.numbering.specs.Kings.{cornered, separate, king_rule, pair_of}
 use Rattle.numbering.specs.Normal.{swaps_kings}
 use Rattle.numbering.specs.Number.{number_of}
 use Rattle.numbering.specs.laws.Numberable.{separate-white}
 use Rattle.numbering.specs.laws.PairLaws.{pair_lt}
-use Rattle.pairs.specs.Rows.{at_home, start_of, place_in}
-use Rattle.pairs.specs.laws.RowLaws.{home-pair}
+use Rattle.pairs.specs.Rows.{partners_of, first_of}
+use Rattle.pairs.specs.laws.RowLaws.{no-bit, bit-pair}
 use Rattle.position.specs.declared.Men.{Men}
 use Rattle.position.specs.declared.Place.{Place}
 use Rattle.position.specs.Posed.{board_in}
 use Rattle.index.specs.declared.Still.{Still}
 use Rattle.index.specs.Least.{flip_of, packed, turned_key, rising_key, least_of}
 use Rattle.index.specs.Seats.{Seated, alike, alone, key_at, least_at, number_by, number_from}
-use Rattle.index.specs.Moving.{row_beside, king_on, Keyed, Stands}
+use Rattle.index.specs.Moving.{at_home, row_beside, king_on, Keyed, Stands}
 use Rattle.index.specs.laws.LeastLaws.{rising-packed, transposed-less}
 use Rattle.index.specs.laws.SeatLaws.{number-place}
 
@@ -137,14 +139,14 @@ rising-row single like w b x y hw hb hx hy side first below e =
     go false = from_row single w b x y hw hb hx hy side first below e
 
 -- there is a row only with the white king at home
-home_of : (w : ℕ) → (row_beside w ≡ 0 → ⊥) → T (at_home w) × (row_beside w ≡ 23 - w)
+home_of : (w : ℕ) → (row_beside w ≡ 0 → ⊥) → T (at_home w) × (row_beside w ≡ partners_of w)
 home_of w = go (at_home w)
   where
-    go : (h : Bool) → (cond h (23 - w) 0 ≡ 0 → ⊥) → T h × (cond h (23 - w) 0 ≡ 23 - w)
+    go : (h : Bool) → (cond h (partners_of w) 0 ≡ 0 → ⊥) → T h × (cond h (partners_of w) 0 ≡ partners_of w)
     go true n = (tt, refl)
     go false n = absurd (n refl)
 
--- and then every square that does not touch his forms a pair with it
+-- and then it has every square that does not touch his
 module _ (w s : ℕ) (home : T (at_home w)) (apart : T (separate w s)) where
   ruled : T (king_rule w s)
   unfolding king_rule cornered
@@ -154,22 +156,21 @@ module _ (w s : ℕ) (home : T (at_home w)) (apart : T (separate w s)) where
     ne_eqb (w % 8) (w / 8) (λ e. absurd (omega (arith, rank w home, e))),
   ) apart
 
-  on_row : (row : ℕ) → row ≡ 23 - w → s < 64 → start_of w + place_in row s ≡ pair_of w s
-  on_row row e h =
-      ap (λ (r : ℕ). start_of w + place_in r s) e
-      ∙ home-pair w s home h (λ z. let l = pair_lt w s (separate-white w s apart) h ruled in omega (arith, l, z))
+  on_row : (row : ℕ) → row ≡ partners_of w → s < 64 → row / 2 ^ s % 2 ≡ 0 → ⊥
+  on_row row e h z = let l = pair_lt w s (separate-white w s apart) h ruled in omega (arith, l, no-bit w s row e h z)
 
-module _ (m : Men) (w x y : ℕ) (l : Still) (hl : l.like ≡ alike m) (hs : l.single ≡ leb 64 y) (hr : l.row ≡ row_beside w)
-    (hu : l.unit ≡ cond l.single 64 4096) (hb : l.base ≡ number_by l.single 0 (start_of w) (rising_key l.like (packed w 0 x (cond (leb 64 y) 0 y)))) where
+module _ (m : Men) (w x y : ℕ) (l : Still) (hl : l.like ≡ alike m) (hs : l.single ≡ leb 64 y) (hr : l.row ≡ row_beside w) (fits : l.row < 18446744073709551616)
+    (hu : l.unit ≡ cond l.single 64 4096) (hb : l.base ≡ number_by l.single 0 (first_of w) (rising_key l.like (packed w 0 x (cond (leb 64 y) 0 y)))) where
   row_number : (l.row ≡ 0 → ⊥) → (side s : ℕ) → s < 64 → Seated m (king_on false w 0 x y side s) → T (separate w s)
-      → (side * 462 + place_in l.row s) * l.unit + l.base ≡ number_of (board_in m (king_on false w 0 x y side s))
+      → (side * 462 + ones (l.row % bit s)) * l.unit + l.base ≡ number_of (board_in m (king_on false w 0 x y side s))
   unfolding least_at
   row_number n side s h i apart =
       let home = home_of w (λ e. n (hr ∙ e)) in
       let z = cond (leb 64 y) 0 y in
-      let pair = on_row w s home.0 apart l.row (hr ∙ home.1) h in
-      ap₂ (λ (c b : ℕ). (side * 462 + place_in l.row s) * c + b) hu hb
-      ∙ rising-row l.single l.like w s x z i.white h i.first (last (leb 64 y) refl) side (start_of w) (place_in l.row s) pair
+      let row = hr ∙ home.1 in
+      let pair = bit-pair w s l.row row h (first_of w) fits refl (on_row w s home.0 apart l.row row h) in
+      ap₂ (λ (c b : ℕ). (side * 462 + ones (l.row % bit s)) * c + b) hu hb
+      ∙ rising-row l.single l.like w s x z i.white h i.first (last (leb 64 y) refl) side (first_of w) (ones (l.row % bit s)) pair
       ∙ ap₂ (λ (t k : Bool). number_from t side (rising_key k (packed w s x z))) hs hl
       ∙ ap (number_from (leb 64 y) side)
       (sym (ap (least_of (alike m)) (home-key w home.0 s x y) ∙ home-least w home.0 (alike m) s x z i.white h i.first (last (leb 64 y) refl)))
@@ -179,9 +180,9 @@ module _ (m : Men) (w x y : ℕ) (l : Still) (hl : l.like ≡ alike m) (hs : l.s
       last true e = omega arith
       last false e = leb-false 64 y e
 
-  pub row-stands : (l.row ≡ 0 → ⊥) → start_of w ≤ 368 → Stands m l (king_on false w 0 x y)
+  pub row-stands : (l.row ≡ 0 → ⊥) → first_of w ≤ 432 → Stands m l (king_on false w 0 x y)
   row-stands n small = record {
-    base-fits = subst⁻¹ (λ (b : ℕ). b < 2 ^ 27) hb (base-lt l.single (start_of w) _ small);
+    base-fits = subst⁻¹ (λ (b : ℕ). b < 2 ^ 27) hb (base-lt l.single (first_of w) _ small);
     unit-fits = subst⁻¹ (λ (u : ℕ). u ≤ 262144) hu (unit-le l.single);
     like_is = hl;
     alone-is = λ side s h. hs;
@@ -190,7 +191,7 @@ module _ (m : Men) (w x y : ℕ) (l : Still) (hl : l.like ≡ alike m) (hs : l.s
     row_is = row_number;
   }
     where
-      base-lt : (single : Bool) (first n : ℕ) → first ≤ 368 → number_by single 0 first n < 2 ^ 27
+      base-lt : (single : Bool) (first n : ℕ) → first ≤ 432 → number_by single 0 first n < 2 ^ 27
       base-lt true first n h = omega arith
       base-lt false first n h = omega arith
 
@@ -205,7 +206,7 @@ pub lifted-key : (q : Place) → q.black ≡ 0 → (k : ℕ) → k ≡ key_at q 
 unfolding key_at
 lifted-key q e k h = h ∙ ap (λ (b : ℕ). packed q.white b q.first (cond (leb 64 q.second) 0 q.second)) e
 
-pub row-base : (single like : Bool) (w x z first others rising base : ℕ) → first ≡ start_of w → others ≡ packed w 0 x z → rising ≡ rising_key like others
-    → base ≡ number_by single 0 first rising → base ≡ number_by single 0 (start_of w) (rising_key like (packed w 0 x z))
+pub row-base : (single like : Bool) (w x z first others rising base : ℕ) → first ≡ first_of w → others ≡ packed w 0 x z → rising ≡ rising_key like others
+    → base ≡ number_by single 0 first rising → base ≡ number_by single 0 (first_of w) (rising_key like (packed w 0 x z))
 row-base single like w x z first others rising base hf ho hr hb =
     hb ∙ ap₂ (λ (f r : ℕ). number_by single 0 f r) hf (hr ∙ ap (rising_key like) ho)

@@ -1,13 +1,10 @@
 -- Each arm is a word of the list; the last is past its end.
-use mathlib.Core.Path.{◌≡◌, sym, ap}
-use Prim.Native.Nat.{ℕ}
-use lib.ListN.{get_or, get_or-eq_default}
+use mathlib.Core.Path.{sym}
+use lib.ListN.{get_or-eq_default}
+use borrow.Author.Rules.{rules}
 use Rattle.constants.specs.laws.MatchLaws.{past}
 use Rattle.packed_pairs.specs.Packed.{eight_blacks}
 use Rattle.packed_pairs.proofs.eight_blacks.Goals as goal
-
-word : (i n : ℕ) → i ≡ n → get_or eight_blacks n 0 ≡ get_or eight_blacks i 0
-word i n e = sym (ap (λ (k : ℕ). get_or eight_blacks k 0) e)
 
 pub returns-in_default : goal.returns-in_default
 returns-in_default c = sym (get_or-eq_default eight_blacks 0 (past 58 c.args.i c.in_default.in_default-own.rest))

@@ -1,18 +1,18 @@
 -- The rows give the pair of any two squares: one computed test over all of them, against the list of 640 entries.
-use Rattle.std.specs.Prelude.{◌≡◌, refl, Bool, not, ◌&&◌, ℕ, zero, suc, ◌+◌, ◌-◌, ◌*◌, ◌/◌, ◌%◌, ◌^◌, ◌<◌, ◌≤◌, T, eqb, ltb}
+use Rattle.std.specs.Prelude.{◌≡◌, refl, Bool, ℕ, zero, suc, ◌+◌, ◌*◌, ◌/◌, ◌%◌, ◌^◌, ◌<◌, ◌≤◌, T, eqb}
 use Rattle.std.proofs.Math.Path.{sym, ap, ap₂}
-use Rattle.std.proofs.Common.{◌∙◌, ⊎_elim, one-mul, pow-suc, mod-eq_of_lt, arith, eqb→eq, ltb→lt, pow_pos, eq-eqb, ne_eqb}
+use Rattle.std.proofs.Common.{◌∙◌, ⊎_elim, one-mul, pow-suc, mod-eq_of_lt, arith, eqb→eq, pow_pos, eq-eqb, ne_eqb}
 use Rattle.std.proofs.Math.Nat.{zero-div, mod-le}
 use Rattle.std.proofs.Math.Pow.{pow-lt}
 use Rattle.std.specs.Int.Count.{ones, ones_in, ones_step}
 use Rattle.std.proofs.lemmas.Nat.{ones-le}
-use Rattle.finite.specs.Truth.{le-or-lt, implies, implied, and_left, and_right, of-true}
+use Rattle.finite.specs.Truth.{le-or-lt}
 use Rattle.finite.specs.Below.{all_below, below}
 use Rattle.board.specs.SetLaws.{bit}
 use Rattle.numbering.specs.Kings.{pair_of}
 use Rattle.pairs.specs.Tables.{slot_of, pairs, pair_in}
 use Rattle.pairs.specs.laws.TableLaws.{slot-past, slot-above, in-outside, in-off, lent-pair}
-use Rattle.pairs.specs.Rows.{partners_of, first_of, pair_by_row, at_home, start_of, place_in}
+use Rattle.pairs.specs.Rows.{partners_of, first_of, pair_by_row}
 
 -- ---- set bits, as antt computes them
 
@@ -117,43 +117,3 @@ module _ (white black : ℕ) where
         ∙ ap₂ (λ (x y : ℕ). x + ones_in 64 (y % 2 ^ black)) f e
         ∙ sym b
         ∙ rows-pair white black k
-
--- ---- beside a white king at home
-
-abbrev away : ℕ → ℕ → Bool
-away white black = not (eqb (pair_in pairs white black) 65535)
-
-abbrev placed : ℕ → ℕ → Bool
-placed white black = eqb (start_of white + place_in (23 - white) black) (pair_in pairs white black)
-
-home-right : ℕ → Bool
-home-right k = implies (at_home (k / 64)) (implies (away (k / 64) (k % 64)) (placed (k / 64) (k % 64)))
-
--- the white squares a1 to d3
-all-home : T (all_below home-right 1280)
-unfolding all_below home-right start_of place_in pair_in pairs slot_of
-all-home = tt
-
-pub home-lt : (white : ℕ) → T (at_home white) → white < 20
-home-lt white t =
-    omega (
-      arith,
-      ltb→lt (white / 8) (white % 8) (and_left (ltb (white / 8) (white % 8)) (ltb (white % 8) 4) t),
-      ltb→lt (white % 8) 4 (and_right (ltb (white / 8) (white % 8)) (ltb (white % 8) 4) t),
-    )
-
-pub home-pair : (white black : ℕ) → T (at_home white) → black < 64 → (pair_of white black ≡ 65535 → ⊥)
-    → start_of white + place_in (23 - white) black ≡ pair_of white black
-unfolding home-right
-home-pair white black home k some =
-    let n : ℕ = white * 64 + black in
-    let q : n / 64 ≡ white = omega arith in
-    let r : n % 64 ≡ black = omega arith in
-    let w = home-lt white home in
-    let t = rw (q, r) at (below home-right 1280 all-home n (omega arith)) in
-    let e = lent-pair pairs white black refl in
-    let far = of-true (ap not (ne_eqb (pair_in pairs white black) 65535 (λ z. some (sym e ∙ z)))) in
-    eqb→eq (start_of white + place_in (23 - white) black) (pair_in pairs white black)
-    (implied (away white black) (placed white black)
-    (implied (at_home white) (implies (away white black) (placed white black)) t home) far)
-    ∙ e

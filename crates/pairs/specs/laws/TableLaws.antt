@@ -14,7 +14,7 @@ use Rattle.numbering.specs.Kings.{above, in_triangle, cornered, separate, king_r
 use Rattle.numbering.specs.laws.PairLaws.{pair-count}
 use Rattle.numbering.specs.laws.Numberable.{separate-black, ruled-separate, ruled-triangle}
 use Rattle.pairs.specs.Tables.{whites, firsts, slot_of, row_from, row_of, pairs, pair_in}
-use Rattle.pairs.specs.Packed.{black_of}
+use Rattle.pairs.specs.Packed.{entry_of, black_of}
 
 -- ---- the ten white squares
 
@@ -144,6 +144,19 @@ lent-pair list white black e =
     (λ k. sym (in_entry pairs white black l k) ∙ entry-pair white black k l)
     (le-or-lt 64 black))
     (le-or-lt 10 (slot_of white))
+
+-- ---- the list packed, by one test over the whole of it
+
+packed : ℕ → Bool
+packed i = eqb (entry_of i) (get_or pairs i 0)
+
+all-packed : T (all_below packed 640)
+unfolding all_below packed pairs
+all-packed = tt
+
+pub entry-packed : (i : ℕ) → i < 640 → entry_of i ≡ get_or pairs i 0
+unfolding packed
+entry-packed i h = eqb→eq (entry_of i) (get_or pairs i 0) (below packed 640 all-packed i h)
 
 -- ---- from pair to squares
 

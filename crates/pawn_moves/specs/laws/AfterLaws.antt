@@ -33,22 +33,18 @@ use Rattle.pawn_moves.specs.laws.SeatLaws.{pawn-lt, white-off, black-off}
 pub read-beyond : (t : List ℕ) (n : ℕ) → length t ≤ n → 0 ≡ get_or t n 0
 read-beyond t n h = sym (get_or-eq_default t 0 h)
 
--- a part of a list, of any length, since a length that is written out is counted
-part_none : (m d n : ℕ) (run : List ℕ) → m ≤ n → 0 ≡ get_or (take m (drop d run)) n 0
-part_none m d n run h = read-beyond (take m (drop d run)) n (omega (arith, length-take m (drop d run)))
-
-part-read : (m d n c : ℕ) (run : List ℕ) → n < m → c ≡ get_or run (d + n) 0 → c ≡ get_or (take m (drop d run)) n 0
-part-read m d n c run h e = e ∙ sym (get_or-take m (drop d run) n 0 h ∙ get_or-drop d run n 0)
-
 -- the part of a kind, read by its place in the run
 pub part-beyond : (kind n : ℕ) (run : List ℕ) → small_size ≤ n → 0 ≡ get_or (kind_part kind run) n 0
 unfolding kind_part
-part-beyond kind n run h = part_none small_size (kind * small_size) n run h
+part-beyond kind n run h =
+    read-beyond (take small_size (drop (kind * small_size) run)) n
+    (omega (arith, length-take small_size (drop (kind * small_size) run)))
 
 pub part_at : (kind n c : ℕ) (run : List ℕ) → n < small_size → c ≡ get_or run (kind * small_size + n) 0
     → c ≡ get_or (kind_part kind run) n 0
 unfolding kind_part
-part_at kind n c run h e = part-read small_size (kind * small_size) n c run h e
+part_at kind n c run h e =
+    e ∙ sym (get_or-take small_size (drop (kind * small_size) run) n 0 h ∙ get_or-drop (kind * small_size) run n 0)
 
 -- ---- squares after a move
 

@@ -1,5 +1,5 @@
 -- How long a header and a set are.
-use Rattle.std.specs.Prelude.{◌≡◌, refl, List, [], ◌∷◌, ◌++◌, ℕ, ◌+◌, ◌*◌, length}
+use Rattle.std.specs.Prelude.{◌≡◌, refl, List, [], ◌∷◌, ℕ, ◌+◌, ◌*◌, length}
 use Rattle.std.proofs.Common.{arith}
 use Rattle.endings.specs.Ending.{table_size}
 use Rattle.sets.specs.Layout.{word4, header_size, set_size, entries_of, header_of}
@@ -9,14 +9,9 @@ unfolding entries_of word4
 length-entries [] offset = refl
 length-entries (c ∷ cs) offset = let e = length-entries cs (offset + table_size) in omega arith
 
--- whatever offset its entries begin with
-header-long : (cs : List ℕ) (offset : ℕ) → length (word4 (length cs) ++ entries_of cs offset) ≡ header_size (length cs)
-unfolding word4
-header-long cs offset = let e = length-entries cs offset in omega arith
-
 pub length-header : (cs : List ℕ) → length (header_of cs) ≡ header_size (length cs)
-unfolding header_of
-length-header cs = header-long cs _
+unfolding header_of word4
+length-header cs = let e = length-entries cs (header_size (length cs)) in omega arith
 
 -- "With four tables the file is 236,596 bytes, with none 4"
 pub four-tables : set_size 4 ≡ 236596

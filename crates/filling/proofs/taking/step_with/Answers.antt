@@ -7,8 +7,7 @@ use borrow.Author.Rules.{rules}
 use Rattle.filling.proofs.taking.step_with.Goals as goal
 
 pub returns-then-not-is_given : goal.returns-then-not-is_given
-returns-then-not-is_given c =
-    step-1 _ _ _ _ _ _ (sym c.is_given.ensures ∙ c.if-not-is_given.true) c.refuse.ensures
+returns-then-not-is_given c = step-1 _ _ _ _ _ _ (sym c.is_given.ensures ∙ c.if-not-is_given.true) c.refuse.ensures
 
 pub returns-then-not-lengths_fit : goal.returns-then-not-lengths_fit
 returns-then-not-lengths_fit c =

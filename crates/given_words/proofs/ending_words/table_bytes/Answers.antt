@@ -8,5 +8,4 @@ pub returns-then-not-is_given : goal.returns-then-not-is_given
 returns-then-not-is_given c = bytes-none c.args.m _ c.is_given.ensures c.if-not-is_given.true
 
 pub returns : goal.returns
-returns c =
-    bytes-some c.args.m _ c.is_given.ensures _ c.if-not-is_given.false c.size_of.ensures
+returns c = bytes-some c.args.m _ c.is_given.ensures _ c.if-not-is_given.false c.size_of.ensures

@@ -4,6 +4,7 @@ use Rattle.index.specs.declared.Placed.{Placed}
 use Rattle.index.specs.Answers.{found_at}
 use Rattle.index.specs.laws.WithLaws.{pawn-ending, pieces-ending, found-unused, found-position}
 use borrow.Author.Rules.{rules}
+use Rattle.std.proofs.Common.{not}
 use Rattle.index.proofs.answers.found_at.Goals as goal
 
 pub returns-then-men-eq4 : goal.returns-then-men-eq4
@@ -16,11 +17,11 @@ pub returns-then-not-is_used : goal.returns-then-not-is_used
 returns-then-not-is_used c =
     λ t d h.
     let k = pieces-ending c.args.men c.if-men-eq4.false t in
-    found-unused _ _ k _ (c.place_at-q.ensures k d h) _ c.is_used.ensures c.if-not-is_used.true
+    found-unused _ _ k _ (c.place_at-q.ensures k d h) _ c.is_used.ensures (ap not c.if-not-is_used.true)
 
 pub returns : goal.returns
 returns c =
     λ t d h.
     let k = pieces-ending c.args.men c.if-men-eq4.false t in
     ap Placed.At c.posed.ensures
-    ∙ found-position _ _ k _ (c.place_at-q.ensures k d h) _ c.is_used.ensures c.if-not-is_used.false
+    ∙ found-position _ _ k _ (c.place_at-q.ensures k d h) _ c.is_used.ensures (ap not c.if-not-is_used.false)

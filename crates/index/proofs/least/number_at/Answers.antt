@@ -5,6 +5,6 @@ use borrow.Author.Rules.{rules}
 use Rattle.index.proofs.least.number_at.Goals as goal
 
 pub returns : goal.returns
-returns c =
+returns c s =
     number-by-key _ _ s _ _ _ _ _ refl c.alike.ensures refl c.key_at.ensures.0
     c.number_keyed.ensures

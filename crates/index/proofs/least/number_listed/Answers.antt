@@ -6,7 +6,7 @@ use borrow.Author.Rules.{rules}
 use Rattle.index.proofs.least.number_listed.Goals as goal
 
 pub returns : goal.returns
-returns c =
+returns c s =
     let f = number-found _ _ s _ c.least_at-k.ensures in
     by-pair _ _ _ _ _ (c.pair_in-pair.ensures ∙ lent-pair _ _ _ c.pair_list-list.ensures)
     c.number_by.ensures

@@ -5,7 +5,7 @@ use borrow.Author.Rules.{rules}
 use Rattle.index.proofs.least.number_one.Goals as goal
 
 pub returns : goal.returns
-returns c =
+returns c kind w b x =
     let f = lone-found kind _ _ _ _ w b x _ refl in
     c.number_keyed.ensures _ _ _ 64
     (record { white = w; black = b; first = x; alone = refl; key = c.packed.ensures.0 }) f.0 ∙ f.1

@@ -10,16 +10,16 @@ use borrow.Author.Rules.{rules}
 use Rattle.movegen.proofs.reaching.reach_of.Goals as goal
 
 -- what is in hand once the foes' attack is known
-view : (s : goal.After-strike_set-strike)
-    → let x = s.args in
+view : (c : goal.After-strike_set-strike)
+    → let x = c.args in
     Complete x.m x.q
-    → View x.m x.q s.occupied_at-ocs.result
-    s.own_at-own.result s.strike_set-strike.result
+    → View x.m x.q c.occupied_at-occ.result
+    c.own_at-own.result c.strike_set-strike.result
 unfolding board_of posed
 view c d =
     let w = complete-spread d in
-    view_of w (s.occupied_at-ocs.ensures _) (s.own_at-own.ensures w.side) _ _ _
-    s.king_set.ensures s.minus.ensures s.other.ensures s.strike_set-strike.ensures
+    view_of w (c.occupied_at-occ.ensures _) (c.own_at-own.ensures w.side) _ _ _
+    c.king_set.ensures c.minus.ensures c.other.ensures c.strike_set-strike.ensures
 
 pub returns-then-strike-own-eq0 : goal.returns-then-strike-own-eq0
 returns-then-strike-own-eq0 c =

@@ -3,9 +3,9 @@ use Rattle.search.specs.laws.TriedLaws.{tried-every, tried-checks}
 use Rattle.search.proofs.checks.tried.Goals as goal
 
 pub returns-then-k-ne1 : goal.returns-then-k-ne1
-returns-then-k-ne1 c = tried-every _ _ _ _ c.legal_targets-targets.ensures
+returns-then-k-ne1 c none = tried-every _ _ _ _ c.legal_targets-targets.ensures
 
 pub returns : goal.returns
-returns c =
+returns c none =
     tried-checks _ _ _ _ c.legal_targets-targets.ensures none c.if-k-ne1.false _
     (c.checking.ensures none)

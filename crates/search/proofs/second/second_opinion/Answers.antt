@@ -7,9 +7,9 @@ use Rattle.search.specs.laws.OpinionLaws.{NoneBelow, served-pawnless, below_none
 use Rattle.search.proofs.second.second_opinion.Goals as goal
 
 -- the search is asked only of a position that is not refused
-pawnless : (d : goal.After-is_decided)
-    → Pawnless (board_of d.args.p)
-pawnless c = served-pawnless _ 0 _ d.standing_refusal-refusal.ensures d.if-refusal-ne0.false
+pawnless : (c : goal.After-is_decided)
+    → Pawnless (board_of c.args.p)
+pawnless c = served-pawnless _ 0 _ c.standing_refusal-refusal.ensures c.if-refusal-ne0.false
 
 pub returns-then-refusal-ne0 : goal.returns-then-refusal-ne0
 returns-then-refusal-ne0 c = opinion-refused _ _ _ c.standing_refusal-refusal.ensures c.if-refusal-ne0.true

@@ -1,0 +1,7 @@
+-- `pairs::pair_at` meets its contract: the packed words hold the list.
+use borrow.Author.Rules.{rules}
+use Rattle.pairs.specs.laws.TableLaws.{entry-packed}
+use Rattle.pairs.proofs.forth.pair_at.Goals as goal
+
+pub returns : goal.returns
+returns c = rw c.four_pairs.ensures (entry-packed c.args.i c.requires)

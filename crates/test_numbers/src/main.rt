@@ -1,0 +1,118 @@
+// Goes over all numbers of each man, and back, and prints counts and checksums as the second program does.
+#![tactic(auto)]
+
+use index::{NumberAnswer, Placed, TABLE_SIZE};
+use position::{Position, man_in};
+use std::num::wrapping_add_u32;
+
+// The used numbers of each side, the unused ones, a checksum of the positions and one of their numbers.
+#[derive(Clone, Copy)]
+struct Tally {
+    white: u32,
+    black: u32,
+    refused: u32,
+    positions: u64,
+    numbers: u64,
+}
+
+// The checksum with one value more.
+fn folded(sum: u64, value: u32) -> u64 {
+    (sum % 1000000007 * 31 + value as u64) % 1000000007
+}
+
+fn with_position(sum: u64, p: Position) -> u64 {
+    let side = folded(sum, p.side as u32);
+    let first = p.first;
+    let white = folded(side, p.white_king as u32);
+    let square = folded(white, man_in(first).square as u32);
+    folded(square, p.black_king as u32)
+}
+
+// The position's number; a refusal shows as a number that none has.
+fn number_shown(p: Position) -> u32 {
+    match index::number(p) {
+        NumberAnswer::Number(n) => n,
+        NumberAnswer::Refused(refusal) => 60000 + refusal as u32,
+    }
+}
+
+fn with_used(t: Tally, p: Position) -> Tally {
+    let side = p.side;
+    let positions = with_position(t.positions, p);
+    let numbers = folded(t.numbers, number_shown(p));
+    if side == 0 {
+        return Tally {
+            white: wrapping_add_u32(t.white, 1),
+            black: t.black,
+            refused: t.refused,
+            positions,
+            numbers,
+        };
+    }
+    Tally {
+        white: t.white,
+        black: wrapping_add_u32(t.black, 1),
+        refused: t.refused,
+        positions,
+        numbers,
+    }
+}
+
+fn with_number(t: Tally, kind: u8, n: u32) -> Tally {
+    match index::position_of(kind, n) {
+        Placed::At(p) => with_used(t, p),
+        Placed::Refused(_) => Tally {
+            white: t.white,
+            black: t.black,
+            refused: wrapping_add_u32(t.refused, 1),
+            positions: folded(t.positions, 200),
+            numbers: t.numbers,
+        },
+    }
+}
+
+fn counted(kind: u8) -> Tally {
+    let mut t = Tally {
+        white: 0,
+        black: 0,
+        refused: 0,
+        positions: 1,
+        numbers: 1,
+    };
+    let mut n: u32 = 0;
+    while n < TABLE_SIZE as u32 {
+        t = with_number(t, kind, n);
+        n += 1;
+    }
+    t
+}
+
+fn print_side(kind: u8, side: &[u8], used: u32) {
+    io::print_decimal(1, kind as u64);
+    io::write_all(1, side);
+    io::print_decimal(1, used as u64);
+    io::write_all(1, b"\n");
+}
+
+fn print_man(kind: u8) {
+    let t = counted(kind);
+    io::print_decimal(1, kind as u64);
+    io::write_all(1, b" used ");
+    io::print_decimal(1, wrapping_add_u32(t.white, t.black) as u64);
+    io::write_all(1, b" refused9 ");
+    io::print_decimal(1, t.refused as u64);
+    io::write_all(1, b" positions ");
+    io::print_decimal(1, t.positions);
+    io::write_all(1, b" numbers ");
+    io::print_decimal(1, t.numbers);
+    io::write_all(1, b"\n");
+    print_side(kind, b" white used ", t.white);
+    print_side(kind, b" black used ", t.black);
+}
+
+fn main() {
+    print_man(0);
+    print_man(1);
+    print_man(2);
+    print_man(3);
+}
