@@ -74,7 +74,7 @@ material : (kind : ℕ) → material_of (ending_with kind) ≡ ending_with kind
 unfolding material_of
 material kind = refl
 
-board-is : (kind n : ℕ) → lone_board_at kind n ≡ keys.boardAt (ending_with kind) n
+board-is : (kind n : ℕ) → lone_board_at kind n ≡ keys.board_at (ending_with kind) n
 unfolding lone_board_at
 board-is kind n = board-at kind n
 

@@ -45,11 +45,11 @@ drop-end (x ∷ l) (suc i) h = drop-end l i (le_of_suc-le-suc h)
 
 module _ (q : Place) (byte : ℕ) (table run : List ℕ) where
   pub weighing-start : (p : Position) (list : MoveList)
-      → p ≡ keyed.lone 4 q.side q.white q.first q.black → list ≡ list_of (all_moves (keyed.boardOf p))
+      → p ≡ keyed.lone 4 q.side q.white q.first q.black → list ≡ list_of (all_moves (keyed.board_of p))
       → Weighing q byte table run list.moves list.count false zero_move 0
   unfolding list_of
   weighing-start p list e d =
-      let b = ap keyed.boardOf e ∙ posed-board q in
+      let b = ap keyed.board_of e ∙ posed-board q in
       let f = d ∙ ap (λ b. list_of (all_moves b)) b in
       record {
         all = ap (λ (l : MoveList). l.moves) f;

@@ -22,8 +22,8 @@ use Rattle.pawn_moves.specs.PawnMoves.{pawn_at, PawnOn, SeatAt, seat_legal}
 
 -- ---- positions as code makes them
 
-pub posed-board : (q : Place) → keyed.boardOf (keyed.lone 4 q.side q.white q.first q.black) ≡ pawn_at q
-unfolding keyed.boardOf
+pub posed-board : (q : Place) → keyed.board_of (keyed.lone 4 q.side q.white q.first q.black) ≡ pawn_at q
+unfolding keyed.board_of
 posed-board q = refl
 
 -- with a pawn there is a game
@@ -144,11 +144,11 @@ none_left [] n e = eq-eqb n 0 e
 none_left (v ∷ l) n e = ne_eqb n 0 (λ z. omega arith)
 
 pub stuck-by : (q : Place) (p : Position) (n : ℕ) → p ≡ keyed.lone 4 q.side q.white q.first q.black
-    → n ≡ length (all_moves (keyed.boardOf p)) → eqb n 0 ≡ empty (moves (pawn_at q))
+    → n ≡ length (all_moves (keyed.board_of p)) → eqb n 0 ≡ empty (moves (pawn_at q))
 unfolding moves
 stuck-by q p n e d =
     none_left (all_moves (pawn_at q)) n
-    (d ∙ ap (λ (b : Board). length (all_moves b)) (ap keyed.boardOf e ∙ posed-board q))
+    (d ∙ ap (λ (b : Board). length (all_moves b)) (ap keyed.board_of e ∙ posed-board q))
 
 pub quiet-mated : (q : Place) → in_check (pawn_at q) q.side ≡ false → false ≡ mated (pawn_at q)
 unfolding mated

@@ -9,24 +9,15 @@ use Rattle.movegen.specs.laws.Movers.{mover-of, mover-unpinned}
 use borrow.Author.Rules.{rules}
 use Rattle.movegen.proofs.reaching.reach_of.Goals as goal
 
--- what is in hand once the foes' attack is known
-view : (c : goal.After-strike_set-strike)
-    → let x = c.args in
-    Complete x.m x.q
-    → View x.m x.q c.occupied_at-occ.result
-    c.own_at-own.result c.strike_set-strike.result
-unfolding board_of posed
-view c d =
-    let w = complete-spread d in
-    view_of w (c.occupied_at-occ.ensures _) (c.own_at-own.ensures w.side) _ _ _
-    c.king_set.ensures c.minus.ensures c.other.ensures c.strike_set-strike.ensures
-
 pub returns-then-strike-own-eq0 : goal.returns-then-strike-own-eq0
+unfolding board_of posed
 returns-then-strike-own-eq0 c =
     let x = c.args in
     λ d.
     let w = complete-spread d in
-    let v = view c.before.before.before.before.before.before d in (
+    let v : View x.m x.q c.occupied_at-occ.result c.own_at-own.result c.strike_set-strike.result =
+    view_of w (c.occupied_at-occ.ensures _) (c.own_at-own.ensures w.side) _ _ _
+    c.king_set.ensures c.minus.ensures c.other.ensures c.strike_set-strike.ensures in (
       c.king_reach-king.ensures _ _ v,
       mover-unpinned v
           (mover-of v _ _ _ _ _ (first-man x.m x.q w) c.struck_by.ensures c.minus-first.ensures)
@@ -37,11 +28,14 @@ returns-then-strike-own-eq0 c =
     )
 
 pub returns : goal.returns
+unfolding board_of posed
 returns c =
     let x = c.args in
     λ d.
     let w = complete-spread d in
-    let v = view c.before.before.before.before.before.before.before.before d in (
+    let v : View x.m x.q c.occupied_at-occ.result c.own_at-own.result c.strike_set-strike.result =
+    view_of w (c.occupied_at-occ.ensures _) (c.own_at-own.ensures w.side) _ _ _
+    c.king_set.ensures c.minus.ensures c.other.ensures c.strike_set-strike.ensures in (
       c.king_reach-king.ensures _ _ v,
       c.shielding.ensures _ _
           (mover-of v _ _ _ _ _ (first-man x.m x.q w) c.struck_by.ensures c.minus-first.ensures),

@@ -1,6 +1,6 @@
 -- `movegen::reaching::tested` meets its contract: the targets kept so far, and those of the rest that pass, are all
 -- that pass.
-use mathlib.Core.Path.{◌≡◌, sym, ◌∙◌}
+use mathlib.Core.Path.{◌≡◌, ap, sym, ◌∙◌}
 use mathlib.Core.Bool.{Bool, not, ◌&&◌, ◌||◌, or-false}
 use mathlib.Core.Logic.{⊎_elim}
 use Prim.Native.Nat.{ℕ, ◌^◌, ◌<◌}
@@ -16,6 +16,7 @@ use Rattle.movegen.specs.laws.Targets.{turn_in, turn-out}
 use Rattle.movegen.specs.Reach.{Stays}
 use Rattle.movegen.specs.laws.Struck.{check-placed}
 use Rattle.movegen.proofs.reaching.tested.Invariants.{passes}
+use Rattle.movegen.proofs.reaching.tested.Goals.{then-not-men_check, else-not-men_check}
 use Rattle.movegen.proofs.reaching.tested.Goals as goal
 
 low : (c : goal.After-without-rest)
@@ -42,14 +43,14 @@ loop-rest-preserved c =
           let same = check-placed x.m x.q _ x.from t _ s (low c).square
           c.place_after.ensures c.men_check.ensures in
           let e = (low c).others i h in
-          ⊎_elim
-          (λ w. rw (w.2, set-has _ w.1.ensures i h)
-          (turn_in ok i t (has l.safe i) (has l.rest i) (has c.without-rest.result i) e (same ∙ w.0.taken)
-          ∙ l.invariant.1 s i h))
-          (λ w. rw w.1
-          (turn-out ok i t (has l.safe i) (has l.rest i) (has c.without-rest.result i) e (same ∙ w.0.left)
-          ∙ l.invariant.1 s i h))
-          c.if-not-men_check.branch,
+          elim c.if-not-men_check.branch [
+            then-not-men_check w ↦ rw (w.safe-is, set-has _ w.with-safe.ensures i h)
+                (turn_in ok i t (has l.safe i) (has l.rest i) (has c.without-rest.result i) e (same ∙ ap not w.if-not-men_check.true)
+                ∙ l.invariant.1 s i h)
+          | else-not-men_check w ↦ rw w.safe-is
+                (turn-out ok i t (has l.safe i) (has l.rest i) (has c.without-rest.result i) e (same ∙ ap not w.if-not-men_check.false)
+                ∙ l.invariant.1 s i h)
+          ],
     )
 
 pub returns : goal.returns
