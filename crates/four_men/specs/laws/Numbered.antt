@@ -8,6 +8,7 @@ use mathlib.Core.List.{List, [], ◌∷◌, map}
 use Rattle.finite.specs.Truth.{and_left, and_right, and_both, refuted}
 use Rattle.finite.specs.Members.{all}
 use Rattle.table_theory.specs.Tables.{Lawful}
+use Rattle.symmetry.specs.Symmetry.{Symmetry}
 use Rattle.rules.specs.declared.Piece.{Piece}
 use Rattle.rules.specs.Rules.{Board, empty, known, legal}
 use Rattle.rules.specs.Changed.{changed, changed_piece}
@@ -92,37 +93,47 @@ full-same m w b c x =
     go (Material.Two j k r) w true (a ∷ d ∷ []) = unfold crossed in refl
     go (Material.Two j k r) w true (a ∷ d ∷ f ∷ l) = unfold crossed in refl
 
+-- the men of a changed board
+changed-men : (s : Symmetry) (f : Bool) (b : Board) (k : List Piece) → b.men ≡ k
+    → (changed s f b).men ≡ map (changed_piece s f) k
+unfolding changed
+changed-men s f b k h = ap (map (changed_piece s f)) h
+
+crossed-none : (f : Bool) → crossed f [] ≡ []
+unfolding crossed
+crossed-none true = refl
+crossed-none false = refl
+
+crossed-one : (f : Bool) (a : Piece) → crossed f (a ∷ []) ≡ a ∷ []
+unfolding crossed
+crossed-one true a = refl
+crossed-one false a = refl
+
+bare-byte : (t : List ℕ) (d : Board) → d.men ≡ [] → byte_of t d ≡ 1
+unfolding byte_of
+bare-byte t d h = ap (λ (k : List Piece). cond (empty k) 1 (get_or t (number_of d) 0)) h
+
+man-byte : (t : List ℕ) (d : Board) (a : Piece) → d.men ≡ a ∷ [] → byte_of t d ≡ get_or t (number_of d) 0
+unfolding byte_of
+man-byte t d a h = ap (λ (k : List Piece). cond (empty k) 1 (get_or t (number_of d) 0)) h
+
 -- bare kings and a man alone: his kind stays and so does his number
 byte-same : (first : ℕ) (l : Lent) (b c : Board) → Same b c → full (Material.Two 0 0 false) b.men ≡ false
     → byte_of (lent_to first l b.men) b ≡ byte_of (lent_to first l c.men) c
 byte-same first l b c x e = go b.men refl e
   where
-    none : (f : Bool) → crossed f [] ≡ []
-    none true = unfold crossed in refl
-    none false = unfold crossed in refl
-
-    single : (f : Bool) (a : Piece) → crossed f (a ∷ []) ≡ a ∷ []
-    single true a = unfold crossed in refl
-    single false a = unfold crossed in refl
-
     men-there : (k : List Piece) → crossed x.0.order b.men ≡ k
         → c.men ≡ map (changed_piece x.0.symmetry x.0.colours) k
     men-there k h = ap (λ (d : Board). d.men) x.3
-        ∙ (unfold changed in ap (map (changed_piece x.0.symmetry x.0.colours)) h)
-
-    bare-byte : (t : List ℕ) (d : Board) → d.men ≡ [] → byte_of t d ≡ 1
-    bare-byte t d h = unfold byte_of in ap (λ (k : List Piece). cond (empty k) 1 (get_or t (number_of d) 0)) h
-
-    man-byte : (t : List ℕ) (d : Board) (a : Piece) → d.men ≡ a ∷ [] → byte_of t d ≡ get_or t (number_of d) 0
-    man-byte t d a h = unfold byte_of in ap (λ (k : List Piece). cond (empty k) 1 (get_or t (number_of d) 0)) h
+        ∙ changed-men x.0.symmetry x.0.colours _ k h
 
     go : (k : List Piece) → b.men ≡ k → full (Material.Two 0 0 false) k ≡ false
         → byte_of (lent_to first l b.men) b ≡ byte_of (lent_to first l c.men) c
     go [] h f =
         bare-byte (lent_to first l b.men) b h
-        ∙ sym (bare-byte (lent_to first l c.men) c (men-there [] (ap (crossed x.0.order) h ∙ none x.0.order)))
+        ∙ sym (bare-byte (lent_to first l c.men) c (men-there [] (ap (crossed x.0.order) h ∙ crossed-none x.0.order)))
     go (a ∷ []) h f =
-        let q = ap (crossed x.0.order) h ∙ single x.0.order a in
+        let q = ap (crossed x.0.order) h ∙ crossed-one x.0.order a in
         let g = men-there (a ∷ []) q in
         let n : number_of c ≡ number_of b =
         ap number_of (x.3

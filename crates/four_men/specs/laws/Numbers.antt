@@ -168,6 +168,7 @@ module _ (m : Material) (w : T (known m)) (n : ℕ) (h : n < size_of m) (u : T (
           let b = ltb→lt k 4 (and_right (leb j k) (ltb k 4) t) in
           unfold board_at men_at all in
           rw (ne_eqb j 4 (λ z. absurd (omega (arith, z, a, b))), ne_eqb k 4 (λ z. absurd (omega (arith, z, b)))) tt
+      go Material.Pawn t = elim t [ ]
 
   on-board : T (all (λ a. ltb a.square 64) (pieces board))
   unfolding all

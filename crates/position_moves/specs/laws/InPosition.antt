@@ -244,6 +244,10 @@ nobody-moves p from nk nf ns =
     man x (Present m) s n k (Memᴰ.head e) q = n (sym q ∙ ap (λ (y : Piece). y.square) e)
     man x (Present m) (Present y) n k (Memᴰ.tail (Memᴰ.head e)) q = k (sym q ∙ ap (λ (y : Piece). y.square) e)
     man x Absent (Present m) n k (Memᴰ.head e) q = k (sym q ∙ ap (λ (y : Piece). y.square) e)
+    man x Absent Absent n k i q = elim i [ ]
+    man x Absent (Present m) n k (Memᴰ.tail i) q = elim i [ ]
+    man x (Present m) Absent n k (Memᴰ.tail i) q = elim i [ ]
+    man x (Present m) (Present y) n k (Memᴰ.tail (Memᴰ.tail i)) q = elim i [ ]
 
     who : (x : Piece) → x ∈ pieces (board_of p) → x.colour ≡ p.side → x.square ≡ from → ⊥
     who x (Memᴰ.head e) c q =

@@ -4,7 +4,7 @@ use Rattle.std.proofs.Math.Path.{refl, subst}
 use Rattle.std.proofs.Common.{sym, ◌∙◌, arith, ltb→lt, eq-eqb}
 use Rattle.std.proofs.Math.Bool.{true, false}
 use mathlib.Core.List.Memᴰ
-use mathlib.Core.List.{List, ◌∷◌, ◌++◌}
+use mathlib.Core.List.{[], List, ◌∷◌, ◌++◌}
 use Rattle.std.proofs.Math.Dec.{T, eqb, eqb→eq, eqb_refl, T_not}
 use Rattle.finite.specs.Truth.{and_left, and_right, and_both, of-true, same_test}
 use Rattle.finite.specs.Members.{◌∈◌, any, any-in, any_out, all, all-out}
@@ -38,6 +38,7 @@ placed-board p z =
 
 -- the men of the two slots
 in-front : {x : Piece} (l k : List Piece) → x ∈ l → x ∈ l ++ k
+in-front [] k i = elim i [ ]
 in-front (y ∷ l) k (Memᴰ.head e) = Memᴰ.head e
 in-front (y ∷ l) k (Memᴰ.tail i) = Memᴰ.tail (in-front l k i)
 

@@ -1,5 +1,5 @@
 -- `moves::tested` meets its contract: the targets kept so far, and those of the rest that pass, are all that pass.
-use mathlib.Core.Path.{◌≡◌, sym, ◌∙◌}
+use mathlib.Core.Path.{◌≡◌, ap, sym, ◌∙◌}
 use mathlib.Core.Bool.{Bool, not, ◌&&◌, ◌||◌, or-false}
 use mathlib.Core.Logic.{⊎_elim}
 use Prim.Native.Nat.{ℕ, ◌^◌, ◌<◌}
@@ -12,6 +12,7 @@ use Rattle.position.specs.declared.Position.{Position}
 use Rattle.position.specs.Keyed.{board_of}
 use Rattle.movegen.specs.laws.Targets.{turn_in, turn-out, check-made}
 use Rattle.position_moves.proofs.targets.tested.Invariants.{passes}
+use Rattle.position_moves.proofs.targets.tested.Goals.{then-not-in_check, else-not-in_check}
 use Rattle.position_moves.proofs.targets.tested.Goals as goal
 
 low : (c : goal.After-without-rest)
@@ -38,14 +39,14 @@ loop-rest-preserved c =
       c.without-rest.type_inv,
       λ i h.
           let e = (low c).others i h in
-          ⊎_elim
-          (λ w. rw (w.2, set-has _ w.1.ensures i h)
-          (turn_in ok i t (has l.safe i) (has l.rest i) (has c.without-rest.result i) e (same ∙ w.0.taken)
-          ∙ l.invariant.1 i h))
-          (λ w. rw w.1
-          (turn-out ok i t (has l.safe i) (has l.rest i) (has c.without-rest.result i) e (same ∙ w.0.left)
-          ∙ l.invariant.1 i h))
-          c.if-not-in_check.branch,
+          elim c.if-not-in_check.branch [
+            then-not-in_check w ↦ rw (w.safe-is, set-has _ w.with-safe.ensures i h)
+                (turn_in ok i t (has l.safe i) (has l.rest i) (has c.without-rest.result i) e (same ∙ ap not w.if-not-in_check.true)
+                ∙ l.invariant.1 i h)
+          | else-not-in_check w ↦ rw w.safe-is
+                (turn-out ok i t (has l.safe i) (has l.rest i) (has c.without-rest.result i) e (same ∙ ap not w.if-not-in_check.false)
+                ∙ l.invariant.1 i h)
+          ],
     )
 
 pub returns : goal.returns
