@@ -16,12 +16,6 @@ use Rattle.move_list.specs.laws.TurnLaws.{by-movers, movers-end}
 use Rattle.move_bytes.specs.laws.StoreLaws.{Left, left-all, left_end, mover-room, mover-next}
 use Rattle.move_bytes.proofs.write_moves.Goals as goal
 
--- what taking the lowest square out of the rest means
-low : (c : goal.After-lowest-from) (others : ℕ)
-    → others ≡ set_of (λ (u : ℕ). has c.loop-rest.rest u && not (eqb u c.lowest-from.result))
-    → Lowest c.loop-rest.rest c.lowest-from.result others
-low c others e = lowest-of c.loop-rest.rest _ _ c.loop-rest.invariant.0 c.loop-rest-test.true c.lowest-from.ensures e
-
 pub loop-rest-init : goal.loop-rest-init
 unfolding board_of
 loop-rest-init c =
@@ -36,18 +30,18 @@ write_targets-count-requires c =
     let v = c.loop-rest.invariant.1 in
     (
       v.long,
-      mover-room _ _ _ _ _ (low c.before.before.before _ refl) (c.targets_from-targets.ensures c.requires.1) _ _ c.taking_set-foes.ensures
+      mover-room _ _ _ _ _ (lowest-of c.loop-rest.rest _ _ c.loop-rest.invariant.0 c.loop-rest-test.true c.lowest-from.ensures refl) (c.targets_from-targets.ensures c.requires.1) _ _ c.taking_set-foes.ensures
           c.promoting_set-ends.ensures v,
     )
 
 pub loop-rest-smaller : goal.loop-rest-smaller
-loop-rest-smaller c = (low c.before.before.before.before.before.before.before _ c.without-rest.ensures).fewer
+loop-rest-smaller c = (lowest-of c.loop-rest.rest _ _ c.loop-rest.invariant.0 c.loop-rest-test.true c.lowest-from.ensures c.without-rest.ensures).fewer
 
 pub loop-rest-preserved : goal.loop-rest-preserved
 loop-rest-preserved c =
     (
       c.without-rest.type_inv,
-      mover-next _ _ _ _ _ (low c.before.before.before.before.before.before.before _ c.without-rest.ensures) (c.targets_from-targets.ensures c.requires.1) _ _
+      mover-next _ _ _ _ _ (lowest-of c.loop-rest.rest _ _ c.loop-rest.invariant.0 c.loop-rest-test.true c.lowest-from.ensures c.without-rest.ensures) (c.targets_from-targets.ensures c.requires.1) _ _
           c.taking_set-foes.ensures c.promoting_set-ends.ensures c.loop-rest.invariant.1 _ _
           c.write_targets-count.ensures,
     )

@@ -11,14 +11,10 @@ use Rattle.move_list.specs.laws.TargetLaws.{targets-end}
 use Rattle.move_bytes.specs.laws.StoreLaws.{Left, left-all, left_end, promotes-room, promotes-next, plain-room, plain-next}
 use Rattle.move_bytes.proofs.write_targets.Goals as goal
 
--- what taking the lowest square out of the rest means
-low : (c : goal.After-without-rest) → Lowest c.loop-rest.rest c.lowest-to.result c.without-rest.result
-low c = lowest-of c.loop-rest.rest _ _ c.loop-rest.invariant.0 c.loop-rest-test.true c.lowest-to.ensures c.without-rest.ensures
-
 -- there is a place for a move that promotes nothing
 place : (c : goal.Else-has) → c.loop-rest.at + 1 ≤ room
 place c =
-    plain-room _ _ _ _ _ _ (low c.before.before.before) _ _ c.has-takes.ensures c.has.ensures
+    plain-room _ _ _ _ _ _ (lowest-of c.loop-rest.rest _ _ c.loop-rest.invariant.0 c.loop-rest-test.true c.lowest-to.ensures c.without-rest.ensures) _ _ c.has-takes.ensures c.has.ensures
     c.loop-rest.invariant.1 c.if-has.false
 
 pub loop-rest-init : goal.loop-rest-init
@@ -27,23 +23,23 @@ loop-rest-init c = (c.ranges.targets.fits, left-all _ _ _ _ c.requires.0 c.requi
 pub write_promotions-requires : goal.write_promotions-requires
 write_promotions-requires c =
     let v = c.loop-rest.invariant.1 in
-    (v.long, promotes-room _ _ _ _ _ _ (low c.before.before.before.before) _ _ c.has-takes.ensures c.has.ensures v c.if-has.true)
+    (v.long, promotes-room _ _ _ _ _ _ (lowest-of c.loop-rest.rest _ _ c.loop-rest.invariant.0 c.loop-rest-test.true c.lowest-to.ensures c.without-rest.ensures) _ _ c.has-takes.ensures c.has.ensures v c.if-has.true)
 
 pub overflow_add-at : goal.overflow_add-at
 overflow_add-at c =
     let l = c.loop-rest in
-    let fits : l.at + 4 ≤ room = promotes-room _ _ _ _ _ _ (low c.before.before.before.before.before.before.before) _ _ c.has-takes.ensures c.has.ensures
+    let fits : l.at + 4 ≤ room = promotes-room _ _ _ _ _ _ (lowest-of c.loop-rest.rest _ _ c.loop-rest.invariant.0 c.loop-rest-test.true c.lowest-to.ensures c.without-rest.ensures) _ _ c.has-takes.ensures c.has.ensures
     l.invariant.1 c.if-has.true in
     omega (arith, fits)
 
 pub loop-rest-smaller-then-has : goal.loop-rest-smaller-then-has
-loop-rest-smaller-then-has c = (low c.before.before.before.before.before.before.before).fewer
+loop-rest-smaller-then-has c = (lowest-of c.loop-rest.rest _ _ c.loop-rest.invariant.0 c.loop-rest-test.true c.lowest-to.ensures c.without-rest.ensures).fewer
 
 pub loop-rest-preserved-then-has : goal.loop-rest-preserved-then-has
 loop-rest-preserved-then-has c =
     (
       c.without-rest.type_inv,
-      promotes-next _ _ _ _ _ _ (low c.before.before.before.before.before.before.before) _ _ c.has-takes.ensures c.has.ensures
+      promotes-next _ _ _ _ _ _ (lowest-of c.loop-rest.rest _ _ c.loop-rest.invariant.0 c.loop-rest-test.true c.lowest-to.ensures c.without-rest.ensures) _ _ c.has-takes.ensures c.has.ensures
           c.loop-rest.invariant.1 c.if-has.true _ _ c.write_promotions.ensures refl,
     )
 
@@ -54,13 +50,13 @@ pub overflow_add-at-in-loop-rest : goal.overflow_add-at-in-loop-rest
 overflow_add-at-in-loop-rest c = omega (arith, place c.before.before.before.before)
 
 pub loop-rest-smaller : goal.loop-rest-smaller
-loop-rest-smaller c = (low c.before.before.before.before.before.before.before).fewer
+loop-rest-smaller c = (lowest-of c.loop-rest.rest _ _ c.loop-rest.invariant.0 c.loop-rest-test.true c.lowest-to.ensures c.without-rest.ensures).fewer
 
 pub loop-rest-preserved : goal.loop-rest-preserved
 loop-rest-preserved c =
     (
       c.without-rest.type_inv,
-      plain-next _ _ _ _ _ _ (low c.before.before.before.before.before.before.before) _ _ c.has-takes.ensures c.has.ensures
+      plain-next _ _ _ _ _ _ (lowest-of c.loop-rest.rest _ _ c.loop-rest.invariant.0 c.loop-rest-test.true c.lowest-to.ensures c.without-rest.ensures) _ _ c.has-takes.ensures c.has.ensures
           c.loop-rest.invariant.1 c.if-has.false _ _ c.write_move.ensures refl,
     )
 

@@ -15,17 +15,11 @@ use Rattle.position.specs.Keyed.{board_of}
 use Rattle.move_list.specs.laws.TurnLaws.{by-movers, movers-end, turn-length}
 use Rattle.move_list.proofs.answers.count_of.Goals as goal
 
--- what taking the lowest square out of the rest means
-low : (c : goal.After-lowest-from) (others : ℕ)
-    → others ≡ set_of (λ (u : ℕ). has c.loop-rest.rest u && not (eqb u c.lowest-from.result))
-    → Lowest c.loop-rest.rest c.lowest-from.result others
-low c others e = lowest-of c.loop-rest.rest _ _ c.loop-rest.invariant.0 c.loop-rest-test.true c.lowest-from.ensures e
-
 -- the moves from the lowest square, with those of the others, are at most the room
 few : (c : goal.After-size-in-loop-rest)
     → c.loop-rest.count + (c.size.result + 3 * c.size-in-loop-rest.result) ≤ room
 few c =
-    let t = turn-length _ _ _ _ _ (low c.before.before.before.before _ refl) c.legal_targets-targets.ensures _
+    let t = turn-length _ _ _ _ _ (lowest-of c.loop-rest.rest _ _ c.loop-rest.invariant.0 c.loop-rest-test.true c.lowest-from.ensures refl) c.legal_targets-targets.ensures _
     c.promoting_set-ends.ensures in
     omega (arith, c.loop-rest.invariant.1, t, c.size.ensures, c.size-in-loop-rest.ensures, few-moves c.args.p)
 
@@ -46,11 +40,11 @@ pub overflow_add-count-in-loop-rest : goal.overflow_add-count-in-loop-rest
 overflow_add-count-in-loop-rest c = omega (arith, few c)
 
 pub loop-rest-smaller : goal.loop-rest-smaller
-loop-rest-smaller c = (low c.before.before.before.before.before _ c.without-rest.ensures).fewer
+loop-rest-smaller c = (lowest-of c.loop-rest.rest _ _ c.loop-rest.invariant.0 c.loop-rest-test.true c.lowest-from.ensures c.without-rest.ensures).fewer
 
 pub loop-rest-preserved : goal.loop-rest-preserved
 loop-rest-preserved c =
-    let t = turn-length _ _ _ _ _ (low c.before.before.before.before.before _ c.without-rest.ensures) c.legal_targets-targets.ensures _
+    let t = turn-length _ _ _ _ _ (lowest-of c.loop-rest.rest _ _ c.loop-rest.invariant.0 c.loop-rest-test.true c.lowest-from.ensures c.without-rest.ensures) c.legal_targets-targets.ensures _
     c.promoting_set-ends.ensures in
     (c.without-rest.type_inv, omega (arith, c.loop-rest.invariant.1, t, c.size.ensures, c.size-in-loop-rest.ensures))
 

@@ -10,15 +10,11 @@ use Rattle.move_list.specs.laws.ListLaws.{Rest, rest_all, rest_end}
 use Rattle.move_list.specs.laws.TargetLaws.{targets-end, promotes-room, promotes-next, plain-room, plain-next}
 use Rattle.move_list.proofs.lists.add_moves.Goals as goal
 
--- what taking the lowest square out of the rest means
-low : (c : goal.After-without-rest) → Lowest c.loop-rest.rest c.lowest-to.result c.without-rest.result
-low c = lowest-of c.loop-rest.rest _ _ c.loop-rest.invariant.0 c.loop-rest-test.true c.lowest-to.ensures c.without-rest.ensures
-
 -- there is a place for a move that promotes nothing
 place : (c : goal.After-move_of)
     → c.loop-rest.out.count < room
 place c =
-    plain-room _ _ _ _ _ _ (low c.before.before.before.before) _ _ _ c.loop-rest.invariant.1 _ _ c.has-takes.ensures
+    plain-room _ _ _ _ _ _ (lowest-of c.loop-rest.rest _ _ c.loop-rest.invariant.0 c.loop-rest-test.true c.lowest-to.ensures c.without-rest.ensures) _ _ _ c.loop-rest.invariant.1 _ _ c.has-takes.ensures
     c.has.ensures c.if-has.false
 
 pub loop-rest-init : goal.loop-rest-init
@@ -26,17 +22,17 @@ loop-rest-init c = (c.ranges.targets.fits, rest_all _ _ c.requires)
 
 pub with_promotions-out-requires : goal.with_promotions-out-requires
 with_promotions-out-requires c =
-    promotes-room _ _ _ _ _ _ (low c.before.before.before) _ _ _ c.loop-rest.invariant.1 _ _ c.has-takes.ensures
+    promotes-room _ _ _ _ _ _ (lowest-of c.loop-rest.rest _ _ c.loop-rest.invariant.0 c.loop-rest-test.true c.lowest-to.ensures c.without-rest.ensures) _ _ _ c.loop-rest.invariant.1 _ _ c.has-takes.ensures
     c.has.ensures c.if-has.true
 
 pub loop-rest-smaller-then-has : goal.loop-rest-smaller-then-has
-loop-rest-smaller-then-has c = (low c.before.before.before.before).fewer
+loop-rest-smaller-then-has c = (lowest-of c.loop-rest.rest _ _ c.loop-rest.invariant.0 c.loop-rest-test.true c.lowest-to.ensures c.without-rest.ensures).fewer
 
 pub loop-rest-preserved-then-has : goal.loop-rest-preserved-then-has
 loop-rest-preserved-then-has c =
     (
       c.without-rest.type_inv,
-      promotes-next _ _ _ _ _ _ (low c.before.before.before.before) _ _ _ c.loop-rest.invariant.1 _ _ c.has-takes.ensures
+      promotes-next _ _ _ _ _ _ (lowest-of c.loop-rest.rest _ _ c.loop-rest.invariant.0 c.loop-rest-test.true c.lowest-to.ensures c.without-rest.ensures) _ _ _ c.loop-rest.invariant.1 _ _ c.has-takes.ensures
           c.has.ensures c.if-has.true _ c.with_promotions-out.ensures,
     )
 
@@ -53,13 +49,13 @@ pub overflow_add-out : goal.overflow_add-out
 overflow_add-out c = omega (arith, place c)
 
 pub loop-rest-smaller : goal.loop-rest-smaller
-loop-rest-smaller c = (low c.before.before.before.before).fewer
+loop-rest-smaller c = (lowest-of c.loop-rest.rest _ _ c.loop-rest.invariant.0 c.loop-rest-test.true c.lowest-to.ensures c.without-rest.ensures).fewer
 
 pub loop-rest-preserved : goal.loop-rest-preserved
 loop-rest-preserved c =
     (
       c.without-rest.type_inv,
-      plain-next _ _ _ _ _ _ (low c.before.before.before.before) _ _ _ c.loop-rest.invariant.1 _ _ c.has-takes.ensures
+      plain-next _ _ _ _ _ _ (lowest-of c.loop-rest.rest _ _ c.loop-rest.invariant.0 c.loop-rest-test.true c.lowest-to.ensures c.without-rest.ensures) _ _ _ c.loop-rest.invariant.1 _ _ c.has-takes.ensures
           c.has.ensures c.if-has.false _ c.move_of.ensures,
     )
 

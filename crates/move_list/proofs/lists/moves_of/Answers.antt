@@ -15,12 +15,6 @@ use Rattle.move_list.specs.laws.ListLaws.{Rest, rest-start, rest-done}
 use Rattle.move_list.specs.laws.TurnLaws.{by-movers, movers-end, turn-room, turn-rest}
 use Rattle.move_list.proofs.lists.moves_of.Goals as goal
 
--- what taking the lowest square out of the rest means
-low : (c : goal.After-lowest-from) (others : ℕ)
-    → others ≡ set_of (λ (u : ℕ). has c.loop-rest.rest u && not (eqb u c.lowest-from.result))
-    → Lowest c.loop-rest.rest c.lowest-from.result others
-low c others e = lowest-of c.loop-rest.rest _ _ c.loop-rest.invariant.0 c.loop-rest-test.true c.lowest-from.ensures e
-
 pub loop-rest-init : goal.loop-rest-init
 unfolding board_of
 loop-rest-init c =
@@ -32,17 +26,17 @@ loop-rest-init c =
 
 pub add_moves-list-requires : goal.add_moves-list-requires
 add_moves-list-requires c =
-    turn-room _ _ _ _ _ (low c.before.before _ refl) c.legal_targets.ensures _ _
+    turn-room _ _ _ _ _ (lowest-of c.loop-rest.rest _ _ c.loop-rest.invariant.0 c.loop-rest-test.true c.lowest-from.ensures refl) c.legal_targets.ensures _ _
     c.taking_set-foes.ensures c.promoting_set.ensures _ _ _ c.loop-rest.invariant.1
 
 pub loop-rest-smaller : goal.loop-rest-smaller
-loop-rest-smaller c = (low c.before.before.before.before _ c.without-rest.ensures).fewer
+loop-rest-smaller c = (lowest-of c.loop-rest.rest _ _ c.loop-rest.invariant.0 c.loop-rest-test.true c.lowest-from.ensures c.without-rest.ensures).fewer
 
 pub loop-rest-preserved : goal.loop-rest-preserved
 loop-rest-preserved c =
     (
       c.without-rest.type_inv,
-      turn-rest _ _ _ _ _ (low c.before.before.before.before _ c.without-rest.ensures) c.legal_targets.ensures _ _
+      turn-rest _ _ _ _ _ (lowest-of c.loop-rest.rest _ _ c.loop-rest.invariant.0 c.loop-rest-test.true c.lowest-from.ensures c.without-rest.ensures) c.legal_targets.ensures _ _
           c.taking_set-foes.ensures c.promoting_set.ensures _ _ _ c.loop-rest.invariant.1
           _ c.add_moves-list.ensures,
     )

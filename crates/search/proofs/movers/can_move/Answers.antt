@@ -12,30 +12,24 @@ use Rattle.search.specs.Tried.{moves_on}
 use Rattle.search.specs.laws.MoverLaws.{on-movers, on_none, on-skip, on_some}
 use Rattle.search.proofs.movers.can_move.Goals as goal
 
--- what taking the lowest square out of the rest means
-low : (c : goal.After-lowest-from) (others : ℕ)
-    → others ≡ set_of (λ (u : ℕ). has c.loop-rest.rest u && not (eqb u c.lowest-from.result))
-    → Lowest c.loop-rest.rest c.lowest-from.result others
-low c others e = lowest-of c.loop-rest.rest _ _ c.loop-rest.invariant.0 c.loop-rest-test.true c.lowest-from.ensures e
-
 pub loop-rest-init : goal.loop-rest-init
 loop-rest-init c = (c.movers-rest.type_inv, ap empty (on-movers _ _ c.movers-rest.ensures))
 
 pub returns-then-legal_targets-ne0 : goal.returns-then-legal_targets-ne0
 returns-then-legal_targets-ne0 c =
     let l = c.loop-rest in
-    ap not (sym (on_some _ l.rest _ _ _ c.legal_targets.type_inv (low c.before.before _ refl)
+    ap not (sym (on_some _ l.rest _ _ _ c.legal_targets.type_inv (lowest-of c.loop-rest.rest _ _ c.loop-rest.invariant.0 c.loop-rest-test.true c.lowest-from.ensures refl)
     c.legal_targets.ensures c.if-legal_targets-ne0.true) ∙ l.invariant.1)
 
 pub loop-rest-smaller : goal.loop-rest-smaller
-loop-rest-smaller c = (low c.before.before.before _ c.without-rest.ensures).fewer
+loop-rest-smaller c = (lowest-of c.loop-rest.rest _ _ c.loop-rest.invariant.0 c.loop-rest-test.true c.lowest-from.ensures c.without-rest.ensures).fewer
 
 pub loop-rest-preserved : goal.loop-rest-preserved
 loop-rest-preserved c =
     let l = c.loop-rest in (
       c.without-rest.type_inv,
       sym (ap empty
-          (on-skip _ l.rest _ _ _ (low c.before.before.before _ c.without-rest.ensures) c.legal_targets.ensures
+          (on-skip _ l.rest _ _ _ (lowest-of c.loop-rest.rest _ _ c.loop-rest.invariant.0 c.loop-rest-test.true c.lowest-from.ensures c.without-rest.ensures) c.legal_targets.ensures
           c.if-legal_targets-ne0.false)) ∙ l.invariant.1,
     )
 

@@ -19,32 +19,26 @@ use Rattle.successors.specs.laws.KingKeys.{byte_step}
 use Rattle.successors.specs.laws.SiftLaws.{Sifting, sift-start, sift-refuted, sift-turn, sift-end}
 use Rattle.successors.proofs.by_king.sift_king.Goals as goal
 
--- what taking the lowest target out of the rest means
-low : (c : goal.After-lowest-to) (others : ℕ)
-    → others ≡ set_of (λ (u : ℕ). has c.loop-rest.rest u && not (eqb u c.lowest-to.result))
-    → Lowest c.loop-rest.rest c.lowest-to.result others
-low c others e = lowest-of c.loop-rest.rest _ _ c.loop-rest.invariant.0 c.loop-rest-test.true c.lowest-to.ensures e
-
 pub loop-rest-init : goal.loop-rest-init
 loop-rest-init c = (c.ranges.targets.fits, omega arith, λ m q w d h e first second. sift-start _ _ _ _ _ _ e)
 
 pub still_number-requires : goal.still_number-requires
 still_number-requires c =
     let h = c.still_king-others.ensures in
-    ((low c _ refl).square, h.base-fits, h.unit-fits)
+    ((lowest-of c.loop-rest.rest _ _ c.loop-rest.invariant.0 c.loop-rest-test.true c.lowest-to.ensures refl).square, h.base-fits, h.unit-fits)
 
 pub returns-then-refutes : goal.returns-then-refutes
 returns-then-refutes c =
     let h = c.still_king-others.ensures in
     let side = c.other-side.ensures in
     λ w e first second. let v = c.loop-rest.invariant.2 _ _ w side h e first second in
-    sift-refuted _ _ _ _ _ _ _ _ _ _ (low c.before.before.before.before _ refl) v
-    (byte_step _ _ w _ (v.legal-rest _ (low c.before.before.before.before _ refl).square (low c.before.before.before.before _ refl).here) first second _ _ _ _ _ side h
+    sift-refuted _ _ _ _ _ _ _ _ _ _ (lowest-of c.loop-rest.rest _ _ c.loop-rest.invariant.0 c.loop-rest-test.true c.lowest-to.ensures refl) v
+    (byte_step _ _ w _ (v.legal-rest _ (lowest-of c.loop-rest.rest _ _ c.loop-rest.invariant.0 c.loop-rest-test.true c.lowest-to.ensures refl).square (lowest-of c.loop-rest.rest _ _ c.loop-rest.invariant.0 c.loop-rest-test.true c.lowest-to.ensures refl).here) first second _ _ _ _ _ side h
     c.still_number.ensures c.read_at-c.ensures)
     (sym c.refutes.ensures ∙ c.if-refutes.true)
 
 pub loop-rest-smaller : goal.loop-rest-smaller
-loop-rest-smaller c = (low c.before.before.before.before.before.before.before _ c.without-rest.ensures).fewer
+loop-rest-smaller c = (lowest-of c.loop-rest.rest _ _ c.loop-rest.invariant.0 c.loop-rest-test.true c.lowest-to.ensures c.without-rest.ensures).fewer
 
 pub loop-rest-preserved : goal.loop-rest-preserved
 loop-rest-preserved c =
@@ -52,8 +46,8 @@ loop-rest-preserved c =
       c.without-rest.type_inv,
       c.with_suited-found.type_inv,
       λ m q w side h e first second. let v = l.invariant.2 m q w side h e first second in
-          sift-turn _ _ _ _ _ _ _ _ _ _ (low c.before.before.before.before.before.before.before _ c.without-rest.ensures) v
-          (byte_step m q w _ (v.legal-rest _ (low c.before.before.before.before.before.before.before _ refl).square (low c.before.before.before.before.before.before.before _ refl).here) first second _ _ _ _ _ side h
+          sift-turn _ _ _ _ _ _ _ _ _ _ (lowest-of c.loop-rest.rest _ _ c.loop-rest.invariant.0 c.loop-rest-test.true c.lowest-to.ensures c.without-rest.ensures) v
+          (byte_step m q w _ (v.legal-rest _ (lowest-of c.loop-rest.rest _ _ c.loop-rest.invariant.0 c.loop-rest-test.true c.lowest-to.ensures refl).square (lowest-of c.loop-rest.rest _ _ c.loop-rest.invariant.0 c.loop-rest-test.true c.lowest-to.ensures refl).here) first second _ _ _ _ _ side h
           c.still_number.ensures c.read_at-c.ensures) _
           (sym c.refutes.ensures ∙ c.if-refutes.false)
           (c.with_suited-found.ensures ∙ rw c.suits.ensures),

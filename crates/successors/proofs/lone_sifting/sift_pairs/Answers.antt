@@ -13,17 +13,11 @@ use Rattle.rules.specs.Rules.{Board, moved}
 use Rattle.successors.specs.laws.SiftLaws.{Sifting, sift-start, sift-refuted, sift-turn, sift-end}
 use Rattle.successors.proofs.lone_sifting.sift_pairs.Goals as goal
 
--- what taking the lowest target out of the rest means
-low : (c : goal.After-lowest-to) (others : ℕ)
-    → others ≡ set_of (λ (u : ℕ). has c.loop-rest.rest u && not (eqb u c.lowest-to.result))
-    → Lowest c.loop-rest.rest c.lowest-to.result others
-low c others e = lowest-of c.loop-rest.rest _ _ c.loop-rest.invariant.0 c.loop-rest-test.true c.lowest-to.ensures e
-
 pub loop-rest-init : goal.loop-rest-init
 loop-rest-init c = (c.ranges.targets.fits, omega arith, λ bytes b from goes e h. sift-start _ _ _ _ _ _ e)
 
 pub count_before-requires : goal.count_before-requires
-count_before-requires c = (low c _ refl).square
+count_before-requires c = (lowest-of c.loop-rest.rest _ _ c.loop-rest.invariant.0 c.loop-rest-test.true c.lowest-to.ensures refl).square
 
 pub overflow_cast-count_before : goal.overflow_cast-count_before
 overflow_cast-count_before c = omega arith
@@ -38,12 +32,12 @@ pub returns-then-refutes : goal.returns-then-refutes
 returns-then-refutes c =
     let l = c.loop-rest in
     λ bytes b from goes e h. let v = l.invariant.2 bytes b from goes e h in
-    sift-refuted _ _ _ _ _ _ _ _ _ _ (low c.before.before.before.before _ refl) v
-    (c.read_at-c.ensures ∙ rw c.count_before.ensures.0 (h _ (v.legal-rest _ (low c.before.before.before.before _ refl).square (low c.before.before.before.before _ refl).here)))
+    sift-refuted _ _ _ _ _ _ _ _ _ _ (lowest-of c.loop-rest.rest _ _ c.loop-rest.invariant.0 c.loop-rest-test.true c.lowest-to.ensures refl) v
+    (c.read_at-c.ensures ∙ rw c.count_before.ensures.0 (h _ (v.legal-rest _ (lowest-of c.loop-rest.rest _ _ c.loop-rest.invariant.0 c.loop-rest-test.true c.lowest-to.ensures refl).square (lowest-of c.loop-rest.rest _ _ c.loop-rest.invariant.0 c.loop-rest-test.true c.lowest-to.ensures refl).here)))
     (sym c.refutes.ensures ∙ c.if-refutes.true)
 
 pub loop-rest-smaller : goal.loop-rest-smaller
-loop-rest-smaller c = (low c.before.before.before.before.before.before.before _ c.without-rest.ensures).fewer
+loop-rest-smaller c = (lowest-of c.loop-rest.rest _ _ c.loop-rest.invariant.0 c.loop-rest-test.true c.lowest-to.ensures c.without-rest.ensures).fewer
 
 pub loop-rest-preserved : goal.loop-rest-preserved
 loop-rest-preserved c =
@@ -51,8 +45,8 @@ loop-rest-preserved c =
       c.without-rest.type_inv,
       c.with_suited-found.type_inv,
       λ bytes b from goes e h. let v = l.invariant.2 bytes b from goes e h in
-          sift-turn _ _ _ _ _ _ _ _ _ _ (low c.before.before.before.before.before.before.before _ c.without-rest.ensures) v
-          (c.read_at-c.ensures ∙ rw c.count_before.ensures.0 (h _ (v.legal-rest _ (low c.before.before.before.before.before.before.before _ refl).square (low c.before.before.before.before.before.before.before _ refl).here))) _
+          sift-turn _ _ _ _ _ _ _ _ _ _ (lowest-of c.loop-rest.rest _ _ c.loop-rest.invariant.0 c.loop-rest-test.true c.lowest-to.ensures c.without-rest.ensures) v
+          (c.read_at-c.ensures ∙ rw c.count_before.ensures.0 (h _ (v.legal-rest _ (lowest-of c.loop-rest.rest _ _ c.loop-rest.invariant.0 c.loop-rest-test.true c.lowest-to.ensures refl).square (lowest-of c.loop-rest.rest _ _ c.loop-rest.invariant.0 c.loop-rest-test.true c.lowest-to.ensures refl).here))) _
           (sym c.refutes.ensures ∙ c.if-refutes.false)
           (c.with_suited-found.ensures ∙ rw c.suits.ensures),
     )
