@@ -11,12 +11,6 @@ use Rattle.move_list.specs.laws.TargetLaws.{targets-end}
 use Rattle.move_bytes.specs.laws.StoreLaws.{Left, left-all, left_end, promotes-room, promotes-next, plain-room, plain-next}
 use Rattle.move_bytes.proofs.write_targets.Goals as goal
 
--- there is a place for a move that promotes nothing
-place : (c : goal.Else-has) → c.loop-rest.at + 1 ≤ room
-place c =
-    plain-room _ _ _ _ _ _ (lowest-of c.loop-rest.rest _ _ c.loop-rest.invariant.0 c.loop-rest-test.true c.lowest-to.ensures c.without-rest.ensures) _ _ c.has-takes.ensures c.has.ensures
-    c.loop-rest.invariant.1 c.if-has.false
-
 pub loop-rest-init : goal.loop-rest-init
 loop-rest-init c = (c.ranges.targets.fits, left-all _ _ _ _ c.requires.0 c.requires.1 refl)
 
@@ -44,10 +38,10 @@ loop-rest-preserved-then-has c =
     )
 
 pub write_move-requires : goal.write_move-requires
-write_move-requires c = (c.loop-rest.invariant.1.long, omega (arith, place c.before))
+write_move-requires c = (c.loop-rest.invariant.1.long, omega (arith, (plain-room _ _ _ _ _ _ (lowest-of c.loop-rest.rest _ _ c.loop-rest.invariant.0 c.loop-rest-test.true c.lowest-to.ensures c.without-rest.ensures) _ _ c.has-takes.ensures c.has.ensures c.loop-rest.invariant.1 c.if-has.false)))
 
 pub overflow_add-at-in-loop-rest : goal.overflow_add-at-in-loop-rest
-overflow_add-at-in-loop-rest c = omega (arith, place c.before.before.before.before)
+overflow_add-at-in-loop-rest c = omega (arith, (plain-room _ _ _ _ _ _ (lowest-of c.loop-rest.rest _ _ c.loop-rest.invariant.0 c.loop-rest-test.true c.lowest-to.ensures c.without-rest.ensures) _ _ c.has-takes.ensures c.has.ensures c.loop-rest.invariant.1 c.if-has.false))
 
 pub loop-rest-smaller : goal.loop-rest-smaller
 loop-rest-smaller c = (lowest-of c.loop-rest.rest _ _ c.loop-rest.invariant.0 c.loop-rest-test.true c.lowest-to.ensures c.without-rest.ensures).fewer

@@ -6,11 +6,6 @@ use Rattle.search.specs.Tried.{Pawnless}
 use Rattle.search.specs.laws.OpinionLaws.{NoneBelow, served-pawnless, below_none, below_more, found_none, found-win, found-loss, opinion-refused, opinion-deep, opinion-searched}
 use Rattle.search.proofs.second.second_opinion.Goals as goal
 
--- the search is asked only of a position that is not refused
-pawnless : (c : goal.After-is_decided)
-    → Pawnless (board_of c.args.p)
-pawnless c = served-pawnless _ 0 _ c.standing_refusal-refusal.ensures c.if-refusal-ne0.false
-
 pub returns-then-refusal-ne0 : goal.returns-then-refusal-ne0
 returns-then-refusal-ne0 c = opinion-refused _ _ _ c.standing_refusal-refusal.ensures c.if-refusal-ne0.true
 
@@ -24,13 +19,13 @@ loop-n-init c = below_none _
 pub returns-then-n-eq1 : goal.returns-then-n-eq1
 returns-then-n-eq1 c =
     opinion-searched _ _ _ c.standing_refusal-refusal.ensures c.if-refusal-ne0.false _ c.if-k-gt-MOST.false
-    (found-win _ _ c.loop-n.invariant _ c.loop-n-test.true _ (c.is_decided.ensures (pawnless c.before.before))
+    (found-win _ _ c.loop-n.invariant _ c.loop-n-test.true _ (c.is_decided.ensures (served-pawnless _ 0 _ c.standing_refusal-refusal.ensures c.if-refusal-ne0.false))
     c.if-is_decided.true c.if-n-eq1.true)
 
 pub returns-then-is_decided : goal.returns-then-is_decided
 returns-then-is_decided c =
     opinion-searched _ _ _ c.standing_refusal-refusal.ensures c.if-refusal-ne0.false _ c.if-k-gt-MOST.false
-    (found-loss _ _ c.loop-n.invariant _ c.loop-n-test.true _ (c.is_decided.ensures (pawnless c.before.before))
+    (found-loss _ _ c.loop-n.invariant _ c.loop-n-test.true _ (c.is_decided.ensures (served-pawnless _ 0 _ c.standing_refusal-refusal.ensures c.if-refusal-ne0.false))
     c.if-is_decided.true c.if-n-eq1.false)
 
 pub overflow_add-n : goal.overflow_add-n
@@ -41,7 +36,7 @@ loop-n-smaller c = omega arith
 
 pub loop-n-preserved : goal.loop-n-preserved
 loop-n-preserved c =
-    below_more _ _ c.loop-n.invariant _ (c.is_decided.ensures (pawnless c.before)) c.if-is_decided.false
+    below_more _ _ c.loop-n.invariant _ (c.is_decided.ensures (served-pawnless _ 0 _ c.standing_refusal-refusal.ensures c.if-refusal-ne0.false)) c.if-is_decided.false
 
 pub returns : goal.returns
 returns c =

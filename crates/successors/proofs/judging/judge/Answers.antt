@@ -1,9 +1,9 @@
 -- `successors::judge` meets its contract: a piece at a time.
 use borrow.Author.Rules.{rules}
 use mathlib.Core.Path.{◌∙◌}
-use mathlib.Core.Logic.{⊎_elim}
 use Rattle.successors.specs.laws.QuietLaws.{of-first, of-second}
 use Rattle.successors.specs.laws.JudgeLaws.{no-moves, king-refuted, first-refuted, second-refuted, all-suited}
+use Rattle.successors.proofs.judging.judge.Goals.{then-reach-eq0, else-reach-eq0, then-reach-eq0-2, else-reach-eq0-2}
 use Rattle.successors.proofs.judging.judge.Goals as goal
 
 pub returns-in_default : goal.returns-in_default
@@ -16,8 +16,10 @@ returns-in_default-by_first c =
     let s = c.men_squares-men in
     let q = c.args.q in
     λ w t. first-refuted _ _ _ _ _ _ _ (c.sift_steps-by_king.ensures w t.king s.ensures) _ c.in-Suited.is _
-    (⊎_elim (λ l. l.1 ∙ no-moves _ _ _ _ _ _ t.first l.0.taken)
-    (λ r. r.2 ∙ r.1.ensures w t.first s.ensures (of-first q)) c.if-reach-eq0.branch)
+    (elim c.if-reach-eq0.branch [
+      then-reach-eq0 v ↦ v.by_first-is ∙ no-moves _ _ _ _ _ _ t.first v.if-reach-eq0.true
+    | else-reach-eq0 v ↦ v.by_first-is ∙ v.sift_moves-by_first.ensures w t.first s.ensures (of-first q)
+    ])
     c.in_default-by_first.is
 
 pub returns-in_default-by_second : goal.returns-in_default-by_second
@@ -25,10 +27,14 @@ returns-in_default-by_second c =
     let s = c.men_squares-men in
     let q = c.args.q in
     λ w t. second-refuted _ _ _ _ _ _ _ (c.sift_steps-by_king.ensures w t.king s.ensures) _ c.in-Suited.is _
-    (⊎_elim (λ l. l.1 ∙ no-moves _ _ _ _ _ _ t.first l.0.taken)
-    (λ r. r.2 ∙ r.1.ensures w t.first s.ensures (of-first q)) c.if-reach-eq0.branch) _ c.in-Suited-by_first.is _
-    (⊎_elim (λ l. l.1 ∙ no-moves _ _ _ _ _ _ t.second l.0.taken)
-    (λ r. r.2 ∙ r.1.ensures w t.second s.ensures (of-second q)) c.if-reach-eq0-2.branch)
+    (elim c.if-reach-eq0.branch [
+      then-reach-eq0 v ↦ v.by_first-is ∙ no-moves _ _ _ _ _ _ t.first v.if-reach-eq0.true
+    | else-reach-eq0 v ↦ v.by_first-is ∙ v.sift_moves-by_first.ensures w t.first s.ensures (of-first q)
+    ]) _ c.in-Suited-by_first.is _
+    (elim c.if-reach-eq0-2.branch [
+      then-reach-eq0-2 v ↦ v.by_second-is ∙ no-moves _ _ _ _ _ _ t.second v.if-reach-eq0-2.true
+    | else-reach-eq0-2 v ↦ v.by_second-is ∙ v.sift_moves-by_second.ensures w t.second s.ensures (of-second q)
+    ])
     c.in_default-by_second.is
 
 pub returns : goal.returns
@@ -36,7 +42,11 @@ returns c =
     let s = c.men_squares-men in
     let q = c.args.q in
     λ w t. all-suited _ _ _ _ _ _ _ (c.sift_steps-by_king.ensures w t.king s.ensures) _ c.in-Suited.is _
-    (⊎_elim (λ l. l.1 ∙ no-moves _ _ _ _ _ _ t.first l.0.taken)
-    (λ r. r.2 ∙ r.1.ensures w t.first s.ensures (of-first q)) c.if-reach-eq0.branch) _ c.in-Suited-by_first.is _
-    (⊎_elim (λ l. l.1 ∙ no-moves _ _ _ _ _ _ t.second l.0.taken)
-    (λ r. r.2 ∙ r.1.ensures w t.second s.ensures (of-second q)) c.if-reach-eq0-2.branch) _ c.in-Suited-by_second.is
+    (elim c.if-reach-eq0.branch [
+      then-reach-eq0 v ↦ v.by_first-is ∙ no-moves _ _ _ _ _ _ t.first v.if-reach-eq0.true
+    | else-reach-eq0 v ↦ v.by_first-is ∙ v.sift_moves-by_first.ensures w t.first s.ensures (of-first q)
+    ]) _ c.in-Suited-by_first.is _
+    (elim c.if-reach-eq0-2.branch [
+      then-reach-eq0-2 v ↦ v.by_second-is ∙ no-moves _ _ _ _ _ _ t.second v.if-reach-eq0-2.true
+    | else-reach-eq0-2 v ↦ v.by_second-is ∙ v.sift_moves-by_second.ensures w t.second s.ensures (of-second q)
+    ]) _ c.in-Suited-by_second.is
