@@ -5,7 +5,7 @@ use Rattle.deciding.specs.laws.StandingLaws.{told-legal, told-nothing}
 use Rattle.deciding.proofs.numbers.is_legal_number.Goals as goal
 
 pub returns-in-Legal : goal.returns-in-Legal
-returns-in-Legal c = λ g l h. sym (told-legal _ _ _ _ c.in-Legal.is (c.legal_at-standing.ensures g l h)).0
+returns-in-Legal c = λ g l h. sym (told-legal c.args.m c.args.n _ _ c.in-Legal.is (c.legal_at-standing.ensures g l h)).0
 
 pub returns-in-Nothing : goal.returns-in-Nothing
-returns-in-Nothing c = λ g l h. sym (told-nothing _ _ _ c.in-Nothing.is (c.legal_at-standing.ensures g l h))
+returns-in-Nothing c = λ g l h. sym (told-nothing c.args.m c.args.n _ c.in-Nothing.is (c.legal_at-standing.ensures g l h))

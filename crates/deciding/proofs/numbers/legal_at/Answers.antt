@@ -5,7 +5,7 @@ use Rattle.deciding.specs.laws.StandingLaws.{pieces-standing}
 use Rattle.deciding.proofs.numbers.legal_at.Goals as goal
 
 pub returns-then-m-eq-PAWN : goal.returns-then-m-eq-PAWN
-returns-then-m-eq-PAWN c = λ g l h. c.legal_of_pawn.ensures _ (given-pawn c.args.m g c.if-m-eq-PAWN.true)
+returns-then-m-eq-PAWN c = λ g l h. c.legal_of_pawn.ensures c.args.m (given-pawn c.args.m g c.if-m-eq-PAWN.true)
 
 pub returns : goal.returns
 returns c =

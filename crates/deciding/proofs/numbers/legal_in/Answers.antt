@@ -11,7 +11,7 @@ use Rattle.deciding.specs.laws.StandingLaws.{pieces-standing}
 use Rattle.deciding.proofs.numbers.legal_in.Goals as goal
 
 pub returns-then-m-eq-PAWN : goal.returns-then-m-eq-PAWN
-returns-then-m-eq-PAWN c = λ g f. c.legal_of_pawn.ensures _ (given-pawn c.args.m g c.if-m-eq-PAWN.true)
+returns-then-m-eq-PAWN c = λ g f. c.legal_of_pawn.ensures c.args.m (given-pawn c.args.m g c.if-m-eq-PAWN.true)
 
 pub returns-then-not-is_used : goal.returns-then-not-is_used
 returns-then-not-is_used c =

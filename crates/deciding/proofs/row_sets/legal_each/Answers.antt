@@ -14,6 +14,7 @@ use Rattle.four_men.specs.Reading.{legal_number_of}
 use Rattle.deciding.specs.Rows.{RowOf}
 use Rattle.deciding.specs.laws.Rows.{row_same}
 use Rattle.deciding.specs.laws.Gathering.{gathered-in, gathered-out}
+use Rattle.deciding.proofs.row_sets.legal_each.Goals.{then-is_legal_on, else-is_legal_on}
 use Rattle.deciding.proofs.row_sets.legal_each.Goals as goal
 
 pub loop-s-init : goal.loop-s-init
@@ -31,12 +32,12 @@ loop-s-preserved c =
       omega (arith, h),
       λ w u g.
           let told = c.is_legal_on.ensures (c.in_row.ensures (row_same _ _ _ w _ h)) in
-          ⊎_elim
-          (λ v. rw v.2
-          (gathered-in (λ (i : ℕ). asked (x.n / 64 * 64 + i)) l.legal l.s u (l.invariant.1 w u g) _ (set-has _ v.1.ensures u g) (sym told ∙ v.0.taken)))
-          (λ v. rw v.1
-          (gathered-out (λ (i : ℕ). asked (x.n / 64 * 64 + i)) l.legal l.s u (l.invariant.1 w u g) (sym told ∙ v.0.left)))
-          c.if-is_legal_on.branch,
+          elim c.if-is_legal_on.branch [
+            then-is_legal_on v ↦ rw v.legal-is
+                (gathered-in (λ (i : ℕ). asked (x.n / 64 * 64 + i)) l.legal l.s u (l.invariant.1 w u g) _ (set-has _ v.with-legal.ensures u g) (sym told ∙ v.if-is_legal_on.true))
+          | else-is_legal_on v ↦ rw v.legal-is
+                (gathered-out (λ (i : ℕ). asked (x.n / 64 * 64 + i)) l.legal l.s u (l.invariant.1 w u g) (sym told ∙ v.if-is_legal_on.false))
+          ],
     )
 
 pub returns : goal.returns

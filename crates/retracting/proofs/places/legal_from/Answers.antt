@@ -17,6 +17,7 @@ use Rattle.movegen.specs.laws.Targets.{turn_in, turn-out}
 use Rattle.retracting.specs.Retracting.{place_before, CompleteApart}
 use Rattle.retracting.specs.laws.Code.{told-legal}
 use Rattle.retracting.proofs.places.legal_from.Invariants.{passes, Apart}
+use Rattle.retracting.proofs.places.legal_from.Goals.{then-is_legal, else-is_legal}
 use Rattle.retracting.proofs.places.legal_from.Goals as goal
 
 low : (c : goal.After-without-rest)
@@ -44,17 +45,17 @@ loop-rest-preserved c =
           let same = told-legal x.m _ _ _ c.place_before.ensures
           c.is_legal.ensures (a t (low c).square (l.invariant.1 t (low c).square (low c).here)) in
           let e = (low c).others i h in
-          ⊎_elim
-          (λ w. rw (w.2, set-has _ w.1.ensures i h)
-          (turn_in ok i t (has l.auto i) (has l.rest i) (has c.without-rest.result i) e (same ∙ w.0.taken)
-          ∙ l.invariant.2 a i h))
-          (λ w. rw w.1
-          (turn-out ok i t (has l.auto i) (has l.rest i) (has c.without-rest.result i) e (same ∙ w.0.left)
-          ∙ l.invariant.2 a i h))
-          c.if-is_legal.branch,
+          elim c.if-is_legal.branch [
+            then-is_legal w ↦ rw (w.kept-is, set-has _ w.with-kept.ensures i h)
+                (turn_in ok i t (has l.kept i) (has l.rest i) (has c.without-rest.result i) e (same ∙ w.if-is_legal.true)
+                ∙ l.invariant.2 a i h)
+          | else-is_legal w ↦ rw w.kept-is
+                (turn-out ok i t (has l.kept i) (has l.rest i) (has c.without-rest.result i) e (same ∙ w.if-is_legal.false)
+                ∙ l.invariant.2 a i h)
+          ],
     )
 
 pub returns : goal.returns
 returns c =
     let l = c.loop-rest in
-    λ a s h. sym (or-false (has l.auto s)) ∙ sym (rw (c.loop-rest-test.false, has-none s) at (sym (l.invariant.2 a s h)))
+    λ a s h. sym (or-false (has l.kept s)) ∙ sym (rw (c.loop-rest-test.false, has-none s) at (sym (l.invariant.2 a s h)))
