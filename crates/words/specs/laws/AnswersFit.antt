@@ -194,6 +194,7 @@ lent-are (Material.One kind) l h t i n = absurd (none_in refl i)
 lent-are (Material.Two j k r) l h t (Memᴰ.head e) n = subst (λ (u : List ℕ). get_or u n 0 < 256) (sym e) (h.0 n)
 lent-are (Material.Two j k r) l h t (Memᴰ.tail (Memᴰ.head e)) n =
     subst (λ (u : List ℕ). get_or u n 0 < 256) (sym e) (h.1 n)
+lent-are (Material.Two j k r) l h t (Memᴰ.tail (Memᴰ.tail i)) n = elim i [ ]
 lent-are Material.Pawn l h t i n = go i
   where
     part : (kind : ℕ) → t ≡ part_of kind l.first → get_or t n 0 < 256
@@ -204,6 +205,7 @@ lent-are Material.Pawn l h t i n = go i
     go (Memᴰ.tail (Memᴰ.head e)) = part 1 e
     go (Memᴰ.tail (Memᴰ.tail (Memᴰ.head e))) = part 2 e
     go (Memᴰ.tail (Memᴰ.tail (Memᴰ.tail (Memᴰ.head e)))) = part 3 e
+    go (Memᴰ.tail (Memᴰ.tail (Memᴰ.tail (Memᴰ.tail i)))) = elim i [ ]
 
 size-most : (m : Material) → size_of m ≤ 3784704
 size-most (Material.One kind) = omega arith

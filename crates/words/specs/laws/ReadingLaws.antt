@@ -209,7 +209,7 @@ module _ (x : Bool) where
       let b = play-bits v n m hv hn h in
       rw (
         b.none,
-        b.value_read,
+        b.value-read,
         b.depth-read,
         b.given-read,
         b.from-read,
@@ -222,7 +222,7 @@ module _ (x : Bool) where
       )
   value-back v n BestMove.NoMove hv hn h =
       let b = none-bits v n hv hn in
-      rw (b.none, b.value_read, b.depth-read, b.given-read, b.mark-read, flag-read x)
+      rw (b.none, b.value-read, b.depth-read, b.given-read, b.mark-read, flag-read x)
 
   refused-back : (k : ℕ) → RefusalFits k
       → marked_read (marked x k) ≡ record { answer = Answer.Refused k; within_fifty = x }

@@ -15,14 +15,6 @@ use Rattle.checking.specs.Right.{Numbers, RightBelow}
 use Rattle.checking.specs.laws.Laws.{right-more, found-wrong, found_right, size-most}
 use Rattle.checking.proofs.checker.lowest_wrong.Goals as goal
 
--- a number of the table, and the place at the first number of its row
-here : (c : goal.After-row_at-row) → Numbers c.args.m c.loop-n.n
-    × (T (known (material_for c.args.m)) → RowOf c.args.m c.loop-n.n c.row_at-row.result)
-here c =
-    let x = c.requires in
-    let h : c.loop-n.n < size_of (material_for c.args.m) = omega (arith, x.1, c.loop-n-test.true) in
-    ((x.0, h), λ w. c.row_at-row.ensures w x.0.colour h (c.loop-n.invariant.2 w))
-
 pub loop-n-init : goal.loop-n-init
 loop-n-init c = (omega arith, λ k h. absurd (omega arith), λ w z. absurd (z refl))
 
@@ -36,14 +28,17 @@ pub bounds-table-n : goal.bounds-table-n
 bounds-table-n c = omega (arith, c.loop-n-test.true)
 
 pub is_right-requires : goal.is_right-requires
-is_right-requires c = here c.before
+is_right-requires c =
+    let h : c.loop-n.n < size_of (material_for c.args.m) = omega (arith, c.requires.1, c.loop-n-test.true) in
+    ((c.requires.0, h), λ w. c.row_at-row.ensures w c.requires.0.colour h (c.loop-n.invariant.2 w))
 
 pub overflow_cast-result : goal.overflow_cast-result
 overflow_cast-result c = omega (arith, c.loop-n-test.true, c.requires.1, size-most (material_for c.args.m))
 
 pub returns-then-not-is_right : goal.returns-then-not-is_right
 returns-then-not-is_right c =
-    found-wrong _ _ _ _ _ (here c.before.before.before).0.1 c.is_right.ensures c.if-not-is_right.true
+    let h : c.loop-n.n < size_of (material_for c.args.m) = omega (arith, c.requires.1, c.loop-n-test.true) in
+    found-wrong _ _ _ _ _ h c.is_right.ensures c.if-not-is_right.true
     c.loop-n.invariant.1
 
 pub overflow_add-n : goal.overflow_add-n
@@ -54,10 +49,11 @@ loop-n-smaller c = omega (arith, c.loop-n-test.true)
 
 pub loop-n-preserved : goal.loop-n-preserved
 loop-n-preserved c =
+    let h : c.loop-n.n < size_of (material_for c.args.m) = omega (arith, c.requires.1, c.loop-n-test.true) in
     (
       omega (arith, c.loop-n-test.true),
       right-more _ _ _ _ _ c.is_right.ensures c.if-not-is_right.false c.loop-n.invariant.1,
-      λ w z. row_next _ _ _ ((here c.before.before.before).1 w) z,
+      λ w z. row_next _ _ _ (c.row_at-row.ensures w c.requires.0.colour h (c.loop-n.invariant.2 w)) z,
     )
 
 pub returns : goal.returns

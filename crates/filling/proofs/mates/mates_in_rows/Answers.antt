@@ -14,18 +14,6 @@ use Rattle.working_back.specs.laws.Admitted.{most, sized, in_size, admitted-kept
 use Rattle.filling.specs.laws.Laws.{settled_below, settled-none, settled-low, settle-one, pass-turn, pass-done}
 use Rattle.filling.proofs.mates.mates_in_rows.Goals as goal
 
--- a number of the table
-small : (c : goal.After-checked_row_at-squares)
-    → c.loop-n.n < length c.args.table.now
-small c = omega (arith, c.loop-n-test.true, c.loop-n.invariant.1.same_length)
-
--- its row's set
-squares : (c : goal.After-checked_row_at-squares)
-    → MateRow c.args.m c.loop-n.n c.checked_row_at-squares.result
-squares c =
-    let p = c.requires in
-    c.checked_row_at-squares.ensures p.0 p.1.colour (in_size _ _ _ _ p.1 _ (small c)) c.loop-n.invariant.3
-
 pub loop-n-init : goal.loop-n-init
 loop-n-init c = (omega arith, upto-none _ _, settled-none _ _ _ _, λ z. absurd (z refl))
 
@@ -36,27 +24,34 @@ overflow_cast-n c =
 
 pub settle_checked-settled-requires : goal.settle_checked-settled-requires
 settle_checked-settled-requires c =
+    let small : c.loop-n.n < length c.args.table.now = omega (arith, c.loop-n-test.true, c.loop-n.invariant.1.same_length) in
     let p = c.requires in
-    (c.loop-n-test.true, admitted-kept _ _ _ _ p.1 _ c.loop-n.invariant.1.same_length, squares c.before)
+    (c.loop-n-test.true, admitted-kept _ _ _ _ p.1 _ c.loop-n.invariant.1.same_length, c.checked_row_at-squares.ensures c.requires.0 c.requires.1.colour (in_size _ _ _ _ c.requires.1 _ small) c.loop-n.invariant.3)
 
 pub overflow_add-settled : goal.overflow_add-settled
 overflow_add-settled c =
+    let small : c.loop-n.n < length c.args.table.now = omega (arith, c.loop-n-test.true, c.loop-n.invariant.1.same_length) in
     let p = c.requires in
     let count = settled-low _ _ _ _ _ _ c.loop-n.invariant.2 in
     let one = settle-one _ _ _ _ _ _ _ c.settle_checked-settled.ensures in
-    omega (arith, small c.before.before.before.before, count, one, most _ _ _ _ p.1)
+    omega (arith, small, count, one, most _ _ _ _ p.1)
 
 pub overflow_add-n : goal.overflow_add-n
-overflow_add-n c = let p = c.requires in omega (arith, small c.before.before.before.before, most _ _ _ _ p.1)
+overflow_add-n c =
+    let small : c.loop-n.n < length c.args.table.now = omega (arith, c.loop-n-test.true, c.loop-n.invariant.1.same_length) in
+    let p = c.requires in omega (arith, small, most _ _ _ _ p.1)
 
 pub loop-n-smaller : goal.loop-n-smaller
-loop-n-smaller c = omega (arith, small c.before.before.before.before)
+loop-n-smaller c =
+    let small : c.loop-n.n < length c.args.table.now = omega (arith, c.loop-n-test.true, c.loop-n.invariant.1.same_length) in
+    omega (arith, small)
 
 pub loop-n-preserved : goal.loop-n-preserved
 loop-n-preserved c =
+    let small : c.loop-n.n < length c.args.table.now = omega (arith, c.loop-n-test.true, c.loop-n.invariant.1.same_length) in
     let i = c.loop-n.invariant in
-    let turn = pass-turn _ _ _ _ _ _ _ _ _ i.1 (small c.before.before.before.before) c.settle_checked-settled.ensures i.2 in
-    (omega (arith, small c.before.before.before.before), turn.0, turn.1, λ z. mate-next _ _ _ z (squares c.before.before.before.before))
+    let turn = pass-turn _ _ _ _ _ _ _ _ _ i.1 (small) c.settle_checked-settled.ensures i.2 in
+    (omega (arith, small), turn.0, turn.1, λ z. mate-next _ _ _ z (c.checked_row_at-squares.ensures c.requires.0 c.requires.1.colour (in_size _ _ _ _ c.requires.1 _ small) c.loop-n.invariant.3))
 
 pub shape_of-table : goal.shape_of-table
 shape_of-table c = c.loop-n.invariant.1.same_length

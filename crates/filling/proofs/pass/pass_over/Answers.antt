@@ -17,14 +17,6 @@ use Rattle.filling.specs.laws.Outside.{begins, ends}
 use Rattle.deciding.specs.laws.Rows.{row_next}
 use Rattle.filling.proofs.pass.pass_over.Goals as goal
 
--- the place at the first number of n's row
-row : (c : goal.After-row_at-row) → T (known (material_for c.args.m))
-    → RowOf c.args.m c.loop-n.n c.row_at-row.result
-row c w =
-    let p = c.requires in
-    let h = c.loop-n-test.true in
-    c.row_at-row.ensures w p.1.colour (in_size _ _ _ _ p.1 _ (omega (arith, h, p.2.within.1))) (λ z. c.loop-n.invariant.3 w h z)
-
 pub overflow_mul-from : goal.overflow_mul-from
 overflow_mul-from c =
     let p = c.requires in
@@ -58,7 +50,7 @@ settle-settled-requires c =
       omega (arith, h, i.1.same_length, p.2.within.1),
       p.0,
       admitted-kept _ _ _ _ p.1 _ i.1.same_length,
-      λ w. row c.before w,
+      λ w. (let p = c.requires in let h = c.loop-n-test.true in c.row_at-row.ensures w p.1.colour (in_size _ _ _ _ p.1 _ (omega (arith, h, p.2.within.1))) (λ z. c.loop-n.invariant.3 w h z)),
     )
 
 pub overflow_add-settled : goal.overflow_add-settled
@@ -84,7 +76,7 @@ loop-n-preserved c =
     let h = c.loop-n-test.true in
     let p = c.requires in
     let turn = pass-turn _ _ _ _ _ _ _ _ _ i.1 (omega (arith, h, p.2.within.1)) c.settle-settled.ensures i.2 in
-    (omega (arith, h), turn.0, turn.1, λ w g z. row_next _ _ _ (row c.before.before.before.before w) z)
+    (omega (arith, h), turn.0, turn.1, λ w g z. row_next _ _ _ (let p = c.requires in let h = c.loop-n-test.true in c.row_at-row.ensures w p.1.colour (in_size _ _ _ _ p.1 _ (omega (arith, h, p.2.within.1))) (λ z. c.loop-n.invariant.3 w h z)) z)
 
 pub shape_of-table : goal.shape_of-table
 shape_of-table c = c.loop-n.invariant.1.same_length
