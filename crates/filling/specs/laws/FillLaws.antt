@@ -92,12 +92,14 @@ lent-bytes (Material.Two j k r) first second f s t (Memᴰ.head e) n =
     subst (λ (u : List ℕ). get_or u n 0 < 256) (sym e) (f n)
 lent-bytes (Material.Two j k r) first second f s t (Memᴰ.tail (Memᴰ.head e)) n =
     subst (λ (u : List ℕ). get_or u n 0 < 256) (sym e) (s n)
+lent-bytes (Material.Two j k r) first second f s t (Memᴰ.tail (Memᴰ.tail i)) n = elim i [ ]
 lent-bytes Material.Pawn first second f s t (Memᴰ.head e) n = part-byte 0 first f t e n
 lent-bytes Material.Pawn first second f s t (Memᴰ.tail (Memᴰ.head e)) n = part-byte 1 first f t e n
 lent-bytes Material.Pawn first second f s t (Memᴰ.tail (Memᴰ.tail (Memᴰ.head e))) n =
     part-byte 2 first f t e n
 lent-bytes Material.Pawn first second f s t (Memᴰ.tail (Memᴰ.tail (Memᴰ.tail (Memᴰ.head e)))) n =
     part-byte 3 first f t e n
+lent-bytes Material.Pawn first second f s t (Memᴰ.tail (Memᴰ.tail (Memᴰ.tail (Memᴰ.tail i)))) n = elim i [ ]
 
 module _ (m : Material) (l : Lent) (t : List ℕ) (small : LentBytes m l) where
   promised : (a : Filled) (u : List ℕ) → a ≡ (fill_with m l t).answer → u ≡ (fill_with m l t).bytes

@@ -82,6 +82,7 @@ after m n from to = map (carried_piece from to) (left to (board_at (men_of m) n)
 standard-after : (m : Material) → T (known m) → (n from to : ℕ) → T (full m (after m n from to))
     → T (standard (after m n from to))
 unfolding board_at men_at filter standard leading
+standard-after Material.Pawn w n from to = elim w [ ]
 standard-after (Material.One kind) w n from to = go (not (eqb _ to))
   where
     go : (x : Bool) → T (full (Material.One kind) (map (carried_piece from to) (keep x (piece_of kind 0 (n % 64)) [])))
@@ -128,6 +129,7 @@ kind-pawnless k t = let h = ltb→lt k 4 t in rw (ne_eqb k 4 (λ e. omega arith)
 
 at-pawnless : (m : Material) → T (known m) → (n : ℕ) → T (all (λ a. not (pawn a)) (board_at (men_of m) n).men)
 unfolding board_at men_at all
+at-pawnless Material.Pawn w n = elim w [ ]
 at-pawnless (Material.One kind) w n = and_both (not (eqb kind 4)) true (kind-pawnless kind w) tt
 at-pawnless (Material.Two j k r) w n =
     let h = leb→le j k (and_left (leb j k) (ltb k 4) w) in

@@ -273,6 +273,7 @@ module _ (m : Men) (l : Lent) (k : ℕ) (t : List ℕ) (from to low high : ℕ) 
       either : (u : List ℕ) → u ∈ (l.first ∷ l.second ∷ []) → Absent u (1 + k) low high
       either u (Memᴰ.head e) = subst⁻¹ (λ (v : List ℕ). Absent v (1 + k) low high) e b
       either u (Memᴰ.tail (Memᴰ.head e)) = subst⁻¹ (λ (v : List ℕ). Absent v (1 + k) low high) e c
+      either u (Memᴰ.tail (Memᴰ.tail i)) = elim i [ ]
 
 pub quiet-low : (m : Men) (l : Lent) (k : ℕ) (t : List ℕ) (from to low high : ℕ) → low ≡ low_of m
     → Quiet (material_for m) l k t from to low high → Quiet (material_for m) l k t from to (low_of m) high

@@ -39,7 +39,7 @@ step_at-step-requires c =
 
 pub shape_of-table-in-Says : goal.shape_of-table-in-Says
 shape_of-table-in-Says c =
-    c.step_at-step.auto.1.1.1.1.1.1.1.0 ∙ c.loop-end.invariant.1
+    c.step_at-step.auto.table ∙ c.loop-end.invariant.1
     ∙ start-long c.args.m c.args.first.now c.args.second.now _ _ c.start.ensures
 
 pub returns-in-Says : goal.returns-in-Says
@@ -67,7 +67,7 @@ loop-end-preserved c =
     let w = step_went (over c.args.m c.args.first.now c.args.second.now) _ _ _ _ i.0
     c.deepest_lent-deepest.ensures.small i.2 _ _ c.step_at-step.ensures _ c.in-Settled.is in (
       omega (arith, w.below),
-      c.step_at-step.auto.1.1.1.1.1.1.1.0
+      c.step_at-step.auto.table
           ∙ i.1,
       w.last-so,
       w.same
