@@ -4,7 +4,7 @@ use Rattle.adjudication.specs.laws.Laws.{position-line, number-line, refused-lin
 use Rattle.adjudication.proofs.answer_line.Goals as goal
 
 pub shape_of-table : goal.shape_of-table
-shape_of-table c = c.look_up_line.auto.1.1.0
+shape_of-table c = c.look_up_line.auto.table
 
 pub returns-in-LookUp : goal.returns-in-LookUp
 returns-in-LookUp c =

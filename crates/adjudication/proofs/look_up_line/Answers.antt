@@ -19,7 +19,7 @@ pub after_fill-requires : goal.after_fill-requires
 after_fill-requires c = ap (λ (m : Piece). m.kind) c.man_in-man.ensures
 
 pub shape_of-table : goal.shape_of-table
-shape_of-table c = c.fill_one_back-filled.auto.1.0
+shape_of-table c = c.fill_one_back-filled.auto.table
 
 pub returns : goal.returns
 returns c =

@@ -16,7 +16,7 @@ loop-i-preserved c =
     let l = c.loop-i in let t =
     c.args.text.now in (
       omega arith,
-      c.write_byte-end.auto.1.1.0 ∙ l.invariant.1,
+      c.write_byte-end.auto.output ∙ l.invariant.1,
       l.invariant.2
           ∙ next-byte put _ _ t l.i (omega arith) c.write_byte-end.ensures,
     )

@@ -18,7 +18,7 @@ overflow_add-offset c = omega arith
 pub loop-code-init : goal.loop-code-init
 loop-code-init c =
     let p = c.requires in
-    headed-start _ _ _ p.0 p.1 (omega (arith, c.put_word.auto.0, p.2))
+    headed-start _ _ _ p.0 p.1 (omega (arith, c.put_word.auto.set, p.2))
 
 pub overflow_add-code : goal.overflow_add-code
 overflow_add-code c = omega arith
@@ -60,7 +60,7 @@ put_word-requires-in-loop-code-2 c =
           c.chosen.ensures
           c.loop-code-test.true
           c.if-not-chosen.false,
-      c.put_word-in-loop-code.auto.0,
+      c.put_word-in-loop-code.auto.set,
     )
 
 pub overflow_add-at-in-loop-code : goal.overflow_add-at-in-loop-code
@@ -83,8 +83,8 @@ put_word-requires-in-loop-code-3 c =
           c.chosen.ensures
           c.loop-code-test.true
           c.if-not-chosen.false,
-      c.put_word-in-loop-code.auto.0,
-      c.put_word-in-loop-code-2.auto.0,
+      c.put_word-in-loop-code.auto.set,
+      c.put_word-in-loop-code-2.auto.set,
     )
 
 pub overflow_add-at-in-loop-code-2 : goal.overflow_add-at-in-loop-code-2
@@ -116,7 +116,7 @@ loop-code-preserved c =
     c.loop-code.invariant _ c.chosen.ensures c.loop-code-test.true c.if-not-chosen.false _ _ _ c.put_word-in-loop-code.ensures c.put_word-in-loop-code-2.ensures c.put_word-in-loop-code-3.ensures
 
 pub shape_of-set : goal.shape_of-set
-shape_of-set c = c.loop-code.invariant.same_length ∙ c.put_word.auto.0
+shape_of-set c = c.loop-code.invariant.same_length ∙ c.put_word.auto.set
 
 pub returns : goal.returns
 returns c =

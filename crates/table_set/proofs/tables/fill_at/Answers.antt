@@ -8,7 +8,7 @@ pub returns-then-is_refused : goal.returns-then-is_refused
 returns-then-is_refused c =
     let f = c.fill_part-filled in
     let k = at-cleared _ _ _ _ _ _ f.ensures.0 f.ensures.1
-    c.is_refused.ensures f.auto.1.1.0
+    c.is_refused.ensures f.auto.set
     c.if-is_refused.true in
     (k.0, c.clear.ensures ∙ k.1)
 

@@ -10,4 +10,4 @@ returns c =
     let at = c.args.at in
     let f = c.fill_one_back in
     part-put _ at (at + 59136 - at) _ _ _ (omega arith) c.requires f.ensures.answered f.ensures.left
-    f.auto.1.0
+    f.auto.table

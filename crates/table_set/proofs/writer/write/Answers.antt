@@ -30,7 +30,7 @@ write_header-requires c = let k = c.count-n.ensures in (k.0, k.1, omega (arith, 
 pub loop-code-init : goal.loop-code-init
 loop-code-init c =
     tabled_start _ _ _ c.count-n.ensures.0
-    (c.write_header.auto.1.1.0 ∙ c.if-set-first.false)
+    (c.write_header.auto.set ∙ c.if-set-first.false)
 
 pub overflow_add-code : goal.overflow_add-code
 overflow_add-code c = omega arith
@@ -50,8 +50,8 @@ fill_at-requires c =
 
 pub shape_of-set-then-is_refused : goal.shape_of-set-then-is_refused
 shape_of-set-then-is_refused c =
-    c.fill_at.auto.1.1.0 ∙ c.loop-code.invariant.same_length
-    ∙ c.write_header.auto.1.1.0
+    c.fill_at.auto.set ∙ c.loop-code.invariant.same_length
+    ∙ c.write_header.auto.set
 
 pub returns-then-is_refused : goal.returns-then-is_refused
 returns-then-is_refused c =
@@ -87,10 +87,10 @@ loop-code-preserved c =
     c.chosen.ensures
     c.loop-code-test.true
     c.if-not-chosen.false _ _ _ f.ensures.0
-    c.is_refused.ensures f.ensures.1 f.auto.1.1.0 c.if-is_refused.false
+    c.is_refused.ensures f.ensures.1 f.auto.set c.if-is_refused.false
 
 pub shape_of-set : goal.shape_of-set
-shape_of-set c = c.loop-code.invariant.same_length ∙ c.write_header.auto.1.1.0
+shape_of-set c = c.loop-code.invariant.same_length ∙ c.write_header.auto.set
 
 pub returns : goal.returns
 returns c =
