@@ -1,4 +1,4 @@
-// Runs 01's positions to keep by the bench, checks the four tables and altered ones, and answers as the second program does.
+// Runs the positions to keep by the bench, checks the four tables and altered ones, and answers as the second program does.
 #![tactic(auto)]
 
 use answers::{Answer, Checked, Filled};
