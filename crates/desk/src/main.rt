@@ -2,8 +2,14 @@
 #![tactic(auto)]
 
 use index::TABLE_SIZE;
-use libc::{STDIN_FILENO, STDOUT_FILENO};
+use std::io;
+use std::io::Read;
 use stream::State;
+
+// The bytes of one read, and the output that the lines ending in them can fill: each line ends with a byte, and its slip has 16 at most.
+const CHUNK: usize = 4096;
+
+const OUTPUT_SIZE: usize = 16 * CHUNK;
 
 // What the desk keeps from one read to the next, and whether there is more to do.
 #[derive(Clone, Copy)]
@@ -20,46 +26,54 @@ fn fresh(is_open: bool) -> Desk {
     }
 }
 
-// Writes what waits. Where that fails nobody reads the desk, and it closes.
-fn flush(state: State, output: &[u8]) -> Desk {
+// Writes what waits.
+fn flush(rt: &impl Print, state: State, output: &[u8]) -> io::Result<Desk> {
     let waiting = state.waiting;
     if waiting > output.len() {
-        return fresh(false);
+        return Ok(fresh(false));
     }
-    let is_written = io::write_all(STDOUT_FILENO, &output[..waiting]);
-    Desk {
+    rt.write_all(&output[..waiting])?;
+    Ok(Desk {
         state: stream::flushed(state),
-        is_open: is_written,
-    }
+        is_open: true,
+    })
 }
 
 // Answers the last line where it lacks its newline, and closes.
-fn close(state: State, table: &mut [u8], output: &mut [u8]) -> Desk {
+fn close(rt: &impl Print, state: State, table: &mut [u8], output: &mut [u8]) -> io::Result<Desk> {
     let last = stream::close(state, &mut *table, &mut *output);
-    flush(last, &*output);
-    fresh(false)
+    flush(rt, last, &*output)?;
+    Ok(fresh(false))
 }
 
-// Reads once and answers the lines that end in what came, so that a reply never waits for more input. A chunk of 4,096 bytes ends at most as many lines, of 16 bytes of output each.
-fn serve(state: State, table: &mut [u8], output: &mut [u8]) -> Desk {
-    let mut input = io::buffer();
-    let got = libc::read(STDIN_FILENO, &mut input);
-    if got <= 0 {
-        return close(state, &mut *table, &mut *output);
+// Reads once and answers the lines that end in what came, so that a reply never waits for more input.
+fn serve(
+    rt: &impl Print,
+    input: &mut impl Read,
+    state: State,
+    table: &mut [u8],
+    output: &mut [u8],
+) -> io::Result<Desk> {
+    let mut chunk = [0u8; CHUNK];
+    let n = input.read(&mut chunk)?;
+    if n == 0 {
+        return close(rt, state, &mut *table, &mut *output);
     }
-    let n = io::count(got, &input);
-    let taken = stream::take_all(&input[..n], state, &mut *table, &mut *output);
-    flush(taken, &*output)
+    let taken = stream::take_all(&chunk[..n], state, &mut *table, &mut *output);
+    flush(rt, taken, &*output)
 }
 
-// A proved loop ends, and nothing says that the input does: the turns are counted down from a number that no run uses up.
-fn main() {
+// A proved loop ends, and nothing says that the input does: the turns are counted up to a number that no run reaches.
+fn main(rt: HostRuntime) -> io::Result<()> {
     let mut table = [0u8; TABLE_SIZE];
-    let mut output = io::large_buffer();
+    let mut output = [0u8; OUTPUT_SIZE];
+    let mut input = rt.reader();
     let mut desk = fresh(true);
-    let mut turns = u64::MAX;
-    while turns > 0 && desk.is_open {
-        desk = serve(desk.state, &mut table, &mut output);
-        turns -= 1;
+    for _ in 0..u64::MAX {
+        if !desk.is_open {
+            break;
+        }
+        desk = serve(&rt, &mut input, desk.state, &mut table, &mut output)?;
     }
+    Ok(())
 }

@@ -6,6 +6,11 @@ use index::NumberAnswer;
 use move_list::{Counted, MoveList};
 use position::{Position, Slot};
 use rules::{Move, Piece};
+use std::io;
+use std::io::Read;
+
+// How much of the input is read.
+const INPUT_ROOM: u64 = 65536;
 
 // The numbers of a line so far, and which of them comes next.
 #[derive(Clone, Copy)]
@@ -41,64 +46,58 @@ fn with_byte(line: Line, b: u8) -> Line {
     Line { numbers, at }
 }
 
-fn show_square(s: u8) {
-    io::write_all(1, &[b'a' + s % 8, b'1' + s / 8]);
+fn show_square(rt: &impl Print, s: u8) -> io::Result<()> {
+    let file = char::from(b'a' + s % 8);
+    let rank = char::from(b'1' + s / 8);
+    print!(rt; "{file}{rank}")
 }
 
-fn show_move(m: Move) {
-    io::write_all(1, b" ");
-    show_square(m.from);
+fn show_move(rt: &impl Print, m: Move) -> io::Result<()> {
+    print!(rt; " ")?;
+    show_square(rt, m.from)?;
     if m.takes {
-        io::write_all(1, b"x");
+        print!(rt; "x")?;
     }
-    show_square(m.to);
+    show_square(rt, m.to)
 }
 
-fn refused(number: u8) {
-    io::write_all(1, b"refused ");
-    io::print_decimal(1, number as u64);
+fn refused(rt: &impl Print, number: u8) -> io::Result<()> {
+    print!(rt; "refused {number}")
 }
 
 // The first move and the last.
-fn show_ends(list: MoveList) {
+fn show_ends(rt: &impl Print, list: MoveList) -> io::Result<()> {
     let moves = list.moves;
     let count = list.count;
     if count == 0 {
-        return;
+        return Ok(());
     }
-    let first = moves[0];
-    show_move(first);
-    let last = moves[((count - 1) % 62) as usize];
-    show_move(last);
+    show_move(rt, moves[0])?;
+    show_move(rt, moves[((count - 1) % 62) as usize])
 }
 
-fn show_moves(p: Position) {
+fn show_moves(rt: &impl Print, p: Position) -> io::Result<()> {
     match move_list::move_count(p) {
-        Counted::Refused(number) => refused(number),
+        Counted::Refused(number) => refused(rt, number),
         Counted::Count(count) => {
-            io::write_all(1, b"moves ");
-            io::print_decimal(1, count as u64);
-            let listed = move_list::legal_moves(p);
-            let list = listed.list;
-            show_ends(list);
+            print!(rt; "moves {count}")?;
+            show_ends(rt, move_list::legal_moves(p).list)
         }
     }
 }
 
-fn answer(p: Position) {
+fn answer(rt: &impl Print, p: Position) -> io::Result<()> {
     match index::number_with(p) {
-        NumberAnswer::Refused(number) => refused(number),
+        NumberAnswer::Refused(number) => refused(rt, number)?,
         NumberAnswer::Number(number) => {
-            io::write_all(1, b"number ");
-            io::print_decimal(1, number as u64);
-            io::write_all(1, b" ");
-            show_moves(p);
+            print!(rt; "number {number} ")?;
+            show_moves(rt, p)?;
         }
     }
-    io::write_all(1, b"\n");
+    println!(rt)
 }
 
-fn answer_line(line: Line) {
+fn answer_line(rt: &impl Print, line: Line) -> io::Result<()> {
     let numbers = line.numbers;
     let first = Piece {
         kind: numbers[0],
@@ -117,26 +116,24 @@ fn answer_line(line: Line) {
         first: Slot::Present(first),
         second: Slot::Present(second),
     };
-    answer(p);
+    answer(rt, p)
 }
 
-fn answer_all(input: &[u8]) {
+fn answer_all(rt: &impl Print, input: &[u8]) -> io::Result<()> {
     let mut line = new_line();
-    let mut i = 0;
-    while i < input.len() {
-        let b = input[i];
-        if b == b'\n' {
-            answer_line(line);
+    for b in input {
+        if *b == b'\n' {
+            answer_line(rt, line)?;
             line = new_line();
         } else {
-            line = with_byte(line, b);
+            line = with_byte(line, *b);
         }
-        i += 1;
     }
+    Ok(())
 }
 
-fn main() {
-    let mut space = io::large_buffer();
-    let n = io::read_full(0, &mut space);
-    answer_all(&space[..n]);
+fn main(rt: HostRuntime) -> io::Result<()> {
+    let mut input = Vec::new(rt.alloc());
+    rt.reader().take(INPUT_ROOM).read_to_end(&mut input)?;
+    answer_all(&rt, input.as_slice())
 }

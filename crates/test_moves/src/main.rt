@@ -1,9 +1,14 @@
 // Answers lines of six numbers (man, side, white king, man's square, black king, man's colour) with the legal moves, as the second program does.
 #![tactic(auto)]
 
-use move_list::{Counted, MoveList, ROOM};
+use move_list::{Counted, MoveList};
 use position::{Position, one_man};
 use rules::Move;
+use std::io;
+use std::io::Read;
+
+// How much of the input is read.
+const INPUT_ROOM: u64 = 65536;
 
 // The numbers of a line so far, and which of them comes next.
 #[derive(Clone, Copy)]
@@ -39,71 +44,62 @@ fn with_byte(line: Line, b: u8) -> Line {
     Line { numbers, at }
 }
 
-fn show_square(s: u8) {
-    io::write_all(1, &[b'a' + s % 8, b'1' + s / 8]);
+fn show_square(rt: &impl Print, s: u8) -> io::Result<()> {
+    let file = char::from(b'a' + s % 8);
+    let rank = char::from(b'1' + s / 8);
+    print!(rt; "{file}{rank}")
 }
 
-fn show_move(m: Move) {
-    show_square(m.from);
+fn show_move(rt: &impl Print, m: Move) -> io::Result<()> {
+    show_square(rt, m.from)?;
     if m.takes {
-        io::write_all(1, b"x");
+        print!(rt; "x")?;
     }
-    show_square(m.to);
+    show_square(rt, m.to)
 }
 
-fn show_list(list: MoveList) {
-    let moves = list.moves;
-    let count = list.count;
-    let mut i: u8 = 0;
-    while i < count && (i as usize) < ROOM {
-        let m = moves[i as usize];
-        io::write_all(1, b" ");
-        show_move(m);
-        i += 1;
+fn show_list(rt: &impl Print, list: MoveList) -> io::Result<()> {
+    for m in list.moves.iter().take(list.count as usize) {
+        print!(rt; " ")?;
+        show_move(rt, *m)?;
     }
+    Ok(())
 }
 
-fn answer(p: Position) {
+fn answer(rt: &impl Print, p: Position) -> io::Result<()> {
     match move_list::move_count(p) {
-        Counted::Refused(number) => {
-            io::write_all(1, b"refused ");
-            io::print_decimal(1, number as u64);
-        }
+        Counted::Refused(number) => print!(rt; "refused {number}")?,
         Counted::Count(count) => {
-            io::print_decimal(1, count as u64);
-            let listed = move_list::legal_moves(p);
-            let list = listed.list;
-            show_list(list);
+            print!(rt; "{count}")?;
+            show_list(rt, move_list::legal_moves(p).list)?;
         }
     }
-    io::write_all(1, b"\n");
+    println!(rt)
 }
 
-fn answer_line(line: Line) {
+fn answer_line(rt: &impl Print, line: Line) -> io::Result<()> {
     let numbers = line.numbers;
     let p = one_man(
         numbers[0], numbers[5], numbers[1], numbers[2], numbers[3], numbers[4],
     );
-    answer(p);
+    answer(rt, p)
 }
 
-fn answer_all(input: &[u8]) {
+fn answer_all(rt: &impl Print, input: &[u8]) -> io::Result<()> {
     let mut line = new_line();
-    let mut i = 0;
-    while i < input.len() {
-        let b = input[i];
-        if b == b'\n' {
-            answer_line(line);
+    for b in input {
+        if *b == b'\n' {
+            answer_line(rt, line)?;
             line = new_line();
         } else {
-            line = with_byte(line, b);
+            line = with_byte(line, *b);
         }
-        i += 1;
     }
+    Ok(())
 }
 
-fn main() {
-    let mut space = io::large_buffer();
-    let n = io::read_full(0, &mut space);
-    answer_all(&space[..n]);
+fn main(rt: HostRuntime) -> io::Result<()> {
+    let mut input = Vec::new(rt.alloc());
+    rt.reader().take(INPUT_ROOM).read_to_end(&mut input)?;
+    answer_all(&rt, input.as_slice())
 }

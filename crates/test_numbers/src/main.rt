@@ -3,7 +3,7 @@
 
 use index::{NumberAnswer, Placed, TABLE_SIZE};
 use position::{Position, man_in};
-use std::num::wrapping_add_u32;
+use std::io;
 
 // The used numbers of each side, the unused ones, a checksum of the positions and one of their numbers.
 #[derive(Clone, Copy)]
@@ -42,7 +42,7 @@ fn with_used(t: Tally, p: Position) -> Tally {
     let numbers = folded(t.numbers, number_shown(p));
     if side == 0 {
         return Tally {
-            white: wrapping_add_u32(t.white, 1),
+            white: t.white.wrapping_add(1),
             black: t.black,
             refused: t.refused,
             positions,
@@ -51,7 +51,7 @@ fn with_used(t: Tally, p: Position) -> Tally {
     }
     Tally {
         white: t.white,
-        black: wrapping_add_u32(t.black, 1),
+        black: t.black.wrapping_add(1),
         refused: t.refused,
         positions,
         numbers,
@@ -64,7 +64,7 @@ fn with_number(t: Tally, kind: u8, n: u32) -> Tally {
         Placed::Refused(_) => Tally {
             white: t.white,
             black: t.black,
-            refused: wrapping_add_u32(t.refused, 1),
+            refused: t.refused.wrapping_add(1),
             positions: folded(t.positions, 200),
             numbers: t.numbers,
         },
@@ -79,40 +79,28 @@ fn counted(kind: u8) -> Tally {
         positions: 1,
         numbers: 1,
     };
-    let mut n: u32 = 0;
-    while n < TABLE_SIZE as u32 {
+    for n in 0..TABLE_SIZE as u32 {
         t = with_number(t, kind, n);
-        n += 1;
     }
     t
 }
 
-fn print_side(kind: u8, side: &[u8], used: u32) {
-    io::print_decimal(1, kind as u64);
-    io::write_all(1, side);
-    io::print_decimal(1, used as u64);
-    io::write_all(1, b"\n");
+fn print_side(rt: &impl Print, kind: u8, side: &str, used: u32) -> io::Result<()> {
+    println!(rt; "{kind}{side}{used}")
 }
 
-fn print_man(kind: u8) {
+fn print_man(rt: &impl Print, kind: u8) -> io::Result<()> {
     let t = counted(kind);
-    io::print_decimal(1, kind as u64);
-    io::write_all(1, b" used ");
-    io::print_decimal(1, wrapping_add_u32(t.white, t.black) as u64);
-    io::write_all(1, b" refused9 ");
-    io::print_decimal(1, t.refused as u64);
-    io::write_all(1, b" positions ");
-    io::print_decimal(1, t.positions);
-    io::write_all(1, b" numbers ");
-    io::print_decimal(1, t.numbers);
-    io::write_all(1, b"\n");
-    print_side(kind, b" white used ", t.white);
-    print_side(kind, b" black used ", t.black);
+    let used = t.white.wrapping_add(t.black);
+    print!(rt; "{kind} used {used} refused9 {}", t.refused)?;
+    println!(rt; " positions {} numbers {}", t.positions, t.numbers)?;
+    print_side(rt, kind, " white used ", t.white)?;
+    print_side(rt, kind, " black used ", t.black)
 }
 
-fn main() {
-    print_man(0);
-    print_man(1);
-    print_man(2);
-    print_man(3);
+fn main(rt: HostRuntime) -> io::Result<()> {
+    print_man(&rt, 0)?;
+    print_man(&rt, 1)?;
+    print_man(&rt, 2)?;
+    print_man(&rt, 3)
 }

@@ -6,15 +6,20 @@ use answers::{Answer, BestMove};
 use filling::{fill, fill_with};
 use index::{NumberAnswer, TABLE_SIZE};
 use look_up::look_up_with;
-use move_list::{Counted, MoveList, ROOM};
+use move_list::{Counted, MoveList};
 use numbering::Material;
 use position::{Position, Slot};
 use rules::{Move, Piece};
+use std::io;
+use std::io::Read;
 
 // The four small tables one after the other, and the pawn's own.
 const RUN: usize = 236544;
 
 const PAWN_TABLE: usize = 196608;
+
+// How much of the input is read.
+const INPUT_ROOM: u64 = 65536;
 
 // The numbers of a line so far, and which of them comes next.
 #[derive(Clone, Copy)]
@@ -50,105 +55,90 @@ fn with_byte(line: Line, b: u8) -> Line {
     Line { numbers, at }
 }
 
-fn show_square(s: u8) {
-    io::write_all(1, &[b'a' + s % 8, b'1' + s / 8]);
+fn show_square(rt: &impl Print, s: u8) -> io::Result<()> {
+    let file = char::from(b'a' + s % 8);
+    let rank = char::from(b'1' + s / 8);
+    print!(rt; "{file}{rank}")
 }
 
 // The letter of the piece that a pawn becomes.
-fn show_becomes(becomes: u8) {
+fn show_becomes(rt: &impl Print, becomes: u8) -> io::Result<()> {
     match becomes {
-        1 => {
-            io::write_all(1, b"q");
-        },
-        2 => {
-            io::write_all(1, b"r");
-        },
-        3 => {
-            io::write_all(1, b"b");
-        },
-        4 => {
-            io::write_all(1, b"n");
-        },
-        _ => {},
+        1 => print!(rt; "q"),
+        2 => print!(rt; "r"),
+        3 => print!(rt; "b"),
+        4 => print!(rt; "n"),
+        _ => Ok(()),
     }
 }
 
-fn show_move(m: Move) {
-    io::write_all(1, b" ");
-    show_square(m.from);
+fn show_move(rt: &impl Print, m: Move) -> io::Result<()> {
+    print!(rt; " ")?;
+    show_square(rt, m.from)?;
     if m.takes {
-        io::write_all(1, b"x");
+        print!(rt; "x")?;
     }
-    show_square(m.to);
-    show_becomes(m.becomes);
+    show_square(rt, m.to)?;
+    show_becomes(rt, m.becomes)
 }
 
-fn show_number(label: &[u8], number: u64) {
-    io::write_all(1, label);
-    io::print_decimal(1, number);
+fn show_number(rt: &impl Print, label: &str, number: u64) -> io::Result<()> {
+    print!(rt; "{label}{number}")
 }
 
-fn show_best(best: BestMove) {
+fn show_best(rt: &impl Print, best: BestMove) -> io::Result<()> {
     match best {
-        BestMove::Play(m) => show_move(m),
-        BestMove::NoMove => {},
+        BestMove::Play(m) => show_move(rt, m),
+        BestMove::NoMove => Ok(()),
     }
 }
 
-fn show_slip(answer: Answer) {
+fn show_slip(rt: &impl Print, answer: Answer) -> io::Result<()> {
     match answer {
         Answer::Win(depth, best) => {
-            show_number(b" slip win ", depth as u64);
-            show_best(best);
+            show_number(rt, " slip win ", depth as u64)?;
+            show_best(rt, best)
         },
         Answer::Loss(depth, best) => {
-            show_number(b" slip loss ", depth as u64);
-            show_best(best);
+            show_number(rt, " slip loss ", depth as u64)?;
+            show_best(rt, best)
         },
         Answer::Draw(best) => {
-            io::write_all(1, b" slip draw");
-            show_best(best);
+            print!(rt; " slip draw")?;
+            show_best(rt, best)
         },
-        Answer::Refused(number) => show_number(b" slip refused ", number as u64),
+        Answer::Refused(number) => show_number(rt, " slip refused ", number as u64),
     }
 }
 
-fn show_list(list: MoveList) {
-    let moves = list.moves;
-    let count = list.count;
-    let mut i: u8 = 0;
-    while i < count && (i as usize) < ROOM {
-        let m = moves[i as usize];
-        show_move(m);
-        i += 1;
+fn show_list(rt: &impl Print, list: MoveList) -> io::Result<()> {
+    for m in list.moves.iter().take(list.count as usize) {
+        show_move(rt, *m)?;
     }
+    Ok(())
 }
 
 // The moves and the slip.
-fn show_moves(p: Position, table: &[u8], run: &[u8]) {
+fn show_moves(rt: &impl Print, p: Position, table: &[u8], run: &[u8]) -> io::Result<()> {
     match move_list::move_count(p) {
-        Counted::Refused(number) => show_number(b" refused ", number as u64),
+        Counted::Refused(number) => show_number(rt, " refused ", number as u64),
         Counted::Count(count) => {
-            show_number(b" moves ", count as u64);
-            let listed = move_list::legal_moves(p);
-            let list = listed.list;
-            show_list(list);
-            let none: [u8; 0] = [];
-            let slip = look_up_with(p, table, run, &none);
-            show_slip(slip);
+            show_number(rt, " moves ", count as u64)?;
+            show_list(rt, move_list::legal_moves(p).list)?;
+            show_slip(rt, look_up_with(p, table, run, &[]))
         }
     }
 }
 
-fn answer(p: Position, table: &[u8], run: &[u8]) {
+fn answer(rt: &impl Print, p: Position, table: &[u8], run: &[u8]) -> io::Result<()> {
     match index::number_with(p) {
-        NumberAnswer::Refused(number) => show_number(b"refused ", number as u64),
+        NumberAnswer::Refused(number) => show_number(rt, "refused ", number as u64)?,
         NumberAnswer::Number(number) => {
-            show_number(b"number ", number as u64);
-            show_moves(p, table, run);
+            show_number(rt, "number ", number as u64)?;
+            show_moves(rt, p, table, run)?;
         }
     }
-    io::write_all(1, b"\n");
+    println!(rt)
 }
 
 // The second man of a line that has come to his numbers.
@@ -165,7 +155,7 @@ fn second_man(line: Line) -> Slot {
     Slot::Present(second)
 }
 
-fn answer_line(line: Line, table: &[u8], run: &[u8]) {
+fn answer_line(rt: &impl Print, line: Line, table: &[u8], run: &[u8]) -> io::Result<()> {
     let numbers = line.numbers;
     let first = Piece {
         kind: numbers[0],
@@ -179,22 +169,20 @@ fn answer_line(line: Line, table: &[u8], run: &[u8]) {
         first: Slot::Present(first),
         second: second_man(line),
     };
-    answer(p, table, run);
+    answer(rt, p, table, run)
 }
 
-fn answer_all(input: &[u8], table: &[u8], run: &[u8]) {
+fn answer_all(rt: &impl Print, input: &[u8], table: &[u8], run: &[u8]) -> io::Result<()> {
     let mut line = new_line();
-    let mut i = 0;
-    while i < input.len() {
-        let b = input[i];
-        if b == b'\n' {
-            answer_line(line, table, run);
+    for b in input {
+        if *b == b'\n' {
+            answer_line(rt, line, table, run)?;
             line = new_line();
         } else {
-            line = with_byte(line, b);
+            line = with_byte(line, *b);
         }
-        i += 1;
     }
+    Ok(())
 }
 
 // One man's table in its part of the run.
@@ -204,16 +192,15 @@ fn fill_part(kind: u8, at: usize, end: usize, run: &mut [u8]) {
     }
 }
 
-fn main() {
+fn main(rt: HostRuntime) -> io::Result<()> {
     let mut run = [0u8; RUN];
     fill_part(0, 0, TABLE_SIZE, &mut run);
     fill_part(1, TABLE_SIZE, 2 * TABLE_SIZE, &mut run);
     fill_part(2, 2 * TABLE_SIZE, 3 * TABLE_SIZE, &mut run);
     fill_part(3, 3 * TABLE_SIZE, RUN, &mut run);
     let mut table = [0u8; PAWN_TABLE];
-    let none: [u8; 0] = [];
-    fill_with(Material::Pawn, &run, &none, &mut table);
-    let mut space = io::large_buffer();
-    let n = io::read_full(0, &mut space);
-    answer_all(&space[..n], &table, &run);
+    fill_with(Material::Pawn, &run, &[], &mut table);
+    let mut input = Vec::new(rt.alloc());
+    rt.reader().take(INPUT_ROOM).read_to_end(&mut input)?;
+    answer_all(&rt, input.as_slice(), &table, &run)
 }

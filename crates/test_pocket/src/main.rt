@@ -3,6 +3,7 @@
 
 use filling::fill;
 use pocket::{Tallied, Tallies, pack, tally};
+use std::io;
 
 // The checksum with one byte more.
 fn folded(sum: u64, byte: u8) -> u64 {
@@ -11,47 +12,43 @@ fn folded(sum: u64, byte: u8) -> u64 {
 
 fn checksum(bytes: &[u8]) -> u64 {
     let mut sum: u64 = 1;
-    let mut n: usize = 0;
-    while n < bytes.len() {
-        sum = folded(sum, bytes[n]);
-        n += 1;
+    for byte in bytes {
+        sum = folded(sum, *byte);
     }
     sum
 }
 
-fn print_line(label: &[u8], number: u64) {
-    io::write_all(1, label);
-    io::print_decimal(1, number);
-    io::write_all(1, b"\n");
+fn print_line(rt: &impl Print, label: &str, number: u64) -> io::Result<()> {
+    println!(rt; "{label}{number}")
 }
 
-fn print_tallies(t: Tallies) {
-    print_line(b"unused or illegal ", t.none as u64);
-    print_line(b"draw ", t.draws as u64);
-    print_line(b"win ", t.wins as u64);
-    print_line(b"loss ", t.losses as u64);
+fn print_tallies(rt: &impl Print, t: Tallies) -> io::Result<()> {
+    print_line(rt, "unused or illegal ", t.none as u64)?;
+    print_line(rt, "draw ", t.draws as u64)?;
+    print_line(rt, "win ", t.wins as u64)?;
+    print_line(rt, "loss ", t.losses as u64)
 }
 
-fn print_tallied(tallied: Tallied) {
+fn print_tallied(rt: &impl Print, tallied: Tallied) -> io::Result<()> {
     match tallied {
-        Tallied::Counted(t) => print_tallies(t),
-        Tallied::Refused(number) => print_line(b"refused ", number as u64),
+        Tallied::Counted(t) => print_tallies(rt, t),
+        Tallied::Refused(number) => print_line(rt, "refused ", number as u64),
     }
 }
 
-fn print_man(kind: u8, name: &[u8]) {
+fn print_man(rt: &impl Print, kind: u8, name: &str) -> io::Result<()> {
     let mut table = [0u8; 59136];
     let mut pocket = [0u8; 14784];
     fill(kind, &mut table);
     pack(&table, &mut pocket);
-    io::write_all(1, name);
-    print_tallied(tally(&pocket));
-    print_line(b"checksum ", checksum(&pocket));
+    println!(rt; "{name}")?;
+    print_tallied(rt, tally(&pocket))?;
+    print_line(rt, "checksum ", checksum(&pocket))
 }
 
-fn main() {
-    print_man(0, b"queen\n");
-    print_man(1, b"rook\n");
-    print_man(2, b"bishop\n");
-    print_man(3, b"knight\n");
+fn main(rt: HostRuntime) -> io::Result<()> {
+    print_man(&rt, 0, "queen")?;
+    print_man(&rt, 1, "rook")?;
+    print_man(&rt, 2, "bishop")?;
+    print_man(&rt, 3, "knight")
 }

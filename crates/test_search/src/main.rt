@@ -4,6 +4,11 @@
 
 use position::{Position, man_in, one_man};
 use search::{Opinion, second_opinion};
+use std::io;
+use std::io::Read;
+
+// How much of the input is read.
+const INPUT_ROOM: u64 = 65536;
 
 // The numbers of a line so far, and which of them comes next.
 #[derive(Clone, Copy)]
@@ -39,90 +44,59 @@ fn with_byte(line: Line, b: u8) -> Line {
     Line { numbers, at }
 }
 
-fn show_number(n: u8) {
-    io::print_decimal(1, n as u64);
-}
-
-fn show_opinion(o: Opinion, k: u8) {
+fn show_opinion(rt: &impl Print, o: Opinion, k: u8) -> io::Result<()> {
     match o {
-        Opinion::Win(n) => {
-            io::write_all(1, b"win ");
-            show_number(n);
-        }
-        Opinion::Loss(n) => {
-            io::write_all(1, b"loss ");
-            show_number(n);
-        }
-        Opinion::NotWithin => {
-            io::write_all(1, b"not within ");
-            show_number(k);
-        }
-        Opinion::Refused(n) => {
-            io::write_all(1, b"refused ");
-            show_number(n);
-        }
+        Opinion::Win(n) => print!(rt; "win {n}"),
+        Opinion::Loss(n) => print!(rt; "loss {n}"),
+        Opinion::NotWithin => print!(rt; "not within {k}"),
+        Opinion::Refused(n) => print!(rt; "refused {n}"),
     }
 }
 
-fn show_position(p: Position) {
-    let first = p.first;
-    let man = man_in(first);
-    show_number(man.kind);
-    io::write_all(1, b" ");
-    show_number(p.side);
-    io::write_all(1, b" ");
-    show_number(p.white_king);
-    io::write_all(1, b" ");
-    show_number(man.square);
-    io::write_all(1, b" ");
-    show_number(p.black_king);
-    io::write_all(1, b" ");
-    show_number(man.colour);
+fn show_position(rt: &impl Print, p: Position) -> io::Result<()> {
+    let man = man_in(p.first);
+    print!(rt; "{} {} {} ", man.kind, p.side, p.white_king)?;
+    print!(rt; "{} {} {}", man.square, p.black_king, man.colour)
 }
 
-fn answer_within(p: Position, k: u8) {
-    show_position(p);
-    io::write_all(1, b" within ");
-    show_number(k);
-    io::write_all(1, b": ");
-    show_opinion(second_opinion(p, k), k);
-    io::write_all(1, b"\n");
+fn answer_within(rt: &impl Print, p: Position, k: u8) -> io::Result<()> {
+    show_position(rt, p)?;
+    print!(rt; " within {k}: ")?;
+    show_opinion(rt, second_opinion(p, k), k)?;
+    println!(rt)
 }
 
 // Up to one ply more than may be asked for.
-fn answer(p: Position) {
-    let mut k: u8 = 0;
-    while k < 8 {
-        answer_within(p, k);
-        k += 1;
+fn answer(rt: &impl Print, p: Position) -> io::Result<()> {
+    for k in 0..8 {
+        answer_within(rt, p, k)?;
     }
+    Ok(())
 }
 
-fn answer_line(line: Line) {
+fn answer_line(rt: &impl Print, line: Line) -> io::Result<()> {
     let numbers = line.numbers;
     let p = one_man(
         numbers[0], numbers[5], numbers[1], numbers[2], numbers[3], numbers[4],
     );
-    answer(p);
+    answer(rt, p)
 }
 
-fn answer_all(input: &[u8]) {
+fn answer_all(rt: &impl Print, input: &[u8]) -> io::Result<()> {
     let mut line = new_line();
-    let mut i = 0;
-    while i < input.len() {
-        let b = input[i];
-        if b == b'\n' {
-            answer_line(line);
+    for b in input {
+        if *b == b'\n' {
+            answer_line(rt, line)?;
             line = new_line();
         } else {
-            line = with_byte(line, b);
+            line = with_byte(line, *b);
         }
-        i += 1;
     }
+    Ok(())
 }
 
-fn main() {
-    let mut space = io::large_buffer();
-    let n = io::read_full(0, &mut space);
-    answer_all(&space[..n]);
+fn main(rt: HostRuntime) -> io::Result<()> {
+    let mut input = Vec::new(rt.alloc());
+    rt.reader().take(INPUT_ROOM).read_to_end(&mut input)?;
+    answer_all(&rt, input.as_slice())
 }

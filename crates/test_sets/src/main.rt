@@ -2,6 +2,7 @@
 #![tactic(auto)]
 
 use sets::{Choice, Found, Written};
+use std::io;
 use table_set::{find, part, write};
 
 // The checksum with one byte more.
@@ -11,72 +12,63 @@ fn folded(sum: u64, byte: u8) -> u64 {
 
 fn checksum(bytes: &[u8]) -> u64 {
     let mut sum: u64 = 1;
-    let mut n: usize = 0;
-    while n < bytes.len() {
-        sum = folded(sum, bytes[n]);
-        n += 1;
+    for byte in bytes {
+        sum = folded(sum, *byte);
     }
     sum
 }
 
-fn print_number(label: &[u8], number: u64) {
-    io::write_all(1, label);
-    io::print_decimal(1, number);
+fn print_number(rt: &impl Print, label: &str, number: u64) -> io::Result<()> {
+    print!(rt; "{label}{number}")
 }
 
-fn print_yes(b: bool) {
-    if b {
-        io::write_all(1, b"y");
-    } else {
-        io::write_all(1, b"n");
-    }
+fn print_yes(rt: &impl Print, b: bool) -> io::Result<()> {
+    if b { print!(rt; "y") } else { print!(rt; "n") }
 }
 
-fn print_choice(choice: Choice) {
-    io::write_all(1, b"set ");
-    print_yes(choice.queen);
-    print_yes(choice.rook);
-    print_yes(choice.bishop);
-    print_yes(choice.knight);
+fn print_choice(rt: &impl Print, choice: Choice) -> io::Result<()> {
+    print!(rt; "set ")?;
+    print_yes(rt, choice.queen)?;
+    print_yes(rt, choice.rook)?;
+    print_yes(rt, choice.bishop)?;
+    print_yes(rt, choice.knight)
 }
 
-fn print_found(set: &[u8], code: u8) {
-    print_number(b"code ", code as u64);
-    let found = find(set, code);
-    match found {
+fn print_found(rt: &impl Print, set: &[u8], code: u8) -> io::Result<()> {
+    print_number(rt, "code ", code as u64)?;
+    match find(set, code) {
         Found::At(offset) => {
-            print_number(b" offset ", offset as u64);
-            print_number(b" length ", part(set, code).len() as u64);
+            print_number(rt, " offset ", offset as u64)?;
+            print_number(rt, " length ", part(set, code).len() as u64)?;
         },
-        Found::Refused(number) => print_number(b" refused ", number as u64),
+        Found::Refused(number) => print_number(rt, " refused ", number as u64)?,
     }
-    io::write_all(1, b"\n");
+    println!(rt)
 }
 
-fn print_written(written: Written, set: &[u8]) {
+fn print_written(rt: &impl Print, written: Written, set: &[u8]) -> io::Result<()> {
     match written {
         Written::Done => {
-            print_number(b" length ", set.len() as u64);
-            print_number(b" checksum ", checksum(set));
+            print_number(rt, " length ", set.len() as u64)?;
+            print_number(rt, " checksum ", checksum(set))?;
         },
-        Written::Refused(number) => print_number(b" refused ", number as u64),
+        Written::Refused(number) => print_number(rt, " refused ", number as u64)?,
     }
-    io::write_all(1, b"\n");
+    println!(rt)
 }
 
-fn print_codes(set: &[u8]) {
-    print_found(set, 0);
-    print_found(set, 1);
-    print_found(set, 2);
-    print_found(set, 3);
-    print_found(set, 4);
+fn print_codes(rt: &impl Print, set: &[u8]) -> io::Result<()> {
+    for code in 0..5 {
+        print_found(rt, set, code)?;
+    }
+    Ok(())
 }
 
-fn print_set(choice: Choice, set: &mut [u8]) {
-    print_choice(choice);
+fn print_set(rt: &impl Print, choice: Choice, set: &mut [u8]) -> io::Result<()> {
+    print_choice(rt, choice)?;
     let written = write(choice, &mut *set);
-    print_written(written, &*set);
-    print_codes(&*set);
+    print_written(rt, written, &*set)?;
+    print_codes(rt, &*set)
 }
 
 fn choose(queen: bool, rook: bool, bishop: bool, knight: bool) -> Choice {
@@ -88,11 +80,11 @@ fn choose(queen: bool, rook: bool, bishop: bool, knight: bool) -> Choice {
     }
 }
 
-fn main() {
+fn main(rt: HostRuntime) -> io::Result<()> {
     let mut four = [165u8; 236596];
     let mut two = [165u8; 118300];
     let mut none = [165u8; 4];
-    print_set(choose(true, true, true, true), &mut four);
-    print_set(choose(false, true, false, true), &mut two);
-    print_set(choose(false, false, false, false), &mut none);
+    print_set(&rt, choose(true, true, true, true), &mut four)?;
+    print_set(&rt, choose(false, true, false, true), &mut two)?;
+    print_set(&rt, choose(false, false, false, false), &mut none)
 }

@@ -3,6 +3,7 @@
 
 use answers::Filled;
 use filling::{Stepped, start_filling, take_step};
+use std::io;
 use table_theory::Progress;
 
 // The checksum with one byte more.
@@ -12,76 +13,64 @@ fn folded(sum: u64, byte: u8) -> u64 {
 
 fn checksum(table: &[u8]) -> u64 {
     let mut sum: u64 = 1;
-    let mut n: usize = 0;
-    while n < table.len() {
-        sum = folded(sum, table[n]);
-        n += 1;
+    for byte in table {
+        sum = folded(sum, *byte);
     }
     sum
 }
 
-fn print_line(label: &[u8], number: u64) {
-    io::write_all(1, label);
-    io::print_decimal(1, number);
-    io::write_all(1, b"\n");
+fn print_line(rt: &impl Print, label: &str, number: u64) -> io::Result<()> {
+    println!(rt; "{label}{number}")
 }
 
-fn print_filled(filled: Filled) {
+fn print_filled(rt: &impl Print, filled: Filled) -> io::Result<()> {
     match filled {
-        Filled::Greatest(depth) => {
-            io::write_all(1, b" done, greatest depth ");
-            io::print_decimal(1, depth as u64);
-        },
-        Filled::NoneDecided => {
-            io::write_all(1, b" done, none decided");
-        },
-        Filled::Refused(number) => {
-            io::write_all(1, b" refused ");
-            io::print_decimal(1, number as u64);
-        },
+        Filled::Greatest(depth) => print!(rt; " done, greatest depth {depth}"),
+        Filled::NoneDecided => print!(rt; " done, none decided"),
+        Filled::Refused(number) => print!(rt; " refused {number}"),
     }
 }
 
-fn print_said(said: Stepped) {
+fn print_said(rt: &impl Print, said: Stepped) -> io::Result<()> {
     match said {
-        Stepped::Settled(count) => {
-            io::write_all(1, b" settled ");
-            io::print_decimal(1, count as u64);
-        },
-        Stepped::Says(filled) => print_filled(filled),
+        Stepped::Settled(count) => print!(rt; " settled {count}"),
+        Stepped::Says(filled) => print_filled(rt, filled),
     }
 }
 
 // One step: what it says, and the table after it.
-fn print_step(kind: u8, k: u64, table: &mut [u8], progress: Progress) -> Progress {
+fn print_step(
+    rt: &impl Print,
+    kind: u8,
+    k: u64,
+    table: &mut [u8],
+    progress: Progress,
+) -> io::Result<Progress> {
     let step = take_step(kind, &mut *table, progress);
-    let said = step.said;
-    io::write_all(1, b"step ");
-    io::print_decimal(1, k);
-    print_said(said);
-    print_line(b" checksum ", checksum(&*table));
-    step.progress
+    print!(rt; "step {k}")?;
+    print_said(rt, step.said)?;
+    print_line(rt, " checksum ", checksum(&*table))?;
+    Ok(step.progress)
 }
 
-fn print_man(kind: u8, name: &[u8], table: &mut [u8]) {
+fn print_man(rt: &impl Print, kind: u8, name: &str, table: &mut [u8]) -> io::Result<()> {
     let start = start_filling(kind, &mut *table);
-    io::write_all(1, name);
-    print_line(b"start checksum ", checksum(&*table));
+    println!(rt; "{name}")?;
+    print_line(rt, "start checksum ", checksum(&*table))?;
     let mut progress = start.progress;
-    let mut k: u64 = 0;
-    while k < 255 {
+    for k in 0..255 {
         if progress.stage != 0 {
-            return;
+            return Ok(());
         }
-        progress = print_step(kind, k, &mut *table, progress);
-        k += 1;
+        progress = print_step(rt, kind, k, &mut *table, progress)?;
     }
+    Ok(())
 }
 
-fn main() {
+fn main(rt: HostRuntime) -> io::Result<()> {
     let mut table = [0u8; 59136];
-    print_man(0, b"queen\n", &mut table);
-    print_man(1, b"rook\n", &mut table);
-    print_man(2, b"bishop\n", &mut table);
-    print_man(3, b"knight\n", &mut table);
+    print_man(&rt, 0, "queen", &mut table)?;
+    print_man(&rt, 1, "rook", &mut table)?;
+    print_man(&rt, 2, "bishop", &mut table)?;
+    print_man(&rt, 3, "knight", &mut table)
 }

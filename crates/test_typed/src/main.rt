@@ -1,43 +1,44 @@
 // Answers each line's number with its digits and check, as the second program does.
 #![tactic(auto)]
 
+use std::io;
+use std::io::Read;
 use typed::write_number;
+
+// How much of the input is read.
+const INPUT_ROOM: u64 = 65536;
 
 // A number with one decimal digit more; what is beyond 32 bits is lost.
 fn with_digit(number: u32, digit: u8) -> u32 {
     ((number as u64 * 10 + (digit % 16) as u64) % 0x1_0000_0000) as u32
 }
 
-fn answer(number: u32) {
+fn answer(rt: &impl Print, number: u32) -> io::Result<()> {
     let written = write_number(number);
     let refusal = written.refusal;
     if refusal == 0 {
-        let digits = written.digits;
-        io::write_all(1, &digits);
+        rt.write_all(&written.digits)?;
     } else {
-        io::write_all(1, b"refused ");
-        io::print_decimal(1, refusal as u64);
+        print!(rt; "refused {refusal}")?;
     }
-    io::write_all(1, b"\n");
+    println!(rt)
 }
 
-fn answer_all(input: &[u8]) {
+fn answer_all(rt: &impl Print, input: &[u8]) -> io::Result<()> {
     let mut number: u32 = 0;
-    let mut i = 0;
-    while i < input.len() {
-        let b = input[i];
-        if b == b'\n' {
-            answer(number);
+    for b in input {
+        if *b == b'\n' {
+            answer(rt, number)?;
             number = 0;
         } else {
-            number = with_digit(number, b);
+            number = with_digit(number, *b);
         }
-        i += 1;
     }
+    Ok(())
 }
 
-fn main() {
-    let mut space = io::large_buffer();
-    let n = io::read_full(0, &mut space);
-    answer_all(&space[..n]);
+fn main(rt: HostRuntime) -> io::Result<()> {
+    let mut input = Vec::new(rt.alloc());
+    rt.reader().take(INPUT_ROOM).read_to_end(&mut input)?;
+    answer_all(&rt, input.as_slice())
 }
