@@ -7,12 +7,12 @@ pub returns : goal.returns
 unfolding digit_bytes digits with_check
 returns c =
     simp (
-  c.digit.ensures,
-  c.digit-2.ensures,
-  c.digit-3.ensures,
-  c.digit-4.ensures,
-  c.digit-5.ensures,
-  c.digit-6.ensures,
-  c.digit-7.ensures,
-  c.check_after.ensures,
-)
+      c.digit.ensures,
+      c.digit-2.ensures,
+      c.digit-3.ensures,
+      c.digit-4.ensures,
+      c.digit-5.ensures,
+      c.digit-6.ensures,
+      c.digit-7.ensures,
+      c.check_after.ensures,
+    )

@@ -6,8 +6,7 @@ use Rattle.lines.proofs.five_digits.Goals as goal
 
 pub returns : goal.returns
 unfolding five_digits
-returns c =
-    (
+returns c = (
   simp (
     c.digit_value-a.ensures.0,
     c.digit_value-b.ensures.0,

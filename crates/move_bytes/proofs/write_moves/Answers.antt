@@ -27,8 +27,7 @@ loop-rest-init c =
 
 pub write_targets-count-requires : goal.write_targets-count-requires
 write_targets-count-requires c =
-    let v = c.loop-rest.invariant.1 in
-    (
+    let v = c.loop-rest.invariant.1 in (
       v.long,
       mover-room _ _ _ _ _ (lowest-of c.loop-rest.rest _ _ c.loop-rest.invariant.0 c.loop-rest-test.true c.lowest-from.ensures refl) (c.targets_from-targets.ensures c.requires.1) _ _ c.taking_set-foes.ensures
           c.promoting_set-ends.ensures v,
@@ -38,13 +37,12 @@ pub loop-rest-smaller : goal.loop-rest-smaller
 loop-rest-smaller c = (lowest-of c.loop-rest.rest _ _ c.loop-rest.invariant.0 c.loop-rest-test.true c.lowest-from.ensures c.without-rest.ensures).fewer
 
 pub loop-rest-preserved : goal.loop-rest-preserved
-loop-rest-preserved c =
-    (
-      c.without-rest.type_inv,
-      mover-next _ _ _ _ _ (lowest-of c.loop-rest.rest _ _ c.loop-rest.invariant.0 c.loop-rest-test.true c.lowest-from.ensures c.without-rest.ensures) (c.targets_from-targets.ensures c.requires.1) _ _
-          c.taking_set-foes.ensures c.promoting_set-ends.ensures c.loop-rest.invariant.1 _ _
-          c.write_targets-count.ensures,
-    )
+loop-rest-preserved c = (
+  c.without-rest.type_inv,
+  mover-next _ _ _ _ _ (lowest-of c.loop-rest.rest _ _ c.loop-rest.invariant.0 c.loop-rest-test.true c.lowest-from.ensures c.without-rest.ensures) (c.targets_from-targets.ensures c.requires.1) _ _
+      c.taking_set-foes.ensures c.promoting_set-ends.ensures c.loop-rest.invariant.1 _ _
+      c.write_targets-count.ensures,
+)
 
 pub shape_of-bytes : goal.shape_of-bytes
 shape_of-bytes c = c.loop-rest.invariant.1.long ∙ sym c.requires.0

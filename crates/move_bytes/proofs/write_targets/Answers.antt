@@ -30,12 +30,11 @@ pub loop-rest-smaller-then-has : goal.loop-rest-smaller-then-has
 loop-rest-smaller-then-has c = (lowest-of c.loop-rest.rest _ _ c.loop-rest.invariant.0 c.loop-rest-test.true c.lowest-to.ensures c.without-rest.ensures).fewer
 
 pub loop-rest-preserved-then-has : goal.loop-rest-preserved-then-has
-loop-rest-preserved-then-has c =
-    (
-      c.without-rest.type_inv,
-      promotes-next _ _ _ _ _ _ (lowest-of c.loop-rest.rest _ _ c.loop-rest.invariant.0 c.loop-rest-test.true c.lowest-to.ensures c.without-rest.ensures) _ _ c.has-takes.ensures c.has.ensures
-          c.loop-rest.invariant.1 c.if-has.true _ _ c.write_promotions.ensures refl,
-    )
+loop-rest-preserved-then-has c = (
+  c.without-rest.type_inv,
+  promotes-next _ _ _ _ _ _ (lowest-of c.loop-rest.rest _ _ c.loop-rest.invariant.0 c.loop-rest-test.true c.lowest-to.ensures c.without-rest.ensures) _ _ c.has-takes.ensures c.has.ensures
+      c.loop-rest.invariant.1 c.if-has.true _ _ c.write_promotions.ensures refl,
+)
 
 pub write_move-requires : goal.write_move-requires
 write_move-requires c = (c.loop-rest.invariant.1.long, omega (arith, (plain-room _ _ _ _ _ _ (lowest-of c.loop-rest.rest _ _ c.loop-rest.invariant.0 c.loop-rest-test.true c.lowest-to.ensures c.without-rest.ensures) _ _ c.has-takes.ensures c.has.ensures c.loop-rest.invariant.1 c.if-has.false)))
@@ -47,12 +46,11 @@ pub loop-rest-smaller : goal.loop-rest-smaller
 loop-rest-smaller c = (lowest-of c.loop-rest.rest _ _ c.loop-rest.invariant.0 c.loop-rest-test.true c.lowest-to.ensures c.without-rest.ensures).fewer
 
 pub loop-rest-preserved : goal.loop-rest-preserved
-loop-rest-preserved c =
-    (
-      c.without-rest.type_inv,
-      plain-next _ _ _ _ _ _ (lowest-of c.loop-rest.rest _ _ c.loop-rest.invariant.0 c.loop-rest-test.true c.lowest-to.ensures c.without-rest.ensures) _ _ c.has-takes.ensures c.has.ensures
-          c.loop-rest.invariant.1 c.if-has.false _ _ c.write_move.ensures refl,
-    )
+loop-rest-preserved c = (
+  c.without-rest.type_inv,
+  plain-next _ _ _ _ _ _ (lowest-of c.loop-rest.rest _ _ c.loop-rest.invariant.0 c.loop-rest-test.true c.lowest-to.ensures c.without-rest.ensures) _ _ c.has-takes.ensures c.has.ensures
+      c.loop-rest.invariant.1 c.if-has.false _ _ c.write_move.ensures refl,
+)
 
 pub shape_of-bytes : goal.shape_of-bytes
 shape_of-bytes c = c.loop-rest.invariant.1.long ∙ sym c.requires.0

@@ -1,5 +1,4 @@
 -- `stream::append` meets its contract: it takes no more of the slip than there is.
-use lib.ListN.{length-map}
 use mathlib.Core.Path.{sym}
 use native.Mathlib.Omega.{arith}
 use lib.Seq.{length-take-le}
@@ -12,14 +11,14 @@ returns-then-end-gt16 c =
     put_whole _ _ c.args.slip.bytes c.args.slip.len
     (omega (
       arith,
-      simp length-map at c.well-formed.0.1.1.0.1.0.1,
+      c.well_formed.0.1.1.0.1.0.1,
       c.if-end-gt16.true,
     )) c.write_text.ensures
 
 pub slice_bounds-bytes-end : goal.slice_bounds-bytes-end
-slice_bounds-bytes-end c = omega (arith, simp length-map at c.well-formed.0.1.1.0.1.0.1, c.if-end-gt16.false)
+slice_bounds-bytes-end c = omega (arith, c.well_formed.0.1.1.0.1.0.1, c.if-end-gt16.false)
 
 pub slice_bounds-write_text-end-2 : goal.slice_bounds-write_text-end-2
 slice_bounds-write_text-end-2 c =
     sym (length-take-le c.args.slip.len c.args.slip.bytes
-    (omega (arith, simp length-map at c.well-formed.0.1.1.0.1.0.1, c.if-end-gt16.false)))
+    (omega (arith, c.well_formed.0.1.1.0.1.0.1, c.if-end-gt16.false)))

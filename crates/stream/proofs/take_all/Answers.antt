@@ -16,8 +16,8 @@ loop-i-preserved c =
     let l = c.loop-i in let t =
     c.take_byte-state in (
       omega arith,
-      t.kept.1.1.0 ∙ l.invariant.1,
-      t.kept.1.1.1.0 ∙ l.invariant.2,
+      t.auto.table ∙ l.invariant.1,
+      t.auto.output ∙ l.invariant.2,
       l.invariant.3
           ∙ next-byte byte_taken _ _
           c.args.input.now l.i (omega arith) t.ensures,

@@ -15,27 +15,27 @@ pub returns-then-y-lt2 : goal.returns-then-y-lt2
 unfolding square_at
 returns-then-y-lt2 c =
     simp (
-  le-leb _ _ c.if-x-lt2.false,
-  le-leb _ _ c.if-x-gt9.false,
-  lt-leb _ _ c.if-y-lt2.true,
-)
+      le-leb _ _ c.if-x-lt2.false,
+      le-leb _ _ c.if-x-gt9.false,
+      lt-leb _ _ c.if-y-lt2.true,
+    )
 
 pub returns-then-y-gt9 : goal.returns-then-y-gt9
 unfolding square_at
 returns-then-y-gt9 c =
     simp (
-  le-leb _ _ c.if-x-lt2.false,
-  le-leb _ _ c.if-x-gt9.false,
-  le-leb _ _ c.if-y-lt2.false,
-  lt-leb _ _ c.if-y-gt9.true,
-)
+      le-leb _ _ c.if-x-lt2.false,
+      le-leb _ _ c.if-x-gt9.false,
+      le-leb _ _ c.if-y-lt2.false,
+      lt-leb _ _ c.if-y-gt9.true,
+    )
 
 pub returns : goal.returns
 unfolding square_at
 returns c =
     simp (
-  le-leb _ _ c.if-x-lt2.false,
-  le-leb _ _ c.if-x-gt9.false,
-  le-leb _ _ c.if-y-lt2.false,
-  le-leb _ _ c.if-y-gt9.false,
-)
+      le-leb _ _ c.if-x-lt2.false,
+      le-leb _ _ c.if-x-gt9.false,
+      le-leb _ _ c.if-y-lt2.false,
+      le-leb _ _ c.if-y-gt9.false,
+    )

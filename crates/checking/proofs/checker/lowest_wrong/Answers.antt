@@ -49,8 +49,7 @@ loop-n-smaller c = omega (arith, c.loop-n-test.true)
 
 pub loop-n-preserved : goal.loop-n-preserved
 loop-n-preserved c =
-    let h : c.loop-n.n < size_of (material_for c.args.m) = omega (arith, c.requires.1, c.loop-n-test.true) in
-    (
+    let h : c.loop-n.n < size_of (material_for c.args.m) = omega (arith, c.requires.1, c.loop-n-test.true) in (
       omega (arith, c.loop-n-test.true),
       right-more _ _ _ _ _ c.is_right.ensures c.if-not-is_right.false c.loop-n.invariant.1,
       λ w z. row_next _ _ _ (c.row_at-row.ensures w c.requires.0.colour h (c.loop-n.invariant.2 w)) z,

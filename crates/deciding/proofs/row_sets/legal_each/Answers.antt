@@ -33,9 +33,9 @@ loop-s-preserved c =
       λ w u g.
           let told = c.is_legal_on.ensures (c.in_row.ensures (row_same _ _ _ w _ h)) in
           elim c.if-is_legal_on.branch [
-            then-is_legal_on v ↦ rw v.legal-is
+            | then-is_legal_on v ↦ rw v.legal-is
                 (gathered-in (λ (i : ℕ). asked (x.n / 64 * 64 + i)) l.legal l.s u (l.invariant.1 w u g) _ (set-has _ v.with-legal.ensures u g) (sym told ∙ v.if-is_legal_on.true))
-          | else-is_legal_on v ↦ rw v.legal-is
+            | else-is_legal_on v ↦ rw v.legal-is
                 (gathered-out (λ (i : ℕ). asked (x.n / 64 * 64 + i)) l.legal l.s u (l.invariant.1 w u g) (sym told ∙ v.if-is_legal_on.false))
           ],
     )

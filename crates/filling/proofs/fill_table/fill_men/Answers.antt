@@ -28,8 +28,7 @@ loop-end-init c =
 
 pub step_at-step-requires : goal.step_at-step-requires
 step_at-step-requires c =
-    let i = c.loop-end.invariant in
-    (
+    let i = c.loop-end.invariant in (
       i.0,
       c.deepest_lent-deepest.ensures.small,
       admitted-kept c.args.m _ _ _ c.requires.0 _

@@ -7,8 +7,8 @@ pub returns : goal.returns
 unfolding pawn_normal_as
 returns c =
     rw (
-  c.pawn_place-place.ensures,
-  c.pawn_men-men.ensures,
-  c.pawn_normal-normal.ensures,
-  c.man_in-man.ensures,
-)
+      c.pawn_place-place.ensures,
+      c.pawn_men-men.ensures,
+      c.pawn_normal-normal.ensures,
+      c.man_in-man.ensures,
+    )

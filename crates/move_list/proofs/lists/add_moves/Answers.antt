@@ -29,12 +29,11 @@ pub loop-rest-smaller-then-has : goal.loop-rest-smaller-then-has
 loop-rest-smaller-then-has c = (lowest-of c.loop-rest.rest _ _ c.loop-rest.invariant.0 c.loop-rest-test.true c.lowest-to.ensures c.without-rest.ensures).fewer
 
 pub loop-rest-preserved-then-has : goal.loop-rest-preserved-then-has
-loop-rest-preserved-then-has c =
-    (
-      c.without-rest.type_inv,
-      promotes-next _ _ _ _ _ _ (lowest-of c.loop-rest.rest _ _ c.loop-rest.invariant.0 c.loop-rest-test.true c.lowest-to.ensures c.without-rest.ensures) _ _ _ c.loop-rest.invariant.1 _ _ c.has-takes.ensures
-          c.has.ensures c.if-has.true _ c.with_promotions-out.ensures,
-    )
+loop-rest-preserved-then-has c = (
+  c.without-rest.type_inv,
+  promotes-next _ _ _ _ _ _ (lowest-of c.loop-rest.rest _ _ c.loop-rest.invariant.0 c.loop-rest-test.true c.lowest-to.ensures c.without-rest.ensures) _ _ _ c.loop-rest.invariant.1 _ _ c.has-takes.ensures
+      c.has.ensures c.if-has.true _ c.with_promotions-out.ensures,
+)
 
 pub overflow_cast-at : goal.overflow_cast-at
 overflow_cast-at c = omega (arith, place c)
@@ -52,12 +51,11 @@ pub loop-rest-smaller : goal.loop-rest-smaller
 loop-rest-smaller c = (lowest-of c.loop-rest.rest _ _ c.loop-rest.invariant.0 c.loop-rest-test.true c.lowest-to.ensures c.without-rest.ensures).fewer
 
 pub loop-rest-preserved : goal.loop-rest-preserved
-loop-rest-preserved c =
-    (
-      c.without-rest.type_inv,
-      plain-next _ _ _ _ _ _ (lowest-of c.loop-rest.rest _ _ c.loop-rest.invariant.0 c.loop-rest-test.true c.lowest-to.ensures c.without-rest.ensures) _ _ _ c.loop-rest.invariant.1 _ _ c.has-takes.ensures
-          c.has.ensures c.if-has.false _ c.move_of.ensures,
-    )
+loop-rest-preserved c = (
+  c.without-rest.type_inv,
+  plain-next _ _ _ _ _ _ (lowest-of c.loop-rest.rest _ _ c.loop-rest.invariant.0 c.loop-rest-test.true c.lowest-to.ensures c.without-rest.ensures) _ _ _ c.loop-rest.invariant.1 _ _ c.has-takes.ensures
+      c.has.ensures c.if-has.false _ c.move_of.ensures,
+)
 
 pub returns : goal.returns
 returns c =

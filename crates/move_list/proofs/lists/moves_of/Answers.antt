@@ -33,13 +33,12 @@ pub loop-rest-smaller : goal.loop-rest-smaller
 loop-rest-smaller c = (lowest-of c.loop-rest.rest _ _ c.loop-rest.invariant.0 c.loop-rest-test.true c.lowest-from.ensures c.without-rest.ensures).fewer
 
 pub loop-rest-preserved : goal.loop-rest-preserved
-loop-rest-preserved c =
-    (
-      c.without-rest.type_inv,
-      turn-rest _ _ _ _ _ (lowest-of c.loop-rest.rest _ _ c.loop-rest.invariant.0 c.loop-rest-test.true c.lowest-from.ensures c.without-rest.ensures) c.legal_targets.ensures _ _
-          c.taking_set-foes.ensures c.promoting_set.ensures _ _ _ c.loop-rest.invariant.1
-          _ c.add_moves-list.ensures,
-    )
+loop-rest-preserved c = (
+  c.without-rest.type_inv,
+  turn-rest _ _ _ _ _ (lowest-of c.loop-rest.rest _ _ c.loop-rest.invariant.0 c.loop-rest-test.true c.lowest-from.ensures c.without-rest.ensures) c.legal_targets.ensures _ _
+      c.taking_set-foes.ensures c.promoting_set.ensures _ _ _ c.loop-rest.invariant.1
+      _ c.add_moves-list.ensures,
+)
 
 pub returns : goal.returns
 returns c =

@@ -7,9 +7,9 @@ pub returns : goal.returns
 unfolding place_after
 returns c =
     simp (
-  c.other.ensures,
-  c.carried.ensures,
-  c.carried-2.ensures,
-  c.square_after.ensures,
-  c.square_after-2.ensures,
-)
+      c.other.ensures,
+      c.carried.ensures,
+      c.carried-2.ensures,
+      c.square_after.ensures,
+      c.square_after-2.ensures,
+    )

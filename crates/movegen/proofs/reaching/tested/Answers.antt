@@ -44,10 +44,10 @@ loop-rest-preserved c =
           c.place_after.ensures c.men_check.ensures in
           let e = (low c).others i h in
           elim c.if-not-men_check.branch [
-            then-not-men_check w ↦ rw (w.safe-is, set-has _ w.with-safe.ensures i h)
+            | then-not-men_check w ↦ rw (w.safe-is, set-has _ w.with-safe.ensures i h)
                 (turn_in ok i t (has l.safe i) (has l.rest i) (has c.without-rest.result i) e (same ∙ ap not w.if-not-men_check.true)
                 ∙ l.invariant.1 s i h)
-          | else-not-men_check w ↦ rw w.safe-is
+            | else-not-men_check w ↦ rw w.safe-is
                 (turn-out ok i t (has l.safe i) (has l.rest i) (has c.without-rest.result i) e (same ∙ ap not w.if-not-men_check.false)
                 ∙ l.invariant.1 s i h)
           ],

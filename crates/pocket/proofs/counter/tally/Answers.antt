@@ -18,10 +18,10 @@ word-w-requires c =
 pub overflow_add-low : goal.overflow_add-low
 overflow_add-low c =
     omega (
-  arith,
-  (sums-room _ _ _ _ _
-      (sums-more _ _ _ _ _ c.loop-i.invariant _ c.loop-i-test.true c.word-w.ensures)).0,
-)
+      arith,
+      (sums-room _ _ _ _ _
+          (sums-more _ _ _ _ _ c.loop-i.invariant _ c.loop-i-test.true c.word-w.ensures)).0,
+    )
 
 pub overflow_add-high : goal.overflow_add-high
 overflow_add-high c =

@@ -26,9 +26,9 @@ loop-i-smaller c = simp length-set (omega arith)
 pub loop-i-preserved : goal.loop-i-preserved
 loop-i-preserved c =
     let u = c.loop-i.invariant.1 in (
-  simp length-set (omega arith),
-  upto-more _ _ _ _ _ u (omega (arith, u.same_length, c.loop-i-test.true)) c.packed_byte.ensures,
-)
+      simp length-set (omega arith),
+      upto-more _ _ _ _ _ u (omega (arith, u.same_length, c.loop-i-test.true)) c.packed_byte.ensures,
+    )
 
 pub shape_of-pocket : goal.shape_of-pocket
 shape_of-pocket c = c.loop-i.invariant.1.same_length

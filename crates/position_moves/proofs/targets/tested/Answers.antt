@@ -40,10 +40,10 @@ loop-rest-preserved c =
       λ i h.
           let e = (low c).others i h in
           elim c.if-not-in_check.branch [
-            then-not-in_check w ↦ rw (w.safe-is, set-has _ w.with-safe.ensures i h)
+            | then-not-in_check w ↦ rw (w.safe-is, set-has _ w.with-safe.ensures i h)
                 (turn_in ok i t (has l.safe i) (has l.rest i) (has c.without-rest.result i) e (same ∙ ap not w.if-not-in_check.true)
                 ∙ l.invariant.1 i h)
-          | else-not-in_check w ↦ rw w.safe-is
+            | else-not-in_check w ↦ rw w.safe-is
                 (turn-out ok i t (has l.safe i) (has l.rest i) (has c.without-rest.result i) e (same ∙ ap not w.if-not-in_check.false)
                 ∙ l.invariant.1 i h)
           ],

@@ -46,10 +46,10 @@ loop-rest-preserved c =
           c.is_legal.ensures (a t (low c).square (l.invariant.1 t (low c).square (low c).here)) in
           let e = (low c).others i h in
           elim c.if-is_legal.branch [
-            then-is_legal w ↦ rw (w.kept-is, set-has _ w.with-kept.ensures i h)
+            | then-is_legal w ↦ rw (w.kept-is, set-has _ w.with-kept.ensures i h)
                 (turn_in ok i t (has l.kept i) (has l.rest i) (has c.without-rest.result i) e (same ∙ w.if-is_legal.true)
                 ∙ l.invariant.2 a i h)
-          | else-is_legal w ↦ rw w.kept-is
+            | else-is_legal w ↦ rw w.kept-is
                 (turn-out ok i t (has l.kept i) (has l.rest i) (has c.without-rest.result i) e (same ∙ w.if-is_legal.false)
                 ∙ l.invariant.2 a i h)
           ],

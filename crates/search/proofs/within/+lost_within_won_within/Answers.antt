@@ -19,8 +19,7 @@ lost_within-returns-then-k-eq0 t c none =
     lost-none _ _ _ c.can_move.ensures (ap not c.if-not-can_move.false) c.if-k-eq0.true
 
 pub lost_within-loop-rest-init : goal.lost_within-loop-rest-init
-lost_within-loop-rest-init t c =
-    (
+lost_within-loop-rest-init t c = (
   c.movers-rest.type_inv,
   λ none. lost-start _ _ _ c.can_move.ensures (ap not c.if-not-can_move.false) _ c.if-k-eq0.false c.movers-rest.ensures,
 )
@@ -41,8 +40,7 @@ lost_within-loop-rest-smaller t c =
     c.without-rest.ensures).fewer
 
 pub lost_within-loop-rest-preserved : goal.lost_within-loop-rest-preserved
-lost_within-loop-rest-preserved t c =
-    (
+lost_within-loop-rest-preserved t c = (
   c.without-rest.type_inv,
   λ none. all-piece-end _ _ _ _ c.loop-targets.targets _ c.loop-targets-test.false (c.loop-targets.invariant.1 none),
 )
@@ -106,8 +104,7 @@ won_within-loop-rest-smaller t c =
     c.without-rest.ensures).fewer
 
 pub won_within-loop-rest-preserved : goal.won_within-loop-rest-preserved
-won_within-loop-rest-preserved t c =
-    (
+won_within-loop-rest-preserved t c = (
   c.without-rest.type_inv,
   λ none. any-piece-end _ _ _ _ c.loop-targets.targets _ c.loop-targets-test.false (c.loop-targets.invariant.1 none),
 )

@@ -8,7 +8,7 @@ use Rattle.sledgewren.specs.laws.Laws.{sets-all, copy-turn, copy-end}
 use Rattle.sledgewren.proofs.desk.write_slip.Goals as goal
 
 pub loop-i-init : goal.loop-i-init
-loop-i-init c = (omega arith, c.requires, c.well-formed.0.1.0.1, refl)
+loop-i-init c = (omega arith, c.requires, c.well_formed.0.1.0.1, refl)
 
 pub bounds-bytes-i : goal.bounds-bytes-i
 bounds-bytes-i c = omega arith

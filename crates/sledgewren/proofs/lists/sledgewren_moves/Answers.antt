@@ -25,7 +25,7 @@ returns-then-all c =
 pub write_moves-requires : goal.write_moves-requires
 write_moves-requires c =
     let z = sym c.placing_with-refusal.ensures ∙ c.if-refusal-ne0.false in
-    (c.clear.auto.moves ∙ c.if-moves-ne-LIST_BYTES.false, c.movers_of-all.ensures z)
+    (c.clear.auto.table ∙ c.if-moves-ne-LIST_BYTES.false, c.movers_of-all.ensures z)
 
 pub overflow_cast-result-2 : goal.overflow_cast-result-2
 overflow_cast-result-2 c = omega (arith, c.write_moves.ensures.count, few-moves c.position_read-p.result)

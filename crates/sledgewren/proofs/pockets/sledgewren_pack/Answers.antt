@@ -5,8 +5,7 @@ use Rattle.sledgewren.specs.PocketWords.{packed_word}
 use Rattle.sledgewren.proofs.pockets.sledgewren_pack.Goals as goal
 
 pub returns : goal.returns
-returns c =
-    (
+returns c = (
   c.packed_word.ensures
       ∙ ap packed_word c.pack.ensures.0,
   c.pack.ensures.1,

@@ -1,12 +1,11 @@
 -- `host::written_word` meets its contract: the sum of the bytes in their places.
-use lib.ListN.{length-map}
 use borrow.Author.Rules.{rules}
 use Rattle.sledgewren.specs.laws.TypedLaws.{word_sum}
 use Rattle.sledgewren.proofs.typed_number.written_word.Goals as goal
 
 pub returns : goal.returns
 returns c =
-    word_sum c.args.w _ _ _ _ _ _ _ _ (simp length-map at c.well-formed.0.1.1.1.0.1.0.1)
+    word_sum c.args.w _ _ _ _ _ _ _ _ c.well_formed.0.1.1.1.0.1.0.1
     c.wide.ensures.0
     c.wide-2.ensures.0
     c.wide-3.ensures.0

@@ -17,8 +17,8 @@ returns-in_default-by_first c =
     let q = c.args.q in
     λ w t. first-refuted _ _ _ _ _ _ _ (c.sift_steps-by_king.ensures w t.king s.ensures) _ c.in-Suited.is _
     (elim c.if-reach-eq0.branch [
-      then-reach-eq0 v ↦ v.by_first-is ∙ no-moves _ _ _ _ _ _ t.first v.if-reach-eq0.true
-    | else-reach-eq0 v ↦ v.by_first-is ∙ v.sift_moves-by_first.ensures w t.first s.ensures (of-first q)
+      | then-reach-eq0 v ↦ v.by_first-is ∙ no-moves _ _ _ _ _ _ t.first v.if-reach-eq0.true
+      | else-reach-eq0 v ↦ v.by_first-is ∙ v.sift_moves-by_first.ensures w t.first s.ensures (of-first q)
     ])
     c.in_default-by_first.is
 
@@ -28,12 +28,12 @@ returns-in_default-by_second c =
     let q = c.args.q in
     λ w t. second-refuted _ _ _ _ _ _ _ (c.sift_steps-by_king.ensures w t.king s.ensures) _ c.in-Suited.is _
     (elim c.if-reach-eq0.branch [
-      then-reach-eq0 v ↦ v.by_first-is ∙ no-moves _ _ _ _ _ _ t.first v.if-reach-eq0.true
-    | else-reach-eq0 v ↦ v.by_first-is ∙ v.sift_moves-by_first.ensures w t.first s.ensures (of-first q)
+      | then-reach-eq0 v ↦ v.by_first-is ∙ no-moves _ _ _ _ _ _ t.first v.if-reach-eq0.true
+      | else-reach-eq0 v ↦ v.by_first-is ∙ v.sift_moves-by_first.ensures w t.first s.ensures (of-first q)
     ]) _ c.in-Suited-by_first.is _
     (elim c.if-reach-eq0-2.branch [
-      then-reach-eq0-2 v ↦ v.by_second-is ∙ no-moves _ _ _ _ _ _ t.second v.if-reach-eq0-2.true
-    | else-reach-eq0-2 v ↦ v.by_second-is ∙ v.sift_moves-by_second.ensures w t.second s.ensures (of-second q)
+      | then-reach-eq0-2 v ↦ v.by_second-is ∙ no-moves _ _ _ _ _ _ t.second v.if-reach-eq0-2.true
+      | else-reach-eq0-2 v ↦ v.by_second-is ∙ v.sift_moves-by_second.ensures w t.second s.ensures (of-second q)
     ])
     c.in_default-by_second.is
 
@@ -43,10 +43,10 @@ returns c =
     let q = c.args.q in
     λ w t. all-suited _ _ _ _ _ _ _ (c.sift_steps-by_king.ensures w t.king s.ensures) _ c.in-Suited.is _
     (elim c.if-reach-eq0.branch [
-      then-reach-eq0 v ↦ v.by_first-is ∙ no-moves _ _ _ _ _ _ t.first v.if-reach-eq0.true
-    | else-reach-eq0 v ↦ v.by_first-is ∙ v.sift_moves-by_first.ensures w t.first s.ensures (of-first q)
+      | then-reach-eq0 v ↦ v.by_first-is ∙ no-moves _ _ _ _ _ _ t.first v.if-reach-eq0.true
+      | else-reach-eq0 v ↦ v.by_first-is ∙ v.sift_moves-by_first.ensures w t.first s.ensures (of-first q)
     ]) _ c.in-Suited-by_first.is _
     (elim c.if-reach-eq0-2.branch [
-      then-reach-eq0-2 v ↦ v.by_second-is ∙ no-moves _ _ _ _ _ _ t.second v.if-reach-eq0-2.true
-    | else-reach-eq0-2 v ↦ v.by_second-is ∙ v.sift_moves-by_second.ensures w t.second s.ensures (of-second q)
+      | then-reach-eq0-2 v ↦ v.by_second-is ∙ no-moves _ _ _ _ _ _ t.second v.if-reach-eq0-2.true
+      | else-reach-eq0-2 v ↦ v.by_second-is ∙ v.sift_moves-by_second.ensures w t.second s.ensures (of-second q)
     ]) _ c.in-Suited-by_second.is

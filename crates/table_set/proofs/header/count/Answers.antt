@@ -16,11 +16,11 @@ overflow_add-result-3 c = omega arith
 pub returns : goal.returns
 returns c =
     let k = codes-count c.args.choice in (
-  rw (
-    c.one.ensures.0,
-    c.one-2.ensures.0,
-    c.one-3.ensures.0,
-    c.one-4.ensures.0,
-  ) k.0,
-  omega arith,
-)
+      rw (
+        c.one.ensures.0,
+        c.one-2.ensures.0,
+        c.one-3.ensures.0,
+        c.one-4.ensures.0,
+      ) k.0,
+      omega arith,
+    )

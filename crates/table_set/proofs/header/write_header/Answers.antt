@@ -90,10 +90,10 @@ put_word-requires-in-loop-code-3 c =
 pub overflow_add-at-in-loop-code-2 : goal.overflow_add-at-in-loop-code-2
 overflow_add-at-in-loop-code-2 c =
     omega (
-  arith,
-  headed-room _ _ _ _ _ _ _
-      c.loop-code.invariant _ c.chosen.ensures c.loop-code-test.true c.if-not-chosen.false,
-)
+      arith,
+      headed-room _ _ _ _ _ _ _
+          c.loop-code.invariant _ c.chosen.ensures c.loop-code-test.true c.if-not-chosen.false,
+    )
 
 pub overflow_add-offset-in-loop-code : goal.overflow_add-offset-in-loop-code
 overflow_add-offset-in-loop-code c =

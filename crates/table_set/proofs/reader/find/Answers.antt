@@ -62,8 +62,7 @@ pub loop-left-smaller : goal.loop-left-smaller
 loop-left-smaller c = omega arith
 
 pub loop-left-preserved : goal.loop-left-preserved
-loop-left-preserved c =
-    (
+loop-left-preserved c = (
   omega arith,
   omega arith,
   found-later _ _ _ _ _ _ c.loop-left-test.true c.word.ensures.0 c.if-word-wanted.false

@@ -30,8 +30,7 @@ pub returns-then-set-offset : goal.returns-then-set-offset
 returns-then-set-offset c = set-unlike _ _ c.word-n.ensures.0 c.if-set-lt4.false c.if-set-offset.true
 
 pub loop-left-init : goal.loop-left-init
-loop-left-init c =
-    (
+loop-left-init c = (
   omega (arith, c.if-set-offset.false),
   omega (arith, c.if-set-offset.false),
   set-entries _ _ c.word-n.ensures.0 c.if-set-lt4.false c.if-set-offset.false,
@@ -65,8 +64,7 @@ pub loop-left-smaller : goal.loop-left-smaller
 loop-left-smaller c = omega arith
 
 pub loop-left-preserved : goal.loop-left-preserved
-loop-left-preserved c =
-    (
+loop-left-preserved c = (
   omega arith,
   omega arith,
   entries-more _ _ _ _ _ c.is_entry.ensures _ _ c.loop-left-test.true

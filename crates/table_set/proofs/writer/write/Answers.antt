@@ -69,13 +69,13 @@ returns-then-is_refused c =
 pub overflow_add-at : goal.overflow_add-at
 overflow_add-at c =
     omega (
-  arith,
-  tabled-room _ _ _ _ _ _
-      c.loop-code.invariant _
-      c.chosen.ensures
-      c.loop-code-test.true
-      c.if-not-chosen.false,
-)
+      arith,
+      tabled-room _ _ _ _ _ _
+          c.loop-code.invariant _
+          c.chosen.ensures
+          c.loop-code-test.true
+          c.if-not-chosen.false,
+    )
 
 pub loop-code-smaller : goal.loop-code-smaller
 loop-code-smaller c = omega (arith, c.loop-code-test.true)
