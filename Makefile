@@ -11,9 +11,11 @@ INTO := $(DESTDIR)$(PREFIX)
 
 all: $(ARCHIVE)
 
-# Where there is none; `rt staticlib sledgewren` makes it again after a change.
-$(ARCHIVE):
-	rt staticlib sledgewren
+# Where there is none; `make -B target/staticlib/libsledgewren.a` makes it again after a change. The same for the fill for
+# comparison, libcomparison.a.
+target/staticlib/lib%.a:
+	cd crates/$*_c && rt lib
+	install -D -m 644 crates/$*_c/out/lib$*_c.a $@
 
 install: $(ARCHIVE)
 	install -d "$(INTO)/include" "$(INTO)/lib/pkgconfig"

@@ -25,7 +25,7 @@ fn main() {
     if !library.is_file() {
         println!("cargo:warning=there is no {}", library.display());
         println!(
-            "cargo:warning=make it with `rt staticlib sledgewren` from the repository's root,"
+            "cargo:warning=make it with `make` from the repository's root,"
         );
         println!("cargo:warning=or name the folder that holds libsledgewren.a in {VARIABLE}");
     }

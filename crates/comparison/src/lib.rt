@@ -13,8 +13,7 @@ use given_words::material_read;
 use words::filled_word;
 
 // Refusals 1, 7 and 17 leave the table as it was, 10 all zero.
-#[unsafe(no_mangle)]
-pub extern "C" fn sledgewren_fill_every(
+pub fn sledgewren_fill_every(
     ending: u32,
     small_first: &[u8],
     small_second: &[u8],

@@ -16,8 +16,7 @@ const NO_LIST: u32 = 255;
 
 // Refusals 1 to 6 and 18 leave all bytes zero; with another length than 248 nothing is written. The movers are found
 // first, and the bytes cleared last: of the orders tried the quickest.
-#[unsafe(no_mangle)]
-pub extern "C" fn sledgewren_moves(
+pub fn sledgewren_moves(
     side: u8,
     white: u8,
     black: u8,

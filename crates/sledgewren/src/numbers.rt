@@ -12,40 +12,35 @@ use move_list::move_count;
 use words::{count_word, number_word, placed_word};
 
 // Refusals 1 to 5 and 18.
-#[unsafe(no_mangle)]
-pub extern "C" fn sledgewren_number(side: u8, white: u8, black: u8, first: u32, second: u32) -> u32
+pub fn sledgewren_number(side: u8, white: u8, black: u8, first: u32, second: u32) -> u32
     ensures { result ≡ number_word (number_with (position_read side white black first second)) }
 {
     number_word(number_with(position_read(side, white, black, first, second)))
 }
 
 // Refusals 1, 8 and 9.
-#[unsafe(no_mangle)]
-pub extern "C" fn sledgewren_position(ending: u32, number: u32) -> u64
+pub fn sledgewren_position(ending: u32, number: u32) -> u64
     ensures { result ≡ placed_word (placed_with (material_read ending) number) }
 {
     placed_word(position_with(material_read(ending), number))
 }
 
 // Refusals 1 to 6 and 18.
-#[unsafe(no_mangle)]
-pub extern "C" fn sledgewren_count(side: u8, white: u8, black: u8, first: u32, second: u32) -> u32
+pub fn sledgewren_count(side: u8, white: u8, black: u8, first: u32, second: u32) -> u32
     ensures { result ≡ count_word (count_answer (position_read side white black first second)) }
 {
     count_word(move_count(position_read(side, white, black, first, second)))
 }
 
 // The ending of the men; all bits set where they are none.
-#[unsafe(no_mangle)]
-pub extern "C" fn sledgewren_ending(first: u32, second: u32) -> u32
+pub fn sledgewren_ending(first: u32, second: u32) -> u32
     ensures { result ≡ ending_of first second }
 {
     ending_of(first, second)
 }
 
 // How long the ending's table is; 0 where there is no such ending.
-#[unsafe(no_mangle)]
-pub extern "C" fn sledgewren_table_bytes(ending: u32) -> u32
+pub fn sledgewren_table_bytes(ending: u32) -> u32
     ensures { result ≡ table_bytes (material_read ending) }
 {
     table_bytes(material_read(ending))

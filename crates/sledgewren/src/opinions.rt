@@ -19,8 +19,7 @@ fn opinion_word(o: Opinion) -> u32
 }
 
 // Refusals 1 to 6, and 16 for more than 6 plies.
-#[unsafe(no_mangle)]
-pub extern "C" fn sledgewren_second_opinion(
+pub fn sledgewren_second_opinion(
     side: u8,
     white: u8,
     black: u8,

@@ -9,8 +9,7 @@ use playing::play;
 use words::played_word;
 
 // `becomes` is what a pawn becomes, 1 + the piece's code, and 0 in every other move. Refusals 1 to 6 and 18.
-#[unsafe(no_mangle)]
-pub extern "C" fn sledgewren_play(
+pub fn sledgewren_play(
     side: u8,
     white: u8,
     black: u8,

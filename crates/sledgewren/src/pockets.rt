@@ -10,16 +10,14 @@ use given_words::position_read;
 use pocket::{look_up, pack, tally};
 
 // Refusal 7 leaves the pocket as it was.
-#[unsafe(no_mangle)]
-pub extern "C" fn sledgewren_pack(table: &[u8], pocket: &mut [u8]) -> u32
+pub fn sledgewren_pack(table: &[u8], pocket: &mut [u8]) -> u32
     ensures { (result ≡ packed_word (pack_of table.now pocket.old).answer) × (pocket.new ≡ (pack_of table.now pocket.old).bytes) }
 {
     packed_word(pack(table, &mut *pocket))
 }
 
 // Refusals 1 to 7 and 11.
-#[unsafe(no_mangle)]
-pub extern "C" fn sledgewren_pocket_look_up(
+pub fn sledgewren_pocket_look_up(
     side: u8,
     white: u8,
     black: u8,
@@ -34,8 +32,7 @@ pub extern "C" fn sledgewren_pocket_look_up(
 }
 
 // Refusal 7.
-#[unsafe(no_mangle)]
-pub extern "C" fn sledgewren_tallies(pocket: &[u8]) -> u64
+pub fn sledgewren_tallies(pocket: &[u8]) -> u64
     ensures { result ≡ tallied_word (tally_of pocket.now) }
 {
     tallied_word(tally(pocket))

@@ -38,44 +38,28 @@ fn found_word(f: Found) -> u64
 }
 
 // Refusal 14 leaves the set as it was, 10 all zero.
-#[unsafe(no_mangle)]
-pub extern "C" fn sledgewren_set_write(
-    queen: u8,
-    rook: u8,
-    bishop: u8,
-    knight: u8,
-    set: &mut [u8],
-) -> u32
+pub fn sledgewren_set_write(queen: u8, rook: u8, bishop: u8, knight: u8, set: &mut [u8]) -> u32
     ensures { (result ≡ set_written_word (write_of (choice_by queen rook bishop knight) set.old).answer) × (set.new ≡ (write_of (choice_by queen rook bishop knight) set.old).bytes) }
 {
     written_word(write(choice_by(queen, rook, bishop, knight), &mut *set))
 }
 
 // The header alone. Refusal 14 leaves the set as it was.
-#[unsafe(no_mangle)]
-pub extern "C" fn sledgewren_set_start(
-    queen: u8,
-    rook: u8,
-    bishop: u8,
-    knight: u8,
-    set: &mut [u8],
-) -> u32
+pub fn sledgewren_set_start(queen: u8, rook: u8, bishop: u8, knight: u8, set: &mut [u8]) -> u32
     ensures { (result ≡ set_written_word (start_of (choice_by queen rook bishop knight) set.old).answer) × (set.new ≡ (start_of (choice_by queen rook bishop knight) set.old).bytes) }
 {
     written_word(start(choice_by(queen, rook, bishop, knight), &mut *set))
 }
 
 // One ending's table, in its own part. Refusals 1, 14 and 15 leave the set as it was, 10 all zero.
-#[unsafe(no_mangle)]
-pub extern "C" fn sledgewren_set_fill(kind: u8, set: &mut [u8]) -> u32
+pub fn sledgewren_set_fill(kind: u8, set: &mut [u8]) -> u32
     ensures { (result ≡ filled_word (fill_in_of kind set.old).answer) × (set.new ≡ (fill_in_of kind set.old).bytes) }
 {
     filled_word(fill_ending(kind, &mut *set))
 }
 
 // Refusals 1, 14 and 15.
-#[unsafe(no_mangle)]
-pub extern "C" fn sledgewren_set_find(kind: u8, set: &[u8]) -> u64
+pub fn sledgewren_set_find(kind: u8, set: &[u8]) -> u64
     ensures { result ≡ found_word (find_of set.now kind) }
 {
     found_word(find(set, kind))

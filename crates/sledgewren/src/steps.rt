@@ -56,8 +56,7 @@ fn step_word(s: Step) -> u64
 }
 
 // Refusals 1 and 7 leave the table as it was.
-#[unsafe(no_mangle)]
-pub extern "C" fn sledgewren_fill_start(ending: u32, table: &mut [u8]) -> u64
+pub fn sledgewren_fill_start(ending: u32, table: &mut [u8]) -> u64
     ensures { (result ≡ step_word (start_for (material_read ending) table.old).step) × (table.new ≡ (start_for (material_read ending) table.old).bytes) }
 {
     let m = material_read(ending);
@@ -67,8 +66,7 @@ pub extern "C" fn sledgewren_fill_start(ending: u32, table: &mut [u8]) -> u64
 
 // The small tables' bytes are read as they stand, accepted or not. Refusals 1 and 7 leave the table and the progress
 // as they were, 10 leaves the table all zero.
-#[unsafe(no_mangle)]
-pub extern "C" fn sledgewren_fill_step(
+pub fn sledgewren_fill_step(
     ending: u32,
     progress: u32,
     small_first: &[u8],

@@ -17,8 +17,7 @@ use given_words::{material_read, position_read};
 use words::{checked_word, filled_word, marked_word};
 
 // Refusals 1, 7 and 17 leave the table as it was, 10 all zero.
-#[unsafe(no_mangle)]
-pub extern "C" fn sledgewren_fill(
+pub fn sledgewren_fill(
     ending: u32,
     small_first: &[u8],
     small_second: &[u8],
@@ -31,8 +30,7 @@ pub extern "C" fn sledgewren_fill(
 }
 
 // The same of pieces, quicker: it works back from the positions just settled. King and pawn is refused 1.
-#[unsafe(no_mangle)]
-pub extern "C" fn sledgewren_fill_back(
+pub fn sledgewren_fill_back(
     ending: u32,
     small_first: &[u8],
     small_second: &[u8],
@@ -45,13 +43,7 @@ pub extern "C" fn sledgewren_fill_back(
 }
 
 // Refusals 1, 7 and 17.
-#[unsafe(no_mangle)]
-pub extern "C" fn sledgewren_check(
-    ending: u32,
-    small_first: &[u8],
-    small_second: &[u8],
-    table: &[u8],
-) -> u64
+pub fn sledgewren_check(ending: u32, small_first: &[u8], small_second: &[u8], table: &[u8]) -> u64
     ensures { result ≡ checked_word (check_with (material_read ending) (lent small_first.now small_second.now) table.now) }
 {
     let m = material_read(ending);
@@ -59,8 +51,7 @@ pub extern "C" fn sledgewren_check(
 }
 
 // Refusals 1 to 7, 11, 18 and 19.
-#[unsafe(no_mangle)]
-pub extern "C" fn sledgewren_look_up(
+pub fn sledgewren_look_up(
     side: u8,
     white: u8,
     black: u8,

@@ -26,8 +26,7 @@ fn written_word(w: Written) -> u64
 }
 
 // Refusals 8 and 9.
-#[unsafe(no_mangle)]
-pub extern "C" fn sledgewren_write_number(number: u32) -> u64
+pub fn sledgewren_write_number(number: u32) -> u64
     ensures { result ≡ written_word (written_of number) }
 {
     written_word(write_number(number))

@@ -4,8 +4,7 @@ ghost use Rattle.words.specs.Version.{version_word, current};
 
 use words::version_word;
 
-#[unsafe(no_mangle)]
-pub extern "C" fn sledgewren_version_number() -> u32
+pub fn sledgewren_version_number() -> u32
     ensures { result ≡ version_word current }
 {
     version_word()

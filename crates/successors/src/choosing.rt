@@ -29,7 +29,7 @@ fn earlier(a: Seen, b: Seen) -> Seen
 }
 
 // The first of all.
-fn seen_in(q: Place, sets: Reach) -> Seen
+pub fn seen_in(q: Place, sets: Reach) -> Seen
     ensures { result ≡ seen_in (king_at q) q.first q.second sets }
 {
     let a = seen_from(king_at(q, q.side), sets.king);

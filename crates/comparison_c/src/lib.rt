@@ -1,0 +1,21 @@
+// The fill for comparison, as C calls it.
+#![tactic(auto)]
+
+ghost use Rattle.std.specs.Prelude.{◌≡◌};
+ghost use Rattle.four_men.specs.Lending.{lent};
+ghost use Rattle.four_men.specs.Answers.{fill_with};
+ghost use Rattle.given_words.specs.Endings.{material_read};
+ghost use Rattle.words.specs.Words.{filled_word};
+
+// Refusals 1, 7 and 17 leave the table as it was, 10 all zero.
+#[unsafe(no_mangle)]
+pub extern "C" fn sledgewren_fill_every(
+    ending: u32,
+    small_first: &[u8],
+    small_second: &[u8],
+    table: &mut [u8],
+) -> u32
+    ensures { (result ≡ filled_word (fill_with (material_read ending) (lent small_first.now small_second.now) table.old).answer) × (table.new ≡ (fill_with (material_read ending) (lent small_first.now small_second.now) table.old).bytes) }
+{
+    comparison::sledgewren_fill_every(ending, small_first, small_second, &mut *table)
+}
