@@ -5,4 +5,3 @@ pub mod Sets
 pub mod EmptyBoard
 pub mod SetLaws
 pub mod StepLaws
-pub mod laws

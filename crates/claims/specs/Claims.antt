@@ -24,7 +24,7 @@ use Rattle.index.specs.Answers.{number_with, placed_with}
 use Rattle.answers.specs.declared.Answer.{Answer}
 use Rattle.answers.specs.declared.Checked.{Checked}
 use Rattle.endings.specs.Answers.{result_of, mapped_answer}
-use Rattle.endings.specs.laws.OneAnswer as answers
+use Rattle.endings.proofs.laws.OneAnswer as answers
 use Rattle.four_men.specs.Lending.{Lent}
 use Rattle.four_men.specs.Answers.{lengths_fit, lent_accepted, check_with, fill_with, look_up_with}
 use Rattle.four_men.specs.Numbers.{BearsOf, SameClassIn}
@@ -32,17 +32,17 @@ use Rattle.four_men.specs.Truth.{TrueAnswerIn, TrueTableOf, FillTrueOf, LentByte
 use Rattle.four_men.specs.GamePromise.{desk_move_with, GamePromiseWith}
 use Rattle.four_men.specs.MoveTurned.{MoveTurnedWith}
 use Rattle.four_men.specs.Steps.{Call, start_with, steps_with}
-use Rattle.four_men.specs.laws.Numbers as numbers
-use Rattle.four_men.specs.laws.Checking as checking
-use Rattle.four_men.specs.laws.Filling as filling
-use Rattle.four_men.specs.laws.LookingUp as looking_up
-use Rattle.four_men.specs.laws.Games as playing
-use Rattle.four_men.specs.laws.MoveTurned as turning
-use Rattle.four_men.specs.laws.PawnTurned as pawns
-use Rattle.four_men.specs.laws.PawnLawful.{map_by}
-use Rattle.four_men.specs.laws.Steps as runs
+use Rattle.four_men.proofs.laws.Numbers as numbers
+use Rattle.four_men.proofs.laws.Checking as checking
+use Rattle.four_men.proofs.laws.Filling as filling
+use Rattle.four_men.proofs.laws.LookingUp as looking_up
+use Rattle.four_men.proofs.laws.Games as playing
+use Rattle.four_men.proofs.laws.MoveTurned as turning
+use Rattle.four_men.proofs.laws.PawnTurned as pawns
+use Rattle.four_men.proofs.laws.PawnLawful.{map_by}
+use Rattle.four_men.proofs.laws.Steps as runs
 use Rattle.fifty.specs.FiftyPromise.{PlaysCountedWith, FiftyPromiseWith}
-use Rattle.fifty.specs.laws.FiftyGames as fifty
+use Rattle.fifty.proofs.laws.FiftyGames as fifty
 
 -- 1. Two positions of one ending that numbering does not refuse have the same number exactly when one of the board's
 -- eight maps, two men in the other order, the colours exchanged (but for like kinds one each), or several of these make

@@ -1,9 +1,9 @@
 -- Two theorems about the desk, which keeps to one man besides the kings, each closed as those of Claims are.
 use Rattle.std.specs.Prelude.{◌≡◌, List, ℕ}
 use Rattle.adjudication.specs.TrueSlip.{TrueSlip, Held}
-use Rattle.adjudication.specs.laws.OneSlip as slips
+use Rattle.adjudication.proofs.laws.OneSlip as slips
 use Rattle.stream.specs.Stream.{whole_of, lines_of, fresh, handed_out, AllTrue}
-use Rattle.stream.specs.laws.Written as streaming
+use Rattle.stream.proofs.laws.Written as streaming
 
 -- 11. In whatever parts the input comes, the desk hands out the true slips of its lines in order, if it begins with a
 -- table that is right or with none.

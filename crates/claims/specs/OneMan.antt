@@ -11,21 +11,21 @@ use Rattle.position.specs.Refusals.{placing_refusal, standing_refusal}
 use Rattle.index.specs.declared.Placed.{Placed}
 use Rattle.index.specs.Answers.{number_answer, placed_at}
 use Rattle.index.specs.NumberLaws.{SameClass}
-use Rattle.index.specs.laws.NumberLaws as numbers
+use Rattle.index.proofs.laws.NumberLaws as numbers
 use Rattle.index.specs.BackLaws.{Bears}
-use Rattle.index.specs.laws.BackLaws as backs
+use Rattle.index.proofs.laws.BackLaws as backs
 use Rattle.answers.specs.declared.Checked.{Checked}
 use Rattle.endings.specs.Ending.{Lone, table_size}
 use Rattle.endings.specs.Truth.{TrueTable, TrueAnswer}
 use Rattle.endings.specs.Answers.{check_of, fill_of, look_up_of}
-use Rattle.endings.specs.laws.Checking as checking
+use Rattle.endings.proofs.laws.Checking as checking
 use Rattle.endings.specs.FilledTrue.{FillTrue}
-use Rattle.endings.specs.laws.FilledTrue as filling
-use Rattle.endings.specs.laws.LookingUp as looking_up
+use Rattle.endings.proofs.laws.FilledTrue as filling
+use Rattle.endings.proofs.laws.LookingUp as looking_up
 use Rattle.endings.specs.GamePromise.{desk_move, GamePromise}
-use Rattle.four_men.specs.laws.AloneGames as playing
+use Rattle.four_men.proofs.laws.AloneGames as playing
 use Rattle.fifty.specs.FiftyPromise.{PlaysCounted, FiftyPromise}
-use Rattle.fifty.specs.laws.FiftyGames as fifty
+use Rattle.fifty.proofs.laws.FiftyGames as fifty
 
 -- 1. The same number exactly when one of the board's eight maps, with the colours exchanged or not, makes one position
 -- into the other.

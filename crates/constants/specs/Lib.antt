@@ -1,2 +1,1 @@
 pub mod EmptyBoard
-pub mod laws

@@ -5,4 +5,3 @@ pub mod GamePromise
 pub mod CheckedTrue
 pub mod MoveTurned
 pub mod FilledTrue
-pub mod laws

@@ -8,4 +8,3 @@ pub mod Truth
 pub mod CheckedTrue
 pub mod GamePromise
 pub mod MoveTurned
-pub mod laws

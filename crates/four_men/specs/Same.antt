@@ -5,7 +5,7 @@ use Rattle.rules.specs.declared.Piece.{Piece}
 use Rattle.rules.specs.Rules.{Board}
 use Rattle.rules.specs.Changed.{changed}
 use Rattle.rules.specs.Reordered.{reordered}
-use Rattle.rules.specs.laws.ReorderedLaws.{LegalFew}
+use Rattle.rules.specs.Reordered.{LegalFew}
 use Rattle.numbering.specs.Men.{exchangeable}
 use Rattle.numbering.specs.Change.{Change}
 

@@ -1,4 +1,3 @@
 pub mod Bits
 pub mod Men
 pub mod Endings
-pub mod laws

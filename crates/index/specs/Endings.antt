@@ -7,7 +7,7 @@ use Rattle.numbering.specs.declared.Material.{Material}
 use Rattle.numbering.specs.Material.{men_of}
 use Rattle.numbering.specs.Keys.{board_at}
 use Rattle.numbering.specs.Number.{normal_by, normalised, number_of, used}
-use Rattle.rules.specs.laws.PawnLaws.{keeping}
+use Rattle.rules.specs.Changed.{keeping}
 use Rattle.pawn_numbers.specs.PawnNumber.{pawn_flip, flipped, pawn_number, pawn_board, used_pawn}
 
 -- the number of a board

@@ -46,3 +46,7 @@ rising_key like k = cond (ltb (k % 64) (k / 64 % 64) && like) (k / 4096 * 4096 +
 -- file and rank exchanged where that is less
 unfoldable pub least_of : Bool → ℕ → ℕ
 least_of like k = let s = rising_key like k in let t = rising_key like (transposed_key k) in cond (ltb t s) t s
+
+-- the digits of two men
+abbrev pub men_digits : Bool → ℕ → ℕ → ℕ
+men_digits like x y = cond (ltb y x && like) (y * 64 + x) (x * 64 + y)

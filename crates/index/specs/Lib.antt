@@ -6,4 +6,3 @@ pub mod Least
 pub mod Seats
 pub mod Arranging
 pub mod Moving
-pub mod laws

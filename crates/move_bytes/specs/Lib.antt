@@ -1,3 +1,2 @@
 pub mod MoveBytes
 pub mod Stored
-pub mod laws

@@ -2,4 +2,3 @@ pub mod Lists
 pub mod Answers
 pub mod ListLaws
 pub mod Counting
-pub mod laws

@@ -1,4 +1,3 @@
 pub mod After
 pub mod Places
 pub mod Reach
-pub mod laws

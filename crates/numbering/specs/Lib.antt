@@ -7,4 +7,3 @@ pub mod Change
 pub mod Number
 pub mod Material
 pub mod Fits
-pub mod laws

@@ -1,4 +1,3 @@
 pub mod Tables
 pub mod Packed
 pub mod Rows
-pub mod laws

@@ -1,2 +1,1 @@
 pub mod PawnMoves
-pub mod laws

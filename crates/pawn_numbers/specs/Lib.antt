@@ -1,4 +1,3 @@
 pub mod PawnNumber
 pub mod Places
 pub mod PawnNumberCases
-pub mod laws

@@ -4,7 +4,7 @@ use Rattle.rules.specs.declared.Piece.{Piece}
 use Rattle.rules.specs.Pawn.{inner}
 use Rattle.rules.specs.Rules.{Board, piece_of, pieces, apart, touching}
 use Rattle.rules.specs.Changed.{changed}
-use Rattle.rules.specs.laws.PawnLaws.{keeping}
+use Rattle.rules.specs.Changed.{keeping}
 
 -- "no other map is allowed, and demand 2's sameness here knows only this one and P9's exchange": the board reversed left
 -- to right, the colours exchanged, which "also turns the ranks round", both or neither

@@ -3,7 +3,7 @@ use Rattle.std.specs.Prelude.{Bool, cond, [], ◌∷◌, ℕ, ◌+◌, ◌/◌, 
 use Rattle.symmetry.specs.Symmetry.{mapped}
 use Rattle.rules.specs.Rules.{Board, piece_of}
 use Rattle.rules.specs.Changed.{swapped}
-use Rattle.rules.specs.laws.PawnLaws.{keeping}
+use Rattle.rules.specs.Changed.{keeping}
 use Rattle.pawn_numbers.specs.declared.PawnPlace.{PawnPlace}
 use Rattle.pawn_numbers.specs.declared.PawnNormal.{PawnNormal}
 use Rattle.pawn_numbers.specs.PawnNumber.{lone, flipped, pawn_flip, slot_square}

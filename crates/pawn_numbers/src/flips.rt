@@ -2,7 +2,7 @@
 ghost use Rattle.std.specs.Prelude.{◌≡◌};
 ghost use Rattle.symmetry.specs.Symmetry.{mapped, inverse};
 ghost use Rattle.rules.specs.Changed.{swapped};
-ghost use Rattle.rules.specs.laws.PawnLaws.{keeping};
+ghost use Rattle.rules.specs.Changed.{keeping};
 ghost use Rattle.pawn_numbers.specs.Places.{flip_bits, place_by, normal_of};
 
 use crate::{PawnNormal, PawnPlace};

@@ -3,4 +3,3 @@ pub mod TrueValue
 pub mod Classes
 pub mod Digits
 pub mod Tally
-pub mod laws

@@ -6,4 +6,3 @@ pub mod Over
 pub mod Pieces
 pub mod Maps
 pub mod Owned
-pub mod laws

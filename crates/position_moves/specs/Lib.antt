@@ -1,2 +1,1 @@
 pub mod InPosition
-pub mod laws

@@ -1,2 +1,1 @@
 pub mod Retracting
-pub mod laws

@@ -43,3 +43,7 @@ allows m x a = implies (pawn a) (upright m x)
 -- and that of every man on the board
 unfoldable pub fits : Symmetry → Bool → Board → Bool
 fits m x b = all (allows m x) b.men
+
+-- the maps that keep a pawn's direction, by the exchange of colours
+abbrev pub keeping : Bool → Bool → Symmetry
+keeping f x = record { files = f; ranks = x; swap = false }

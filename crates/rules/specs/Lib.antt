@@ -1,8 +1,7 @@
 pub mod Pawn
 pub mod Rules
-pub mod PawnCases
+pub mod Sides
 pub mod Changed
 pub mod Chess
 pub mod Reordered
 pub mod Taking
-pub mod laws

@@ -1,7 +1,7 @@
 -- Two men listed in the other order. Definitions only.
-use Rattle.std.specs.Prelude.{Bool, true, false, List, [], ◌∷◌}
+use Rattle.std.specs.Prelude.{Bool, true, false, List, [], ◌∷◌, T}
 use Rattle.rules.specs.declared.Piece.{Piece}
-use Rattle.rules.specs.Rules.{Board}
+use Rattle.rules.specs.Rules.{Board, legal}
 
 -- two men in the other order; any other list as it is
 unfoldable pub crossed : Bool → List Piece → List Piece
@@ -21,3 +21,8 @@ Few [] = Unit {0}
 Few (a ∷ []) = Unit {0}
 Few (a ∷ c ∷ []) = Unit {0}
 Few (a ∷ c ∷ d ∷ l) = ⊥
+
+-- legal, with two men at most
+pub record LegalFew (b : Board) : Type 0 where
+  pub legality : T (legal b)
+  pub few : Few b.men

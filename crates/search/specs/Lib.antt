@@ -1,4 +1,3 @@
 pub mod Tried
 pub mod Opinions
 pub mod TrueOpinion
-pub mod laws

@@ -5,4 +5,3 @@ pub mod PocketWords
 pub mod SetWords
 pub mod TypedReading
 pub mod StepWord
-pub mod laws

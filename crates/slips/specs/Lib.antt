@@ -1,4 +1,3 @@
 pub mod Slip
 pub mod Fits
 pub mod Appending
-pub mod laws

@@ -6,7 +6,7 @@ use Rattle.symmetry.specs.Symmetry.{mapped, exchange}
 use Rattle.numbering.specs.Kings.{pair_of}
 use Rattle.numbering.specs.KingMaps.{swapping}
 use Rattle.index.specs.Least.{flip_of, exchange_of}
-use Rattle.index.specs.laws.LeastLaws.{men_digits}
+use Rattle.index.specs.Least.{men_digits}
 use Rattle.successors.specs.declared.Frame.{Frame}
 
 unfoldable pub frame_for : ℕ → ℕ → ℕ → Frame

@@ -2,4 +2,3 @@ pub mod Framing
 pub mod Lone
 pub mod Successors
 pub mod Quiet
-pub mod laws

@@ -1,6 +1,6 @@
 // The number by its frame: made once, a frame serves all the moves of a man.
 ghost use Rattle.std.specs.Prelude.{◌≡◌, ◌<◌};
-ghost use Rattle.index.specs.laws.LeastLaws.{men_digits};
+ghost use Rattle.index.specs.Least.{men_digits};
 ghost use Rattle.successors.specs.Framing.{frame_for, chosen_digits, number_on};
 
 use super::Frame;

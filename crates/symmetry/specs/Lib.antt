@@ -1,2 +1,1 @@
 pub mod Symmetry
-pub mod laws

@@ -1,4 +1,3 @@
 pub mod Tables
 pub mod Lending
 pub mod Steps
-pub mod laws

@@ -6,4 +6,3 @@ pub mod Fifty
 pub mod Alike
 pub mod Verdict
 pub mod Judge
-pub mod laws

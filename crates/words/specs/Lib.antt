@@ -3,4 +3,3 @@ pub mod Reading
 pub mod HostGame
 pub mod Played
 pub mod Version
-pub mod laws

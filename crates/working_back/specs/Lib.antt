@@ -4,4 +4,3 @@ pub mod Back
 pub mod Spared
 pub mod Lines
 pub mod Bare
-pub mod laws

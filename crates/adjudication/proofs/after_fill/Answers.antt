@@ -1,6 +1,6 @@
 -- `adjudication::after_fill` meets its contract.
 use borrow.Author.Rules.{rules}
-use Rattle.adjudication.specs.laws.Laws.{after-greatest, after_none, after-refused}
+use Rattle.adjudication.proofs.laws.Laws.{after-greatest, after_none, after-refused}
 use Rattle.adjudication.proofs.after_fill.Goals as goal
 
 pub returns-in-Greatest : goal.returns-in-Greatest

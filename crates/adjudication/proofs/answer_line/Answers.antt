@@ -1,6 +1,6 @@
 -- `adjudication::answer_line` meets its contract.
 use borrow.Author.Rules.{rules}
-use Rattle.adjudication.specs.laws.Laws.{position-line, number-line, refused-line}
+use Rattle.adjudication.proofs.laws.Laws.{position-line, number-line, refused-line}
 use Rattle.adjudication.proofs.answer_line.Goals as goal
 
 pub shape_of-table : goal.shape_of-table

@@ -2,7 +2,7 @@
 use mathlib.Core.Path.{ap}
 use borrow.Author.Rules.{rules}
 use Rattle.rules.specs.declared.Piece.{Piece}
-use Rattle.adjudication.specs.laws.Laws.{refused-position, held-position, filled-position}
+use Rattle.adjudication.proofs.laws.Laws.{refused-position, held-position, filled-position}
 use Rattle.adjudication.proofs.look_up_line.Goals as goal
 
 pub returns-then-kind-held : goal.returns-then-kind-held

@@ -1,6 +1,6 @@
 -- `comparison::sledgewren_fill_every` meets its contract. The word of the answer.
 use borrow.Author.Rules.{rules}
-use Rattle.sledgewren.specs.laws.TableLaws.{filled-by}
+use Rattle.sledgewren.proofs.laws.TableLaws.{filled-by}
 use Rattle.comparison.proofs.sledgewren_fill_every.Goals as goal
 
 pub returns : goal.returns

@@ -1,6 +1,6 @@
 -- `fifty::at_count` meets its contract: each return by the tests that led there.
 use borrow.Author.Rules.{rules}
-use Rattle.fifty.specs.laws.MarkLaws.{kept-refused, refused-19, kept-counted}
+use Rattle.fifty.proofs.laws.MarkLaws.{kept-refused, refused-19, kept-counted}
 use Rattle.fifty.proofs.at_count.Goals as goal
 
 pub returns-then-is_refused : goal.returns-then-is_refused

@@ -1,6 +1,6 @@
 -- `fifty::is_pawnless` meets its contract.
 use borrow.Author.Rules.{rules}
-use Rattle.fifty.specs.laws.Pawnless.{free-by-slots}
+use Rattle.fifty.proofs.laws.Pawnless.{free-by-slots}
 use Rattle.fifty.proofs.is_pawnless.Goals as goal
 
 pub returns : goal.returns

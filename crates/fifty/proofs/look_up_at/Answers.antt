@@ -2,7 +2,7 @@
 use mathlib.Core.Path.{refl}
 use mathlib.Core.Bool.{true}
 use Rattle.fifty.specs.Marks.{look_up_at}
-use Rattle.fifty.specs.laws.MarkLaws.{marked-found}
+use Rattle.fifty.proofs.laws.MarkLaws.{marked-found}
 use Rattle.fifty.proofs.look_up_at.Goals as goal
 
 pub returns : goal.returns

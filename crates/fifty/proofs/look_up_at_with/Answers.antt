@@ -1,6 +1,6 @@
 -- `fifty::look_up_at_with` meets its contract.
 use Rattle.fifty.specs.Marks.{look_up_at_with}
-use Rattle.fifty.specs.laws.MarkLaws.{marked-found}
+use Rattle.fifty.proofs.laws.MarkLaws.{marked-found}
 use Rattle.fifty.proofs.look_up_at_with.Goals as goal
 
 pub returns : goal.returns

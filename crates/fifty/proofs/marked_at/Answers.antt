@@ -1,5 +1,5 @@
 -- `fifty::marked_at` meets its contract.
-use Rattle.fifty.specs.laws.MarkLaws.{marked-with}
+use Rattle.fifty.proofs.laws.MarkLaws.{marked-with}
 use Rattle.fifty.proofs.marked_at.Goals as goal
 
 pub returns : goal.returns

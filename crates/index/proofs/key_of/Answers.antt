@@ -1,7 +1,7 @@
 -- `index::key_of` meets its contract: the kings' digits, and then a digit for each man. Assumes nothing.
 use native.Mathlib.Omega.{arith}
 use borrow.Author.Rules.{rules}
-use Rattle.index.specs.laws.AnswerLaws.{by_slots}
+use Rattle.index.proofs.laws.AnswerLaws.{by_slots}
 use Rattle.index.proofs.key_of.Goals as goal
 
 pub with_man-requires-2 : goal.with_man-requires-2

@@ -2,8 +2,8 @@
 use mathlib.Core.Path.{ap, sym, ◌∙◌}
 use borrow.Author.Rules.{rules}
 use Rattle.index.specs.declared.NumberAnswer.{NumberAnswer}
-use Rattle.index.specs.laws.AnswerLaws.{numbered_is, numbered-refused}
-use Rattle.index.specs.laws.AloneLaws.{placing-with, number-alone}
+use Rattle.index.proofs.laws.AnswerLaws.{numbered_is, numbered-refused}
+use Rattle.index.proofs.laws.AloneLaws.{placing-with, number-alone}
 use Rattle.index.proofs.number.Goals as goal
 
 pub returns-then-refusal-ne0 : goal.returns-then-refusal-ne0

@@ -1,7 +1,7 @@
 -- `index::position_of` meets its contract: one man is an instance.
 use mathlib.Core.Path.{◌∙◌}
 use borrow.Author.Rules.{rules}
-use Rattle.index.specs.laws.AloneLaws.{placed-alone}
+use Rattle.index.proofs.laws.AloneLaws.{placed-alone}
 use Rattle.index.proofs.position_of.Goals as goal
 
 pub returns : goal.returns

@@ -1,6 +1,6 @@
 -- `index::with_man` meets its contract.
 use native.Mathlib.Omega.{arith}
-use Rattle.index.specs.laws.AnswerLaws.{no_digit, one-digit}
+use Rattle.index.proofs.laws.AnswerLaws.{no_digit, one-digit}
 use borrow.Author.Rules.{rules}
 use Rattle.index.proofs.with_man.Goals as goal
 

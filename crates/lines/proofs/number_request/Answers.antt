@@ -2,7 +2,7 @@
 use mathlib.Core.Path.{sym, ◌∙◌}
 use borrow.Author.Rules.{rules}
 use borrow.Author.Tests.{not-true, not-false}
-use Rattle.lines.specs.laws.NumberLines.{wrong-check, right-man, wrong-man}
+use Rattle.lines.proofs.laws.NumberLines.{wrong-check, right-man, wrong-man}
 use Rattle.lines.proofs.number_request.Goals as goal
 
 pub returns-then-not-is_right : goal.returns-then-not-is_right

@@ -2,7 +2,7 @@
 use mathlib.Core.Path.{sym, ap, ◌∙◌}
 use Rattle.lines.specs.declared.Request.{Request}
 use Rattle.lines.specs.Grammar.{request_of}
-use Rattle.lines.specs.laws.Shapes.{shape-length}
+use Rattle.lines.proofs.laws.Shapes.{shape-length}
 use borrow.Author.Rules.{rules}
 use Rattle.lines.proofs.parse.Goals as goal
 

@@ -1,6 +1,6 @@
 -- `look_up::carried_back` meets its contract: both squares of the move are carried back.
 use borrow.Author.Rules.{rules}
-use Rattle.look_up.specs.laws.Laws.{back-on-the-board}
+use Rattle.look_up.proofs.laws.Laws.{back-on-the-board}
 use Rattle.look_up.proofs.carried_back.Goals as goal
 
 pub returns-in-Play : goal.returns-in-Play

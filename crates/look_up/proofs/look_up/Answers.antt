@@ -1,6 +1,6 @@
 -- `look_up::look_up` meets its contract: one man is an instance, two are refused, and so is a pawn.
 use borrow.Author.Rules.{rules}
-use Rattle.look_up.specs.laws.Laws.{two-refused, pawn-alone-refused, one-answered}
+use Rattle.look_up.proofs.laws.Laws.{two-refused, pawn-alone-refused, one-answered}
 use Rattle.look_up.proofs.look_up.Goals as goal
 
 pub returns-then-man-eq-PAWN : goal.returns-then-man-eq-PAWN

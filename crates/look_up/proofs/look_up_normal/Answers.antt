@@ -1,8 +1,8 @@
 -- `look_up::look_up_normal` meets its contract.
 use native.Mathlib.Omega.{arith}
 use borrow.Author.Tests.{not-true, not-false}
-use Rattle.look_up.specs.laws.Checked.{check-stands, none-stands}
-use Rattle.look_up.specs.laws.Laws.{of-pieces, check-of, refused-standing, refused-length, told-answer, fit_of}
+use Rattle.look_up.proofs.laws.Checked.{check-stands, none-stands}
+use Rattle.look_up.proofs.laws.Laws.{of-pieces, check-of, refused-standing, refused-length, told-answer, fit_of}
 use Rattle.look_up.proofs.look_up_normal.Goals as goal
 
 pub returns-then-checked : goal.returns-then-checked

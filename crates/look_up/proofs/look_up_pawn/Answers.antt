@@ -4,11 +4,11 @@ use Prim.Native.Nat.{ℕ}
 use native.Mathlib.Omega.{arith}
 use borrow.Author.Tests.{not-true, not-false}
 use Rattle.rules.specs.Rules.{Board, in_check}
-use Rattle.index.specs.laws.PawnLaws.{pawn-place-told}
+use Rattle.index.proofs.laws.PawnLaws.{pawn-place-told}
 use Rattle.successors.specs.Successors.{verdict_of}
-use Rattle.deciding.specs.laws.PawnVerdicts.{for-pawn, own-byte}
-use Rattle.look_up.specs.laws.Checked.{placing-stands, check-stands, none-stands}
-use Rattle.look_up.specs.laws.Laws.{of-pawn, refused-standing, refused-length, told-answer, fit_of}
+use Rattle.deciding.proofs.laws.PawnVerdicts.{for-pawn, own-byte}
+use Rattle.look_up.proofs.laws.Checked.{placing-stands, check-stands, none-stands}
+use Rattle.look_up.proofs.laws.Laws.{of-pawn, refused-standing, refused-length, told-answer, fit_of}
 use Rattle.look_up.proofs.look_up_pawn.Goals as goal
 
 pub returns-then-refusal-ne0 : goal.returns-then-refusal-ne0

@@ -1,8 +1,8 @@
 -- `look_up::look_up_with` meets its contract: with a pawn, refused, or of pieces.
 use mathlib.Core.Path.{sym, ap, ◌∙◌}
 use Rattle.rules.specs.declared.Piece.{Piece}
-use Rattle.look_up.specs.laws.Checked.{placing-stands}
-use Rattle.look_up.specs.laws.Laws.{refused-standing}
+use Rattle.look_up.proofs.laws.Checked.{placing-stands}
+use Rattle.look_up.proofs.laws.Laws.{refused-standing}
 use Rattle.look_up.proofs.look_up_with.Goals as goal
 
 pub returns-then-man-eq-PAWN : goal.returns-then-man-eq-PAWN

@@ -1,7 +1,7 @@
 -- `move_bytes::write_move` meets its contract.
 use native.Mathlib.Omega.{arith}
 use lib.ListN.{length-set}
-use Rattle.move_bytes.specs.laws.StoreLaws.{four_bytes}
+use Rattle.move_bytes.proofs.laws.StoreLaws.{four_bytes}
 use borrow.Author.Rules.{rules}
 use Rattle.move_bytes.proofs.write_move.Goals as goal
 

@@ -7,13 +7,13 @@ use native.Mathlib.Omega.{arith}
 use lib.Dec.{eqb}
 use lib.ListN.{length}
 use Rattle.board.specs.Sets.{has, members, set_of}
-use Rattle.board.specs.laws.SetLaws.{set_of-lt}
-use Rattle.board.specs.laws.LowestLaws.{Lowest, lowest-of}
+use Rattle.board.proofs.laws.SetLaws.{set_of-lt}
+use Rattle.board.proofs.laws.LowestLaws.{Lowest, lowest-of}
 use Rattle.rules.specs.Rules.{moves_from, all_moves}
 use Rattle.position.specs.Keyed.{board_of}
-use Rattle.move_list.specs.laws.Served.{few-moves}
-use Rattle.move_list.specs.laws.TurnLaws.{by-movers, movers-end}
-use Rattle.move_bytes.specs.laws.StoreLaws.{Left, left-all, left_end, mover-room, mover-next}
+use Rattle.move_list.proofs.laws.Served.{few-moves}
+use Rattle.move_list.proofs.laws.TurnLaws.{by-movers, movers-end}
+use Rattle.move_bytes.proofs.laws.StoreLaws.{Left, left-all, left_end, mover-room, mover-next}
 use Rattle.move_bytes.proofs.write_moves.Given as goal
 
 abbrev pub invariant-loop-rest : goal.invariant-loop-rest

@@ -4,11 +4,11 @@ use Prim.Native.Nat.{◌+◌, ◌^◌, ◌≤◌, ◌<◌}
 use native.Mathlib.Omega.{arith}
 use lib.ListN.{length}
 use Rattle.board.specs.Sets.{members}
-use Rattle.board.specs.laws.LowestLaws.{Lowest, lowest-of}
+use Rattle.board.proofs.laws.LowestLaws.{Lowest, lowest-of}
 use Rattle.move_list.specs.Lists.{room}
 use Rattle.move_list.specs.ListLaws.{targets_moves}
-use Rattle.move_list.specs.laws.TargetLaws.{targets-end}
-use Rattle.move_bytes.specs.laws.StoreLaws.{Left, left-all, left_end, promotes-room, promotes-next, plain-room, plain-next}
+use Rattle.move_list.proofs.laws.TargetLaws.{targets-end}
+use Rattle.move_bytes.proofs.laws.StoreLaws.{Left, left-all, left_end, promotes-room, promotes-next, plain-room, plain-next}
 use Rattle.move_bytes.proofs.write_targets.Goals as goal
 
 pub loop-rest-init : goal.loop-rest-init

@@ -2,7 +2,7 @@
 use mathlib.Core.Path.{sym}
 use lib.ListN.{get_or-eq_default}
 use borrow.Author.Rules.{rules}
-use Rattle.constants.specs.laws.MatchLaws.{past}
+use Rattle.constants.proofs.laws.MatchLaws.{past}
 use Rattle.packed_pairs.specs.Packed.{eight_blacks}
 use Rattle.packed_pairs.proofs.eight_blacks.Goals as goal
 

@@ -2,7 +2,7 @@
 use mathlib.Core.Path.{sym}
 use lib.ListN.{get_or-eq_default}
 use borrow.Author.Rules.{rules}
-use Rattle.constants.specs.laws.MatchLaws.{past}
+use Rattle.constants.proofs.laws.MatchLaws.{past}
 use Rattle.packed_pairs.specs.Packed.{four_pairs}
 use Rattle.packed_pairs.proofs.four_pairs.Goals as goal
 

@@ -1,5 +1,5 @@
 -- `playing::closed_up` meets its contract: with a first man nothing changes.
-use Rattle.playing.specs.laws.PlayLaws.{closes, stays_closed}
+use Rattle.playing.proofs.laws.PlayLaws.{closes, stays_closed}
 use borrow.Author.Rules.{rules}
 use Rattle.playing.proofs.closed_up.Goals as goal
 

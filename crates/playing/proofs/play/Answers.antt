@@ -1,7 +1,7 @@
 -- `playing::play` meets its contract: refused, not among the targets, misnamed, or made and closed up.
 use borrow.Author.Rules.{rules}
 use borrow.Author.Tests.{not-true, not-false}
-use Rattle.playing.specs.laws.PlayLaws.{refused-play, illegal-play, unnamed-play, legal-play}
+use Rattle.playing.proofs.laws.PlayLaws.{refused-play, illegal-play, unnamed-play, legal-play}
 use Rattle.playing.proofs.play.Goals as goal
 
 pub returns-then-refusal-ne0 : goal.returns-then-refusal-ne0

@@ -1,8 +1,8 @@
 -- `slips::answer_slip` meets its contract, arm by arm.
 use Rattle.slips.specs.Slip.{answer_text, slip_of, refused_slip}
-use Rattle.slips.specs.laws.Appending.{then, from}
-use Rattle.slips.specs.laws.Padding.{finished}
-use Rattle.slips.specs.laws.Lengths.{answer-line}
+use Rattle.slips.proofs.laws.Appending.{then, from}
+use Rattle.slips.proofs.laws.Padding.{finished}
+use Rattle.slips.proofs.laws.Lengths.{answer-line}
 use Rattle.answers.specs.declared.Answer.{Answer}
 use borrow.Author.Rules.{rules}
 use Rattle.slips.proofs.answer_slip.Goals as goal

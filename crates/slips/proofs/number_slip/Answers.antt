@@ -1,6 +1,6 @@
 -- `slips::number_slip` meets its contract, part by part.
 use Rattle.slips.specs.Slip.{word_and_number}
-use Rattle.slips.specs.laws.Appending.{then, from}
+use Rattle.slips.proofs.laws.Appending.{then, from}
 use borrow.Author.Rules.{rules}
 use Rattle.slips.proofs.number_slip.Goals as goal
 

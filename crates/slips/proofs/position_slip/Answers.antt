@@ -1,8 +1,8 @@
 -- `slips::position_slip` meets its contract, part by part.
 use Rattle.slips.specs.Slip.{square_name, gapped, placed_text, placed_slip}
-use Rattle.slips.specs.laws.Appending.{first_byte, then, gap_same}
-use Rattle.slips.specs.laws.Padding.{finished}
-use Rattle.slips.specs.laws.Lengths.{placed-line}
+use Rattle.slips.proofs.laws.Appending.{first_byte, then, gap_same}
+use Rattle.slips.proofs.laws.Padding.{finished}
+use Rattle.slips.proofs.laws.Lengths.{placed-line}
 use Rattle.index.specs.declared.Placed.{Placed}
 use borrow.Author.Rules.{rules}
 use Rattle.slips.proofs.position_slip.Goals as goal

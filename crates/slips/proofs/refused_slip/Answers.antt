@@ -1,7 +1,7 @@
 -- `slips::refused_slip` meets its contract.
 use Rattle.slips.specs.Slip.{refused_slip}
-use Rattle.slips.specs.laws.Padding.{finished}
-use Rattle.slips.specs.laws.Lengths.{refused-line}
+use Rattle.slips.proofs.laws.Padding.{finished}
+use Rattle.slips.proofs.laws.Lengths.{refused-line}
 use borrow.Author.Rules.{rules}
 use Rattle.slips.proofs.refused_slip.Goals as goal
 

@@ -1,7 +1,7 @@
 -- `slips::with_advice` meets its contract: the move's squares and mark, or nothing.
 use Rattle.slips.specs.Slip.{advice_text}
 use Rattle.slips.specs.Appending.{appended}
-use Rattle.slips.specs.laws.Appending.{then}
+use Rattle.slips.proofs.laws.Appending.{then}
 use borrow.Author.Rules.{rules}
 use Rattle.slips.proofs.with_advice.Goals as goal
 

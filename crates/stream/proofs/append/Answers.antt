@@ -2,7 +2,7 @@
 use mathlib.Core.Path.{sym}
 use native.Mathlib.Omega.{arith}
 use lib.Seq.{length-take-le}
-use Rattle.stream.specs.laws.Laws.{put_whole}
+use Rattle.stream.proofs.laws.Laws.{put_whole}
 use borrow.Author.Rules.{rules}
 use Rattle.stream.proofs.append.Goals as goal
 

@@ -1,5 +1,5 @@
 -- `stream::close` meets its contract.
-use Rattle.stream.specs.laws.Laws.{closes-none, closes-line}
+use Rattle.stream.proofs.laws.Laws.{closes-none, closes-line}
 use borrow.Author.Rules.{rules}
 use Rattle.stream.proofs.close.Goals as goal
 

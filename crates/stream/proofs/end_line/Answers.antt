@@ -1,5 +1,5 @@
 -- `stream::end_line` meets its contract.
-use Rattle.stream.specs.laws.Laws.{line-answered}
+use Rattle.stream.proofs.laws.Laws.{line-answered}
 use borrow.Author.Rules.{rules}
 use Rattle.stream.proofs.end_line.Goals as goal
 

@@ -1,7 +1,7 @@
 -- `stream::reply_to` meets its contract: it takes no more of the line than there is.
 use native.Mathlib.Omega.{arith}
 use lib.Seq.{length-take-le}
-use Rattle.stream.specs.laws.Laws.{reply-whole}
+use Rattle.stream.proofs.laws.Laws.{reply-whole}
 use borrow.Author.Rules.{rules}
 use Rattle.stream.proofs.reply_to.Goals as goal
 

@@ -5,7 +5,7 @@ use native.Mathlib.Omega.{arith}
 use lib.ListN.{length, drop}
 use borrow.Author.Rules.{rules}
 use Rattle.stream.specs.Keeping.{kept, byte_taken, all_taken}
-use Rattle.stream.specs.laws.Laws.{next-byte, no_byte}
+use Rattle.stream.proofs.laws.Laws.{next-byte, no_byte}
 use Rattle.stream.proofs.take_all.Goals as goal
 
 pub loop-i-init : goal.loop-i-init

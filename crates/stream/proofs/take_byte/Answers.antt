@@ -1,5 +1,5 @@
 -- `stream::take_byte` meets its contract.
-use Rattle.stream.specs.laws.Laws.{takes-newline, takes-other}
+use Rattle.stream.proofs.laws.Laws.{takes-newline, takes-other}
 use borrow.Author.Rules.{rules}
 use Rattle.stream.proofs.take_byte.Goals as goal
 

@@ -1,5 +1,5 @@
 -- `stream::with_byte` meets its contract.
-use Rattle.stream.specs.laws.Laws.{byte-kept, byte-dropped}
+use Rattle.stream.proofs.laws.Laws.{byte-kept, byte-dropped}
 use borrow.Author.Rules.{rules}
 use Rattle.stream.proofs.with_byte.Goals as goal
 

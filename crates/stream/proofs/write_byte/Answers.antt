@@ -1,5 +1,5 @@
 -- `stream::write_byte` meets its contract.
-use Rattle.stream.specs.laws.Laws.{put_full, put-room}
+use Rattle.stream.proofs.laws.Laws.{put_full, put-room}
 use borrow.Author.Rules.{rules}
 use Rattle.stream.proofs.write_byte.Goals as goal
 

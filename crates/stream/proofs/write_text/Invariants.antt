@@ -5,7 +5,7 @@ use native.Mathlib.Omega.{arith}
 use lib.ListN.{length, drop}
 use borrow.Author.Rules.{rules}
 use Rattle.stream.specs.Keeping.{sheet, put, put_all}
-use Rattle.stream.specs.laws.Laws.{next-byte, no_byte}
+use Rattle.stream.proofs.laws.Laws.{next-byte, no_byte}
 use Rattle.stream.proofs.write_text.Given as goal
 
 abbrev pub invariant-loop-i : goal.invariant-loop-i

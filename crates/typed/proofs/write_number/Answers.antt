@@ -1,7 +1,7 @@
 -- `typed::write_number` meets its contract, arm by arm.
 use mathlib.Core.Path.{sym, ◌∙◌}
 use borrow.Author.Rules.{rules}
-use Rattle.typed.specs.laws.WritingLaws.{writes_at, writes-refused}
+use Rattle.typed.proofs.laws.WritingLaws.{writes_at, writes-refused}
 use Rattle.typed.proofs.write_number.Goals as goal
 
 pub returns-in-At : goal.returns-in-At

@@ -1,9 +1,9 @@
 use mathlib.Core.Path.{sym, ◌∙◌}
 use native.Mathlib.Omega.{arith}
 use borrow.Author.Rules.{rules}
-use Rattle.board.specs.laws.SetLaws.{has-none, set_is}
-use Rattle.board.specs.laws.ReachLaws.{reaches-other}
-use Rattle.board.specs.laws.EmptyLaws.{rook-lines, bishop-lines, knight-steps, king-steps, queen-targets}
+use Rattle.board.proofs.laws.SetLaws.{has-none, set_is}
+use Rattle.board.proofs.laws.ReachLaws.{reaches-other}
+use Rattle.board.proofs.laws.EmptyLaws.{rook-lines, bishop-lines, knight-steps, king-steps, queen-targets}
 use Rattle.board.proofs.empty_board.on_empty.Goals as goal
 
 pub returns-then-kind-eq0 : goal.returns-then-kind-eq0

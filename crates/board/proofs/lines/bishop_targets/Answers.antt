@@ -3,8 +3,8 @@ use native.Mathlib.Omega.{arith}
 use borrow.Author.Rules.{rules}
 use Rattle.board.specs.Reach.{reaches}
 use Rattle.constants.specs.EmptyBoard.{bishop_lines}
-use Rattle.board.specs.laws.SetLaws.{set_is}
-use Rattle.board.specs.laws.EmptyLaws.{bishop-lines, listed-square, targets-clear}
+use Rattle.board.proofs.laws.SetLaws.{set_is}
+use Rattle.board.proofs.laws.EmptyLaws.{bishop-lines, listed-square, targets-clear}
 use Rattle.board.proofs.lines.bishop_targets.Goals as goal
 
 pub returns-then-full-occ-eq0 : goal.returns-then-full-occ-eq0

@@ -8,11 +8,11 @@ use Rattle.finite.specs.Numbers.{numbers, any-end}
 use Rattle.board.specs.Reach.{line_of, stepped}
 use Rattle.board.specs.Sets.{has}
 use Rattle.board.specs.SetLaws.{bit}
-use Rattle.board.specs.laws.SetLaws.{has-none}
-use Rattle.board.specs.laws.SweepLaws.{sweep-end, sweep-line}
+use Rattle.board.proofs.laws.SetLaws.{has-none}
+use Rattle.board.proofs.laws.SweepLaws.{sweep-end, sweep-line}
 use Rattle.board.specs.StepLaws.{IsStep}
-use Rattle.board.specs.laws.StepLaws.{step_small, is-stepped}
-use Rattle.board.specs.laws.WalkBits.{left, nearer, free-board, gathers-on, gathers-last}
+use Rattle.board.proofs.laws.StepLaws.{step_small, is-stepped}
+use Rattle.board.proofs.laws.WalkBits.{left, nearer, free-board, gathers-on, gathers-last}
 use Rattle.board.proofs.lines.lines.Invariants.{ways, Lines, Walked}
 use Rattle.board.proofs.lines.lines.Goals as goal
 

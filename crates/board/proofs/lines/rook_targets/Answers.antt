@@ -3,8 +3,8 @@ use native.Mathlib.Omega.{arith}
 use borrow.Author.Rules.{rules}
 use Rattle.board.specs.Reach.{reaches}
 use Rattle.constants.specs.EmptyBoard.{rook_lines}
-use Rattle.board.specs.laws.SetLaws.{set_is}
-use Rattle.board.specs.laws.EmptyLaws.{rook-lines, listed-square, targets-clear}
+use Rattle.board.proofs.laws.SetLaws.{set_is}
+use Rattle.board.proofs.laws.EmptyLaws.{rook-lines, listed-square, targets-clear}
 use Rattle.board.proofs.lines.rook_targets.Goals as goal
 
 pub returns-then-full-occ-eq0 : goal.returns-then-full-occ-eq0

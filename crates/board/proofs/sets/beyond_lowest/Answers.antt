@@ -4,8 +4,8 @@ use Prim.Native.Nat.{ℕ, ◌-◌}
 use native.Mathlib.Omega.{arith}
 use lib.Dec.{eqb}
 use Rattle.board.specs.Sets.{has, lowest_square}
-use Rattle.board.specs.laws.SetLaws.{has-none, set_is}
-use Rattle.board.specs.laws.LowestLaws.{common-beyond}
+use Rattle.board.proofs.laws.SetLaws.{has-none, set_is}
+use Rattle.board.proofs.laws.LowestLaws.{common-beyond}
 use borrow.Author.Rules.{rules}
 use Rattle.board.proofs.sets.beyond_lowest.Goals as goal
 

@@ -1,5 +1,5 @@
 use mathlib.Core.Path.{sym}
-use Rattle.board.specs.laws.SetLaws.{has-off}
+use Rattle.board.proofs.laws.SetLaws.{has-off}
 use borrow.Author.Rules.{rules}
 use Rattle.board.proofs.sets.has.Goals as goal
 

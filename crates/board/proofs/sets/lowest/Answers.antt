@@ -1,7 +1,7 @@
 use native.Mathlib.Nat.{lt_of_le_of_lt}
 use lib.Count.{trailing_le}
 use lib.Dec.{lit<}
-use Rattle.board.specs.laws.LowestLaws.{trailing-lowest}
+use Rattle.board.proofs.laws.LowestLaws.{trailing-lowest}
 use Rattle.board.proofs.sets.lowest.Goals as goal
 
 pub overflow_cast-result : goal.overflow_cast-result

@@ -4,7 +4,7 @@ use Prim.Native.Nat.{◌-◌, ◌^◌}
 use native.Mathlib.Omega.{arith}
 use lib.Bits.{and_lt}
 use Rattle.board.specs.Sets.{has}
-use Rattle.board.specs.laws.SetLaws.{has-and, has-not, set_is}
+use Rattle.board.proofs.laws.SetLaws.{has-and, has-not, set_is}
 use Rattle.board.proofs.sets.minus.Goals as goal
 
 pub returns : goal.returns

@@ -2,7 +2,7 @@ use mathlib.Core.Path.{sym, ◌∙◌}
 use native.Mathlib.Omega.{arith}
 use borrow.Author.Tests.{ne_eqb}
 use Rattle.board.specs.SetLaws.{bit}
-use Rattle.board.specs.laws.SetLaws.{has-none, has-bit, set_is}
+use Rattle.board.proofs.laws.SetLaws.{has-none, has-bit, set_is}
 use borrow.Author.Rules.{rules}
 use Rattle.board.proofs.sets.one.Goals as goal
 

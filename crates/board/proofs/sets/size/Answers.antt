@@ -1,4 +1,4 @@
-use Rattle.board.specs.laws.LowestLaws.{ones-members}
+use Rattle.board.proofs.laws.LowestLaws.{ones-members}
 use Rattle.board.proofs.sets.size.Goals as goal
 
 pub returns : goal.returns

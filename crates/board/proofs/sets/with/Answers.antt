@@ -2,7 +2,7 @@ use mathlib.Core.Path.{ap, ◌∙◌}
 use mathlib.Core.Bool.{◌||◌}
 use lib.Bits.{or_lt}
 use Rattle.board.specs.Sets.{has}
-use Rattle.board.specs.laws.SetLaws.{has-or, set_is, set-has}
+use Rattle.board.proofs.laws.SetLaws.{has-or, set_is, set-has}
 use borrow.Author.Rules.{rules}
 use Rattle.board.proofs.sets.with.Goals as goal
 

@@ -2,7 +2,7 @@ use mathlib.Core.Path.{◌≡◌}
 use Prim.Native.Nat.{◌%◌}
 use native.Mathlib.Omega.{arith}
 use lib.Dec.{lit<}
-use Rattle.board.specs.laws.StepLaws.{ends-are}
+use Rattle.board.proofs.laws.StepLaws.{ends-are}
 use Rattle.board.proofs.steps.ends_of.Goals as goal
 
 pub returns-in-0 : goal.returns-in-0

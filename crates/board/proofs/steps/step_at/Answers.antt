@@ -1,5 +1,5 @@
 use borrow.Author.Rules.{rules}
-use Rattle.board.specs.laws.StepLaws.{step_is}
+use Rattle.board.proofs.laws.StepLaws.{step_is}
 use Rattle.board.proofs.steps.step_at.Goals as goal
 
 pub returns : goal.returns

@@ -1,6 +1,6 @@
 use mathlib.Core.Path.{sym, ◌∙◌}
 use native.Mathlib.Omega.{arith}
-use Rattle.board.specs.laws.SquareLaws.{shift-out, shift-at}
+use Rattle.board.proofs.laws.SquareLaws.{shift-out, shift-at}
 use borrow.Author.Rules.{rules}
 use Rattle.board.proofs.steps.step_to.Goals as goal
 

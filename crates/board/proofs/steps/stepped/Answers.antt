@@ -1,7 +1,7 @@
 use borrow.Author.Rules.{rules}
 use borrow.Author.Tests.{lt-ltb, le-ltb}
 use Rattle.board.specs.StepLaws.{step_bits}
-use Rattle.board.specs.laws.StepLaws.{step-bit}
+use Rattle.board.proofs.laws.StepLaws.{step-bit}
 use Rattle.board.proofs.steps.stepped.Goals as goal
 
 pub returns-then-step-lt18 : goal.returns-then-step-lt18

@@ -4,9 +4,9 @@ use lib.Dec.{lit<}
 use borrow.Author.Rules.{rules}
 use borrow.Author.Tests.{not-true, not-false}
 use Rattle.board.specs.EmptyBoard.{nothing}
-use Rattle.board.specs.laws.ReachLaws.{reaches-has, near_same}
-use Rattle.board.specs.laws.WalkAttack.{attacks-by-walk}
-use Rattle.board.specs.laws.EmptyLaws.{never}
+use Rattle.board.proofs.laws.ReachLaws.{reaches-has, near_same}
+use Rattle.board.proofs.laws.WalkAttack.{attacks-by-walk}
+use Rattle.board.proofs.laws.EmptyLaws.{never}
 use Rattle.board.proofs.walks.attacks.Goals as goal
 
 pub returns-then-not-has : goal.returns-then-not-has

@@ -8,9 +8,9 @@ use borrow.Author.Tests.{eq-eqb, ne_eqb}
 use Rattle.finite.specs.Members.{any}
 use Rattle.finite.specs.Numbers.{numbers, any-end, any-first}
 use Rattle.board.specs.Sets.{has, set_of}
-use Rattle.board.specs.laws.SetLaws.{set-has}
+use Rattle.board.proofs.laws.SetLaws.{set-has}
 use Rattle.board.specs.Walk.{walk_of, met_at, with_target, meets_first}
-use Rattle.board.specs.laws.WalkLaws.{walk_same}
+use Rattle.board.proofs.laws.WalkLaws.{walk_same}
 use Rattle.board.specs.declared.Met.{Met}
 use Rattle.board.proofs.walks.meets.Given as goal
 

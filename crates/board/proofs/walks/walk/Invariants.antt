@@ -6,10 +6,10 @@ use borrow.Author.Rules.{rules}
 use Rattle.board.specs.Reach.{stepped}
 use Rattle.board.specs.Sets.{has}
 use Rattle.board.specs.SetLaws.{bit}
-use Rattle.board.specs.laws.StepLaws.{step_small, is-stepped}
+use Rattle.board.proofs.laws.StepLaws.{step_small, is-stepped}
 use Rattle.board.specs.Walk.{walk_of}
-use Rattle.board.specs.laws.WalkLaws.{walk-off, walk-nowhere}
-use Rattle.board.specs.laws.WalkBits.{left, on-board, nearer, meets-edge, meets-piece, goes_on}
+use Rattle.board.proofs.laws.WalkLaws.{walk-off, walk-nowhere}
+use Rattle.board.proofs.laws.WalkBits.{left, on-board, nearer, meets-edge, meets-piece, goes_on}
 use Rattle.board.specs.declared.Met.{Met}
 use Rattle.board.proofs.walks.walk.Given as goal
 

@@ -3,7 +3,7 @@ use mathlib.Core.Path.{refl}
 use mathlib.Core.Bool.{true}
 use borrow.Author.Tests.{not-true, not-false}
 use Rattle.four_men.specs.Lending.{lent}
-use Rattle.checking.specs.laws.Laws.{refused-ending, refused-lengths, their-table, found-last, one-promised}
+use Rattle.checking.proofs.laws.Laws.{refused-ending, refused-lengths, their-table, found-last, one-promised}
 use Rattle.checking.proofs.checker.check.Goals as goal
 
 pub returns-then-not-is_given : goal.returns-then-not-is_given

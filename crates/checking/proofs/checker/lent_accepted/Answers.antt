@@ -1,8 +1,8 @@
 -- `checking::lent_accepted` meets its contract.
 use borrow.Author.Rules.{rules}
 use borrow.Author.Tests.{not-true, not-false}
-use Rattle.checking.specs.laws.Laws.{first-refused, second-decides}
-use Rattle.checking.specs.laws.Parts.{parts-lent}
+use Rattle.checking.proofs.laws.Laws.{first-refused, second-decides}
+use Rattle.checking.proofs.laws.Parts.{parts-lent}
 use Rattle.checking.proofs.checker.lent_accepted.Goals as goal
 
 pub returns-then-not-is_accepted : goal.returns-then-not-is_accepted

@@ -10,9 +10,9 @@ use Rattle.numbering.specs.Material.{known, size_of}
 use Rattle.position.specs.Posed.{material_for}
 use Rattle.four_men.specs.Lending.{lent}
 use Rattle.deciding.specs.Rows.{RowOf}
-use Rattle.deciding.specs.laws.Rows.{row_next}
+use Rattle.deciding.proofs.laws.Rows.{row_next}
 use Rattle.checking.specs.Right.{Numbers, RightBelow}
-use Rattle.checking.specs.laws.Laws.{right-more, found-wrong, found_right, size-most}
+use Rattle.checking.proofs.laws.Laws.{right-more, found-wrong, found_right, size-most}
 use Rattle.checking.proofs.checker.lowest_wrong.Goals as goal
 
 pub loop-n-init : goal.loop-n-init

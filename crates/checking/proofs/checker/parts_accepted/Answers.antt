@@ -1,5 +1,5 @@
 -- `checking::parts_accepted` meets its contract.
-use Rattle.checking.specs.laws.Parts.{parts-by}
+use Rattle.checking.proofs.laws.Parts.{parts-by}
 use Rattle.checking.proofs.checker.parts_accepted.Goals as goal
 
 pub returns : goal.returns

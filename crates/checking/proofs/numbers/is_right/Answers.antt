@@ -1,6 +1,6 @@
 -- `checking::is_right` meets its contract: a legal position's byte by its successors, any other 0.
 use borrow.Author.Rules.{rules}
-use Rattle.checking.specs.laws.Laws.{legal-there, none-there, zero_right, position-right}
+use Rattle.checking.proofs.laws.Laws.{legal-there, none-there, zero_right, position-right}
 use Rattle.checking.proofs.numbers.is_right.Goals as goal
 
 pub returns-in-Legal : goal.returns-in-Legal

@@ -3,7 +3,7 @@ use mathlib.Core.Path.{sym}
 use lib.ListN.{get_or-eq_default}
 use borrow.Author.Rules.{rules}
 use Rattle.constants.specs.EmptyBoard.{bishop_lines}
-use Rattle.constants.specs.laws.MatchLaws.{past}
+use Rattle.constants.proofs.laws.MatchLaws.{past}
 use Rattle.constants.proofs.empty_board.bishop_lines.Goals as goal
 
 pub returns-in_default : goal.returns-in_default

@@ -1,7 +1,7 @@
 -- `numbers::is_legal_number` meets its contract.
 use borrow.Author.Rules.{rules}
 use mathlib.Core.Path.{sym}
-use Rattle.deciding.specs.laws.StandingLaws.{told-legal, told-nothing}
+use Rattle.deciding.proofs.laws.StandingLaws.{told-legal, told-nothing}
 use Rattle.deciding.proofs.numbers.is_legal_number.Goals as goal
 
 pub returns-in-Legal : goal.returns-in-Legal

@@ -3,9 +3,9 @@ use mathlib.Core.Path.{sym, ◌∙◌}
 use borrow.Author.Rules.{rules}
 use borrow.Author.Tests.{not-true, not-false}
 use Rattle.finite.specs.Truth.{of-true}
-use Rattle.index.specs.laws.CompleteLaws.{used-complete}
-use Rattle.successors.specs.laws.NumberLaws.{found-unused, found-illegal, found-legal, checked-other}
-use Rattle.deciding.specs.laws.StandingLaws.{not-checked}
+use Rattle.index.proofs.laws.CompleteLaws.{used-complete}
+use Rattle.successors.proofs.laws.NumberLaws.{found-unused, found-illegal, found-legal, checked-other}
+use Rattle.deciding.proofs.laws.StandingLaws.{not-checked}
 use Rattle.deciding.proofs.numbers.is_legal_on.Goals as goal
 
 pub returns-then-not-is_used : goal.returns-then-not-is_used

@@ -1,7 +1,7 @@
 -- `numbers::legal_at` meets its contract, by the first man.
 use borrow.Author.Rules.{rules}
-use Rattle.deciding.specs.laws.PawnLaws.{given-pawn, given-known}
-use Rattle.deciding.specs.laws.StandingLaws.{pieces-standing}
+use Rattle.deciding.proofs.laws.PawnLaws.{given-pawn, given-known}
+use Rattle.deciding.proofs.laws.StandingLaws.{pieces-standing}
 use Rattle.deciding.proofs.numbers.legal_at.Goals as goal
 
 pub returns-then-m-eq-PAWN : goal.returns-then-m-eq-PAWN

@@ -3,11 +3,11 @@ use mathlib.Core.Path.{sym, ◌∙◌}
 use borrow.Author.Rules.{rules}
 use borrow.Author.Tests.{not-true, not-false}
 use Rattle.finite.specs.Truth.{of-true}
-use Rattle.index.specs.laws.CompleteLaws.{used-complete}
+use Rattle.index.proofs.laws.CompleteLaws.{used-complete}
 use Rattle.successors.specs.declared.Standing.{Standing}
-use Rattle.successors.specs.laws.NumberLaws.{found-unused, found-illegal, found-legal, checked-other}
-use Rattle.deciding.specs.laws.PawnLaws.{given-pawn, given-known}
-use Rattle.deciding.specs.laws.StandingLaws.{pieces-standing}
+use Rattle.successors.proofs.laws.NumberLaws.{found-unused, found-illegal, found-legal, checked-other}
+use Rattle.deciding.proofs.laws.PawnLaws.{given-pawn, given-known}
+use Rattle.deciding.proofs.laws.StandingLaws.{pieces-standing}
 use Rattle.deciding.proofs.numbers.legal_in.Goals as goal
 
 pub returns-then-m-eq-PAWN : goal.returns-then-m-eq-PAWN

@@ -2,7 +2,7 @@
 use borrow.Author.Rules.{rules}
 use mathlib.Core.Path.{sym, ◌∙◌}
 use borrow.Author.Tests.{not-true, not-false}
-use Rattle.deciding.specs.laws.StandingLaws.{pawn-nothing, pawn-standing}
+use Rattle.deciding.proofs.laws.StandingLaws.{pawn-nothing, pawn-standing}
 use Rattle.deciding.proofs.numbers.legal_of_pawn.Goals as goal
 
 pub returns-then-not-is_pawn_legal : goal.returns-then-not-is_pawn_legal

@@ -1,7 +1,7 @@
 -- `pawn::pawn_over` meets its contract: a move is left, or the byte is that of the end, or not.
 use borrow.Author.Rules.{rules}
 use borrow.Author.Tests.{not-true, not-false}
-use Rattle.deciding.specs.laws.PawnVerdicts.{end_more, end-right, end-wrong}
+use Rattle.deciding.proofs.laws.PawnVerdicts.{end_more, end-right, end-wrong}
 use Rattle.deciding.proofs.pawn.pawn_over.Goals as goal
 
 pub returns-then-not-is_stuck : goal.returns-then-not-is_stuck

@@ -1,8 +1,8 @@
 -- `pawn::pawn_requires` meets its contract: by mate, or by the weighing.
 use borrow.Author.Rules.{rules}
 use mathlib.Core.Path.{◌∙◌}
-use Rattle.successors.specs.laws.VerdictLaws.{depth-mate}
-use Rattle.deciding.specs.laws.PawnVerdicts.{depth-refuted, depth-met, depth-unmet}
+use Rattle.successors.proofs.laws.VerdictLaws.{depth-mate}
+use Rattle.deciding.proofs.laws.PawnVerdicts.{depth-refuted, depth-met, depth-unmet}
 use Rattle.deciding.proofs.pawn.pawn_requires.Goals as goal
 
 pub returns-then-k-eq0 : goal.returns-then-k-eq0

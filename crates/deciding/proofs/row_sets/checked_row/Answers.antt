@@ -2,7 +2,7 @@
 use mathlib.Core.Path.{refl}
 use borrow.Author.Rules.{rules}
 use Rattle.finite.specs.Truth.{true-not-false}
-use Rattle.deciding.specs.laws.RowSets.{every-square, checks-in}
+use Rattle.deciding.proofs.laws.RowSets.{every-square, checks-in}
 use Rattle.deciding.proofs.row_sets.checked_row.Goals as goal
 
 pub returns-then-men_strike : goal.returns-then-men_strike

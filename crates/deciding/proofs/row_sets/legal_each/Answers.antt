@@ -8,12 +8,12 @@ use lib.Dec.{ltb}
 use borrow.Author.Rules.{rules}
 use borrow.Author.Tests.{lt-ltb, le-ltb}
 use Rattle.board.specs.Sets.{has}
-use Rattle.board.specs.laws.SetLaws.{has-none, set-has}
+use Rattle.board.proofs.laws.SetLaws.{has-none, set-has}
 use Rattle.position.specs.Posed.{material_for}
 use Rattle.four_men.specs.Reading.{legal_number_of}
 use Rattle.deciding.specs.Rows.{RowOf}
-use Rattle.deciding.specs.laws.Rows.{row_same}
-use Rattle.deciding.specs.laws.Gathering.{gathered-in, gathered-out}
+use Rattle.deciding.proofs.laws.Rows.{row_same}
+use Rattle.deciding.proofs.laws.Gathering.{gathered-in, gathered-out}
 use Rattle.deciding.proofs.row_sets.legal_each.Goals.{then-is_legal_on, else-is_legal_on}
 use Rattle.deciding.proofs.row_sets.legal_each.Goals as goal
 

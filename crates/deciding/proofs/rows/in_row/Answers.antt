@@ -2,7 +2,7 @@
 use mathlib.Core.Path.{subst⁻¹}
 use borrow.Author.Rules.{rules}
 use Rattle.index.specs.Seats.{StandsAt}
-use Rattle.deciding.specs.laws.Rows.{row-stands}
+use Rattle.deciding.proofs.laws.Rows.{row-stands}
 use Rattle.deciding.proofs.rows.in_row.Goals as goal
 
 pub returns : goal.returns

@@ -1,6 +1,6 @@
 -- `rows::row_at` meets its contract.
 use borrow.Author.Rules.{rules}
-use Rattle.deciding.specs.laws.Rows.{row_first}
+use Rattle.deciding.proofs.laws.Rows.{row_first}
 use Rattle.deciding.proofs.rows.row_at.Goals as goal
 
 pub returns-then-n-eq0 : goal.returns-then-n-eq0

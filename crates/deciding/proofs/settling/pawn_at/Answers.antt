@@ -1,7 +1,7 @@
 -- `settling::pawn_at` meets its contract, by what stands at the number.
 use borrow.Author.Rules.{rules}
-use Rattle.deciding.specs.laws.StandingLaws.{told-legal, told-nothing}
-use Rattle.deciding.specs.laws.SettlingLaws.{none-required, there-required}
+use Rattle.deciding.proofs.laws.StandingLaws.{told-legal, told-nothing}
+use Rattle.deciding.proofs.laws.SettlingLaws.{none-required, there-required}
 use Rattle.deciding.proofs.settling.pawn_at.Goals as goal
 
 pub returns-in-Legal : goal.returns-in-Legal

@@ -2,9 +2,9 @@
 use borrow.Author.Rules.{rules}
 use mathlib.Core.Path.{sym, ◌∙◌}
 use borrow.Author.Tests.{not-true, not-false}
-use Rattle.index.specs.laws.PlaceLaws.{used-not}
-use Rattle.index.specs.laws.CompleteLaws.{shared-complete}
-use Rattle.deciding.specs.laws.SettlingLaws.{unused-required, not-required, legal-required}
+use Rattle.index.proofs.laws.PlaceLaws.{used-not}
+use Rattle.index.proofs.laws.CompleteLaws.{shared-complete}
+use Rattle.deciding.proofs.laws.SettlingLaws.{unused-required, not-required, legal-required}
 use Rattle.deciding.proofs.settling.pieces_at.Goals as goal
 
 pub returns-then-shares : goal.returns-then-shares

@@ -1,6 +1,6 @@
 -- `settling::requires_at` meets its contract, by the first man.
 use borrow.Author.Rules.{rules}
-use Rattle.deciding.specs.laws.PawnLaws.{given-known}
+use Rattle.deciding.proofs.laws.PawnLaws.{given-known}
 use Rattle.deciding.proofs.settling.requires_at.Goals as goal
 
 pub returns-then-m-eq-PAWN : goal.returns-then-m-eq-PAWN

@@ -5,7 +5,7 @@ use lib.Dec.{eqb}
 use Rattle.theory.specs.Required.{required_at}
 use Rattle.rules.specs.Rules.{Board}
 use Rattle.rules.specs.Chess.{chess}
-use Rattle.deciding.specs.laws.PawnVerdicts.{seated-pawn, seated-pieces, for-pawn}
+use Rattle.deciding.proofs.laws.PawnVerdicts.{seated-pawn, seated-pieces, for-pawn}
 use Rattle.deciding.proofs.verdicts.requires_byte.Goals as goal
 
 pub returns-then-m-eq-PAWN : goal.returns-then-m-eq-PAWN

@@ -1,6 +1,6 @@
 -- `filling::start` meets its contract, by the first man.
 use borrow.Author.Rules.{rules}
-use Rattle.deciding.specs.laws.PawnLaws.{given-known}
+use Rattle.deciding.proofs.laws.PawnLaws.{given-known}
 use Rattle.filling.proofs.bytes.start.Goals as goal
 
 pub start_rows-requires : goal.start_rows-requires

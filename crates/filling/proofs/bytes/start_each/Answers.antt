@@ -10,8 +10,8 @@ use Rattle.rules.specs.Chess.{chess}
 use Rattle.position.specs.Posed.{material_for}
 use Rattle.four_men.specs.Reading.{numbered}
 use Rattle.four_men.specs.Steps.{nothing}
-use Rattle.working_back.specs.laws.Admitted.{size-most}
-use Rattle.filling.specs.laws.Code.{start-byte}
+use Rattle.working_back.proofs.laws.Admitted.{size-most}
+use Rattle.filling.proofs.laws.Code.{start-byte}
 use Rattle.filling.proofs.bytes.start_each.Goals as goal
 
 pub loop-n-init : goal.loop-n-init

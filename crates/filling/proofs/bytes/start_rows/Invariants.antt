@@ -12,9 +12,9 @@ use Rattle.position.specs.Posed.{material_for}
 use Rattle.four_men.specs.Reading.{numbered}
 use Rattle.four_men.specs.Steps.{nothing}
 use Rattle.deciding.specs.Rows.{LegalRow}
-use Rattle.deciding.specs.laws.RowSets.{legal-in-row, legal-next}
-use Rattle.working_back.specs.laws.Admitted.{size-most}
-use Rattle.filling.specs.laws.Code.{start-byte}
+use Rattle.deciding.proofs.laws.RowSets.{legal-in-row, legal-next}
+use Rattle.working_back.proofs.laws.Admitted.{size-most}
+use Rattle.filling.proofs.laws.Code.{start-byte}
 use Rattle.filling.proofs.bytes.start_rows.Given as goal
 
 abbrev pub invariant-loop-n : goal.invariant-loop-n

@@ -1,7 +1,7 @@
 -- `filling::deepest_lent` meets its contract.
 use native.Mathlib.Omega.{arith}
-use Rattle.deciding.specs.laws.PawnLaws.{given-pawn, given-known}
-use Rattle.filling.specs.laws.Greatest.{deepest-pawn, deepest-none, deepest-both}
+use Rattle.deciding.proofs.laws.PawnLaws.{given-pawn, given-known}
+use Rattle.filling.proofs.laws.Greatest.{deepest-pawn, deepest-none, deepest-both}
 use borrow.Author.Rules.{rules}
 use Rattle.filling.proofs.deepest.deepest_lent.Goals as goal
 

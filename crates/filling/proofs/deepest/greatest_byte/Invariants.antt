@@ -4,7 +4,7 @@ use native.Mathlib.Omega.{arith}
 use borrow.Author.Rules.{rules}
 use lib.ListN.{length}
 use Rattle.filling.specs.Greatest.{GreatestBelow}
-use Rattle.filling.specs.laws.Greatest.{greatest-none, greatest-next, greatest-all}
+use Rattle.filling.proofs.laws.Greatest.{greatest-none, greatest-next, greatest-all}
 use Rattle.filling.proofs.deepest.greatest_byte.Given as goal
 
 abbrev pub invariant-loop-n : goal.invariant-loop-n

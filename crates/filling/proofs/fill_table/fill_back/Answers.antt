@@ -3,7 +3,7 @@ use mathlib.Core.Path.{sym, ◌∙◌}
 use borrow.Author.Rules.{rules}
 use borrow.Author.Tests.{not-true, not-false}
 use Rattle.finite.specs.Truth.{of-true}
-use Rattle.filling.specs.laws.FillLaws.{back-refused, back-pieces}
+use Rattle.filling.proofs.laws.FillLaws.{back-refused, back-pieces}
 use Rattle.filling.proofs.fill_table.fill_back.Goals as goal
 
 pub returns-then-not-is_known : goal.returns-then-not-is_known

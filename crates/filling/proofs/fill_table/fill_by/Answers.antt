@@ -3,8 +3,8 @@ use mathlib.Core.Path.{sym, ◌∙◌}
 use native.Mathlib.Omega.{arith}
 use borrow.Author.Tests.{not-true, not-false}
 use Rattle.finite.specs.Truth.{of-true}
-use Rattle.filling.specs.laws.Calls.{admitted-by, known_by}
-use Rattle.filling.specs.laws.FillLaws.{lent-bytes, promised-1, promised-7, promised-17, promised-filled}
+use Rattle.filling.proofs.laws.Calls.{admitted-by, known_by}
+use Rattle.filling.proofs.laws.FillLaws.{lent-bytes, promised-1, promised-7, promised-17, promised-filled}
 use borrow.Author.Rules.{rules}
 use Rattle.filling.proofs.fill_table.fill_by.Goals as goal
 

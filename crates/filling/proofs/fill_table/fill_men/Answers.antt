@@ -10,10 +10,10 @@ use Rattle.table_theory.specs.Lending.{passes_until}
 use Rattle.rules.specs.Chess.{chess}
 use Rattle.working_back.specs.Admitted.{over}
 use Rattle.filling.specs.Stepping.{deeper_than, last_of}
-use Rattle.working_back.specs.laws.Admitted.{long, run_long, admitted-kept}
+use Rattle.working_back.proofs.laws.Admitted.{long, run_long, admitted-kept}
 use Rattle.working_back.specs.Trying.{Ready}
-use Rattle.filling.specs.laws.StepCode.{step_went, step-ended, ready-after}
-use Rattle.filling.specs.laws.FillLaws.{start-long, started-ready, filled-so}
+use Rattle.filling.proofs.laws.StepCode.{step_went, step-ended, ready-after}
+use Rattle.filling.proofs.laws.FillLaws.{start-long, started-ready, filled-so}
 use Rattle.filling.proofs.fill_table.fill_men.Goals as goal
 
 pub deepest_lent-deepest-requires : goal.deepest_lent-deepest-requires

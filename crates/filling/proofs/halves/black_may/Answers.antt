@@ -1,7 +1,7 @@
 -- `filling::black_may` meets its contract.
 use native.Mathlib.Omega.{arith}
 use borrow.Author.Rules.{rules}
-use Rattle.filling.specs.laws.Quiet.{quiet-high, high-most}
+use Rattle.filling.proofs.laws.Quiet.{quiet-high, high-most}
 use Rattle.filling.proofs.halves.black_may.Goals as goal
 
 pub may_settle-requires : goal.may_settle-requires

@@ -3,9 +3,9 @@ use mathlib.Core.Path.{refl}
 use native.Mathlib.Omega.{arith}
 use borrow.Author.Rules.{rules}
 use Rattle.finite.specs.Truth.{true-not-false}
-use Rattle.deciding.specs.laws.PawnLaws.{given-known}
-use Rattle.working_back.specs.laws.Admitted.{lent-long}
-use Rattle.filling.specs.laws.Quiet.{quiet_one, quiet-two}
+use Rattle.deciding.proofs.laws.PawnLaws.{given-known}
+use Rattle.working_back.proofs.laws.Admitted.{lent-long}
+use Rattle.filling.proofs.laws.Quiet.{quiet_one, quiet-two}
 use Rattle.filling.proofs.halves.may_settle.Goals as goal
 
 pub returns-then-m-eq-PAWN : goal.returns-then-m-eq-PAWN

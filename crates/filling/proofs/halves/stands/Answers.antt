@@ -4,7 +4,7 @@ use Prim.Native.Nat.{◌-◌}
 use native.Mathlib.Omega.{arith}
 use Rattle.finite.specs.Truth.{true-not-false}
 use Rattle.filling.specs.Quiet.{Absent}
-use Rattle.filling.specs.laws.Quiet.{absent_none, absent_more, absent-upto}
+use Rattle.filling.proofs.laws.Quiet.{absent_none, absent_more, absent-upto}
 use Rattle.filling.proofs.halves.stands.Goals as goal
 
 pub loop-n-init : goal.loop-n-init

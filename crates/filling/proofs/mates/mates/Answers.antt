@@ -1,6 +1,6 @@
 -- `filling::mates` meets its contract, by the first man.
 use borrow.Author.Rules.{rules}
-use Rattle.deciding.specs.laws.PawnLaws.{given-known}
+use Rattle.deciding.proofs.laws.PawnLaws.{given-known}
 use Rattle.filling.proofs.mates.mates.Goals as goal
 
 pub mates_in_rows-requires : goal.mates_in_rows-requires

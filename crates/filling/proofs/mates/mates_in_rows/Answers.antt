@@ -8,10 +8,10 @@ use Rattle.finite.specs.Mapped.{Upto, upto-none}
 use Rattle.table_theory.specs.Tables.{pass_byte}
 use Rattle.rules.specs.Chess.{chess}
 use Rattle.deciding.specs.Rows.{MateRow}
-use Rattle.deciding.specs.laws.RowSets.{mate-next}
+use Rattle.deciding.proofs.laws.RowSets.{mate-next}
 use Rattle.working_back.specs.Admitted.{over}
-use Rattle.working_back.specs.laws.Admitted.{most, sized, in_size, admitted-kept}
-use Rattle.filling.specs.laws.Laws.{settled_below, settled-none, settled-low, settle-one, pass-turn, pass-done}
+use Rattle.working_back.proofs.laws.Admitted.{most, sized, in_size, admitted-kept}
+use Rattle.filling.proofs.laws.Laws.{settled_below, settled-none, settled-low, settle-one, pass-turn, pass-done}
 use Rattle.filling.proofs.mates.mates_in_rows.Goals as goal
 
 pub loop-n-init : goal.loop-n-init

@@ -2,9 +2,9 @@
 use mathlib.Core.Path.{refl, sym, ◌∙◌}
 use borrow.Author.Rules.{rules}
 use borrow.Author.Tests.{not-true, not-false}
-use Rattle.deciding.specs.laws.RowSets.{mate-in-row}
-use Rattle.filling.specs.laws.Code.{verdict-none}
-use Rattle.filling.specs.laws.Laws.{settle-no, settle-yes}
+use Rattle.deciding.proofs.laws.RowSets.{mate-in-row}
+use Rattle.filling.proofs.laws.Code.{verdict-none}
+use Rattle.filling.proofs.laws.Laws.{settle-no, settle-yes}
 use Rattle.filling.proofs.mates.settle_checked.Goals as goal
 
 pub returns-then-not-has : goal.returns-then-not-has

@@ -1,6 +1,6 @@
 -- `filling::pass_halves` meets its contract.
 use borrow.Author.Rules.{rules}
-use Rattle.filling.specs.laws.Outside.{quiet-outside}
+use Rattle.filling.proofs.laws.Outside.{quiet-outside}
 use Rattle.filling.proofs.pass.pass_halves.Goals as goal
 
 pub pass_over-requires : goal.pass_over-requires

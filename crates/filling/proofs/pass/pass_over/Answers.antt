@@ -10,11 +10,11 @@ use Rattle.rules.specs.Chess.{chess}
 use Rattle.numbering.specs.Material.{known}
 use Rattle.position.specs.Posed.{material_for}
 use Rattle.working_back.specs.Admitted.{over}
-use Rattle.working_back.specs.laws.Admitted.{most, sized, in_size, admitted-kept}
+use Rattle.working_back.proofs.laws.Admitted.{most, sized, in_size, admitted-kept}
 use Rattle.deciding.specs.Rows.{RowOf}
-use Rattle.filling.specs.laws.Laws.{settled_below, settled-low, settle-one, pass-turn, pass-done}
-use Rattle.filling.specs.laws.Outside.{begins, ends}
-use Rattle.deciding.specs.laws.Rows.{row_next}
+use Rattle.filling.proofs.laws.Laws.{settled_below, settled-low, settle-one, pass-turn, pass-done}
+use Rattle.filling.proofs.laws.Outside.{begins, ends}
+use Rattle.deciding.proofs.laws.Rows.{row_next}
 use Rattle.filling.proofs.pass.pass_over.Goals as goal
 
 pub overflow_mul-from : goal.overflow_mul-from

@@ -6,8 +6,8 @@ use native.Mathlib.Omega.{arith}
 use lib.ListN.{length}
 use Rattle.rules.specs.Chess.{chess}
 use Rattle.working_back.specs.Admitted.{over}
-use Rattle.filling.specs.laws.Laws.{some_below, none_below, none_yet, some-now, none_at_all}
-use Rattle.working_back.specs.laws.Admitted.{sized, most}
+use Rattle.filling.proofs.laws.Laws.{some_below, none_below, none_yet, some-now, none_at_all}
+use Rattle.working_back.proofs.laws.Admitted.{sized, most}
 use Rattle.filling.proofs.pass.some_settles.Goals as goal
 
 pub loop-n-init : goal.loop-n-init

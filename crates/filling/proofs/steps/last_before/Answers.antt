@@ -1,6 +1,6 @@
 -- `filling::last_before` meets its contract.
 use borrow.Author.Rules.{rules}
-use Rattle.filling.specs.laws.StepCode.{last-first, last-own, last-kept}
+use Rattle.filling.proofs.laws.StepCode.{last-first, last-own, last-kept}
 use Rattle.filling.proofs.steps.last_before.Goals as goal
 
 pub returns-then-k-eq0 : goal.returns-then-k-eq0

@@ -1,5 +1,5 @@
 -- `filling::last_step` meets its contract.
-use Rattle.filling.specs.laws.StepCode.{code-deep, code-last}
+use Rattle.filling.proofs.laws.StepCode.{code-deep, code-last}
 use borrow.Author.Rules.{rules}
 use Rattle.filling.proofs.steps.last_step.Goals as goal
 

@@ -1,6 +1,6 @@
 -- `filling::step_below` meets its contract.
-use Rattle.working_back.specs.laws.Admitted.{sized}
-use Rattle.filling.specs.laws.StepCode.{code-more, code-done, code-skip}
+use Rattle.working_back.proofs.laws.Admitted.{sized}
+use Rattle.filling.proofs.laws.StepCode.{code-more, code-done, code-skip}
 use borrow.Author.Rules.{rules}
 use Rattle.filling.proofs.steps.step_below.Goals as goal
 

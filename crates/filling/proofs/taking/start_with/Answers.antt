@@ -2,7 +2,7 @@
 use mathlib.Core.Path.{sym, ◌∙◌}
 use borrow.Author.Tests.{not-true, not-false}
 use Rattle.finite.specs.Truth.{of-true}
-use Rattle.filling.specs.laws.Calls.{start-1, start-7, start-made, start-given}
+use Rattle.filling.proofs.laws.Calls.{start-1, start-7, start-made, start-given}
 use borrow.Author.Rules.{rules}
 use Rattle.filling.proofs.taking.start_with.Goals as goal
 

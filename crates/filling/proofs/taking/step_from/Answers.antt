@@ -1,7 +1,7 @@
 -- `filling::step_from` meets its contract.
 use native.Mathlib.Omega.{arith}
-use Rattle.working_back.specs.laws.Admitted.{run_long}
-use Rattle.filling.specs.laws.StepCode.{from-going-code, from-done-code, from-ten-code}
+use Rattle.working_back.proofs.laws.Admitted.{run_long}
+use Rattle.filling.proofs.laws.StepCode.{from-going-code, from-done-code, from-ten-code}
 use borrow.Author.Rules.{rules}
 use Rattle.filling.proofs.taking.step_from.Goals as goal
 

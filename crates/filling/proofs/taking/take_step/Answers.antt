@@ -1,5 +1,5 @@
 -- `filling::take_step` meets its contract.
-use Rattle.filling.specs.laws.Handed.{step-one}
+use Rattle.filling.proofs.laws.Handed.{step-one}
 use borrow.Author.Rules.{rules}
 use Rattle.filling.proofs.taking.take_step.Goals as goal
 

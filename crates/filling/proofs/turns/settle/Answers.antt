@@ -3,9 +3,9 @@ use mathlib.Core.Path.{refl}
 use native.Mathlib.Omega.{arith}
 use borrow.Author.Rules.{rules}
 use borrow.Author.Tests.{not-true, not-false}
-use Rattle.working_back.specs.laws.Admitted.{small-number}
-use Rattle.filling.specs.laws.Code.{verdict-settled}
-use Rattle.filling.specs.laws.Laws.{settle-no, settle-yes}
+use Rattle.working_back.proofs.laws.Admitted.{small-number}
+use Rattle.filling.proofs.laws.Code.{verdict-settled}
+use Rattle.filling.proofs.laws.Laws.{settle-no, settle-yes}
 use Rattle.filling.proofs.turns.settle.Goals as goal
 
 pub returns-then-table-n-ne1 : goal.returns-then-table-n-ne1

@@ -3,12 +3,12 @@ use mathlib.Core.Path.{sym, ◌∙◌}
 use native.Mathlib.Omega.{arith}
 use borrow.Author.Rules.{rules}
 use borrow.Author.Tests.{not-true, not-false}
-use Rattle.index.specs.laws.PlaceLaws.{used-not}
-use Rattle.index.specs.laws.CompleteLaws.{shared-complete}
-use Rattle.deciding.specs.laws.PawnLaws.{given-known}
-use Rattle.deciding.specs.laws.SettlingLaws.{unused-required, not-required, legal-required}
-use Rattle.working_back.specs.laws.Admitted.{in_size, small-number}
-use Rattle.filling.specs.laws.Code.{verdict-required}
+use Rattle.index.proofs.laws.PlaceLaws.{used-not}
+use Rattle.index.proofs.laws.CompleteLaws.{shared-complete}
+use Rattle.deciding.proofs.laws.PawnLaws.{given-known}
+use Rattle.deciding.proofs.laws.SettlingLaws.{unused-required, not-required, legal-required}
+use Rattle.working_back.proofs.laws.Admitted.{in_size, small-number}
+use Rattle.filling.proofs.laws.Code.{verdict-required}
 use Rattle.filling.proofs.turns.settles_on.Goals as goal
 
 pub overflow_cast-n : goal.overflow_cast-n

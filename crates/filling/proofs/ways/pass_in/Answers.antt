@@ -3,7 +3,7 @@ use mathlib.Core.Path.{refl}
 use native.Mathlib.Omega.{arith}
 use borrow.Author.Rules.{rules}
 use Rattle.finite.specs.Truth.{true-not-false}
-use Rattle.filling.specs.laws.Laws.{pass-zero}
+use Rattle.filling.proofs.laws.Laws.{pass-zero}
 use Rattle.filling.proofs.ways.pass_in.Goals as goal
 
 pub pass_halves-requires : goal.pass_halves-requires

@@ -1,5 +1,5 @@
 -- `words::alone` meets its contract. Each arm by the case it is.
-use Rattle.given_words.specs.laws.EndingLaws.{alone-some}
+use Rattle.given_words.proofs.laws.EndingLaws.{alone-some}
 use borrow.Author.Rules.{rules}
 use Rattle.given_words.proofs.ending_words.alone.Goals as goal
 

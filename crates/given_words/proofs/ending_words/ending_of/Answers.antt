@@ -1,6 +1,6 @@
 -- `words::ending_of` meets its contract: the word of the men's ending, or none.
 use borrow.Author.Tests.{not-true, not-false}
-use Rattle.given_words.specs.laws.EndingLaws.{ending-none, ending-some}
+use Rattle.given_words.proofs.laws.EndingLaws.{ending-none, ending-some}
 use borrow.Author.Rules.{rules}
 use Rattle.given_words.proofs.ending_words.ending_of.Goals as goal
 

@@ -1,5 +1,5 @@
 -- `words::joined` meets its contract. Each arm by the case it is.
-use Rattle.given_words.specs.laws.EndingLaws.{joined-none, joined-some}
+use Rattle.given_words.proofs.laws.EndingLaws.{joined-none, joined-some}
 use borrow.Author.Rules.{rules}
 use Rattle.given_words.proofs.ending_words.joined.Goals as goal
 

@@ -1,5 +1,5 @@
 -- `words::material_in` meets its contract. Each arm by the case it is.
-use Rattle.given_words.specs.laws.EndingLaws.{in_some}
+use Rattle.given_words.proofs.laws.EndingLaws.{in_some}
 use borrow.Author.Rules.{rules}
 use Rattle.given_words.proofs.ending_words.material_in.Goals as goal
 

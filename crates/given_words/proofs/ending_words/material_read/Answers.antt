@@ -1,5 +1,5 @@
 -- `words::material_read` meets its contract: each return by the tests that led there.
-use Rattle.given_words.specs.laws.EndingLaws.{read_one, read_none, read-high, read-two}
+use Rattle.given_words.proofs.laws.EndingLaws.{read_one, read_none, read-high, read-two}
 use borrow.Author.Rules.{rules}
 use Rattle.given_words.proofs.ending_words.material_read.Goals as goal
 

@@ -1,5 +1,5 @@
 -- `words::material_word` meets its contract. Each arm by the case it is.
-use Rattle.given_words.specs.laws.EndingLaws.{two-word-is}
+use Rattle.given_words.proofs.laws.EndingLaws.{two-word-is}
 use borrow.Author.Rules.{rules}
 use Rattle.given_words.proofs.ending_words.material_word.Goals as goal
 

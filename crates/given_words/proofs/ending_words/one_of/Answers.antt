@@ -1,5 +1,5 @@
 -- `words::one_of` meets its contract: each return by the test that led there.
-use Rattle.given_words.specs.laws.EndingLaws.{one-is, one-other}
+use Rattle.given_words.proofs.laws.EndingLaws.{one-is, one-other}
 use Rattle.given_words.proofs.ending_words.one_of.Goals as goal
 
 pub returns-then-kind-eq4 : goal.returns-then-kind-eq4

@@ -1,5 +1,5 @@
 -- `words::pair` meets its contract: the kinds in their order.
-use Rattle.given_words.specs.laws.EndingLaws.{pair-rising, pair-falling}
+use Rattle.given_words.proofs.laws.EndingLaws.{pair-rising, pair-falling}
 use Rattle.given_words.proofs.ending_words.pair.Goals as goal
 
 pub returns-then-a-c : goal.returns-then-a-c

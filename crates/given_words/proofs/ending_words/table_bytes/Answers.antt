@@ -1,6 +1,6 @@
 -- `words::table_bytes` meets its contract: each return by the test that led there.
 use borrow.Author.Tests.{not-true, not-false}
-use Rattle.given_words.specs.laws.EndingLaws.{bytes-none, bytes-some}
+use Rattle.given_words.proofs.laws.EndingLaws.{bytes-none, bytes-some}
 use borrow.Author.Rules.{rules}
 use Rattle.given_words.proofs.ending_words.table_bytes.Goals as goal
 

@@ -1,5 +1,5 @@
 -- `words::man_read` meets its contract: none, or the man of the word's bits.
-use Rattle.given_words.specs.laws.MenLaws.{none_read, some_read}
+use Rattle.given_words.proofs.laws.MenLaws.{none_read, some_read}
 use borrow.Author.Rules.{rules}
 use Rattle.given_words.proofs.men.man_read.Goals as goal
 

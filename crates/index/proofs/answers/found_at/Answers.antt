@@ -2,7 +2,7 @@
 use mathlib.Core.Path.{ap, sym, ◌∙◌}
 use Rattle.index.specs.declared.Placed.{Placed}
 use Rattle.index.specs.Answers.{found_at}
-use Rattle.index.specs.laws.WithLaws.{pawn-ending, pieces-ending, found-unused, found-position}
+use Rattle.index.proofs.laws.WithLaws.{pawn-ending, pieces-ending, found-unused, found-position}
 use borrow.Author.Rules.{rules}
 use Rattle.std.proofs.Common.{not}
 use Rattle.index.proofs.answers.found_at.Goals as goal

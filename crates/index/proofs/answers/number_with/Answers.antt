@@ -1,7 +1,7 @@
 -- `index::answers::number_with` meets its contract.
 use mathlib.Core.Path.{sym, ap, ◌∙◌}
 use Rattle.index.specs.declared.NumberAnswer.{NumberAnswer}
-use Rattle.index.specs.laws.WithLaws.{with-refused, with_number}
+use Rattle.index.proofs.laws.WithLaws.{with-refused, with_number}
 use borrow.Author.Rules.{rules}
 use Rattle.index.proofs.answers.number_with.Goals as goal
 

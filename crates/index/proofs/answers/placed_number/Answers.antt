@@ -1,7 +1,7 @@
 -- `index::answers::placed_number` meets its contract: a pawn's number, or that of pieces.
 use mathlib.Core.Path.{◌∙◌}
-use Rattle.index.specs.laws.WithLaws.{number-pieces}
-use Rattle.index.specs.laws.PawnLaws.{pieces-told, pawn-number-told}
+use Rattle.index.proofs.laws.WithLaws.{number-pieces}
+use Rattle.index.proofs.laws.PawnLaws.{pieces-told, pawn-number-told}
 use borrow.Author.Rules.{rules}
 use Rattle.index.proofs.answers.placed_number.Goals as goal
 

@@ -1,6 +1,6 @@
 -- `index::arranging::arrange` meets its contract.
 use mathlib.Core.Path.{◌∙◌}
-use Rattle.index.specs.laws.ArrangingLaws.{arranged-chosen}
+use Rattle.index.proofs.laws.ArrangingLaws.{arranged-chosen}
 use borrow.Author.Rules.{rules}
 use Rattle.index.proofs.arranging.arrange.Goals as goal
 

@@ -2,8 +2,8 @@
 use mathlib.Core.Path.{sym, ap, ◌∙◌}
 use mathlib.Core.Bool.{Bool}
 use Rattle.index.specs.Least.{rising_key}
-use Rattle.index.specs.laws.LeastLaws.{rising-unlike}
-use Rattle.index.specs.laws.NormalPlaceLaws.{normal-keys}
+use Rattle.index.proofs.laws.LeastLaws.{rising-unlike}
+use Rattle.index.proofs.laws.NormalPlaceLaws.{normal-keys}
 use borrow.Author.Rules.{rules}
 use Rattle.index.proofs.arranging.normal_of.Goals as goal
 

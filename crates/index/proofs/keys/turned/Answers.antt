@@ -1,7 +1,7 @@
 -- `index::keys::turned` meets its contract.
 use native.Mathlib.Omega.{arith}
 use borrow.Author.Rules.{rules}
-use Rattle.index.specs.laws.KeyLaws.{turned-three, turned-four}
+use Rattle.index.proofs.laws.KeyLaws.{turned-three, turned-four}
 use Rattle.index.proofs.keys.turned.Goals as goal
 
 pub overflow_mul-result : goal.overflow_mul-result

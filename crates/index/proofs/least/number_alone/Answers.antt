@@ -1,6 +1,6 @@
 -- `index::least::number_alone` meets its contract.
 use mathlib.Core.Path.{◌∙◌}
-use Rattle.index.specs.laws.SeatLaws.{number-black}
+use Rattle.index.proofs.laws.SeatLaws.{number-black}
 use borrow.Author.Rules.{rules}
 use Rattle.index.proofs.least.number_alone.Goals as goal
 

@@ -1,7 +1,7 @@
 -- `index::least::number_listed` meets its contract.
 use mathlib.Core.Path.{◌∙◌}
-use Rattle.pairs.specs.laws.TableLaws.{lent-pair}
-use Rattle.index.specs.laws.CornerLaws.{number-found, by-pair}
+use Rattle.pairs.proofs.laws.TableLaws.{lent-pair}
+use Rattle.index.proofs.laws.CornerLaws.{number-found, by-pair}
 use borrow.Author.Rules.{rules}
 use Rattle.index.proofs.least.number_listed.Goals as goal
 

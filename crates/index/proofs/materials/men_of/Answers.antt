@@ -1,7 +1,7 @@
 -- `index::materials::men_of` meets its contract.
 use mathlib.Core.Path.{sym}
 use native.Mathlib.Omega.{arith}
-use Rattle.index.specs.laws.WithLaws.{men-one, men-two}
+use Rattle.index.proofs.laws.WithLaws.{men-one, men-two}
 use borrow.Author.Rules.{rules}
 use Rattle.index.proofs.materials.men_of.Goals as goal
 

@@ -1,7 +1,7 @@
 -- `index::moving::still_black` meets its contract.
 use mathlib.Core.Path.{refl}
 use native.Mathlib.Omega.{arith}
-use Rattle.index.specs.laws.MovingLaws.{black-keyed}
+use Rattle.index.proofs.laws.MovingLaws.{black-keyed}
 use Rattle.index.proofs.moving.still_black.Goals as goal
 
 pub still_keyed-requires : goal.still_keyed-requires

@@ -1,6 +1,6 @@
 -- `index::moving::still_keyed` meets its contract.
 use mathlib.Core.Path.{refl}
-use Rattle.index.specs.laws.MovingLaws.{keyed-stands}
+use Rattle.index.proofs.laws.MovingLaws.{keyed-stands}
 use Rattle.index.proofs.moving.still_keyed.Goals as goal
 
 pub returns : goal.returns

@@ -4,7 +4,7 @@ use mathlib.Core.Bool.{Bool}
 use native.Mathlib.Omega.{arith}
 use borrow.Author.Tests.{eq-eqb, ne_eqb}
 use Rattle.index.specs.Moving.{king_on, Stands}
-use Rattle.index.specs.laws.MovingLaws.{white-keyed}
+use Rattle.index.proofs.laws.MovingLaws.{white-keyed}
 use Rattle.index.proofs.moving.still_king.Goals as goal
 
 pub returns-then-owner-ne0 : goal.returns-then-owner-ne0

@@ -4,7 +4,7 @@ use Prim.Native.Nat.{ℕ, ◌+◌, ◌*◌, ◌^◌, ◌<◌, ◌≤◌}
 use native.Mathlib.Omega.{arith}
 use native.Mathlib.Nat.{mul-le-mul}
 use borrow.Author.Rules.{rules}
-use Rattle.index.specs.laws.KeyLaws.{number-by-key}
+use Rattle.index.proofs.laws.KeyLaws.{number-by-key}
 use Rattle.index.proofs.moving.still_number.Goals as goal
 
 stepped : (s unit : ℕ) → s < 64 → unit ≤ 262144 → s * unit ≤ 64 * 262144

@@ -3,7 +3,7 @@ use mathlib.Core.Path.{refl, subst}
 use Prim.Native.Nat.{ℕ, ◌≤◌}
 use native.Mathlib.Omega.{arith}
 use lib.Dec.{leb}
-use Rattle.index.specs.laws.MovingLaws.{row-stands, lifted-key, row-base}
+use Rattle.index.proofs.laws.MovingLaws.{row-stands, lifted-key, row-base}
 use Rattle.index.proofs.moving.still_rowed.Goals as goal
 
 pub overflow_cast-first : goal.overflow_cast-first

@@ -2,7 +2,7 @@
 use mathlib.Core.Path.{ap, ap₂, ◌∙◌}
 use Rattle.position.specs.Posed.{posed}
 use Rattle.index.specs.declared.Placed.{Placed}
-use Rattle.index.specs.laws.PawnLaws.{pawn-unused, pawn-found}
+use Rattle.index.proofs.laws.PawnLaws.{pawn-unused, pawn-found}
 use borrow.Author.Rules.{rules}
 use Rattle.std.proofs.Common.{not}
 use Rattle.index.proofs.pawns.pawn_found.Goals as goal

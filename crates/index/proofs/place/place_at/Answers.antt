@@ -1,7 +1,7 @@
 -- `index::place::place_at` meets its contract.
 use mathlib.Core.Path.{subst⁻¹}
 use Rattle.index.specs.Seats.{StandsAt}
-use Rattle.index.specs.laws.PlaceLaws.{stands_one, stands-two}
+use Rattle.index.proofs.laws.PlaceLaws.{stands_one, stands-two}
 use borrow.Author.Rules.{rules}
 use Rattle.index.proofs.place.place_at.Goals as goal
 

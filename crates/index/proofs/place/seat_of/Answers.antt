@@ -1,7 +1,7 @@
 -- `index::place::seat_of` meets its contract.
 use Prim.Native.Nat.{◌%◌}
 use native.Mathlib.Omega.{arith}
-use Rattle.numbering.specs.laws.PairLaws.{kings-of}
+use Rattle.numbering.proofs.laws.PairLaws.{kings-of}
 use Rattle.index.specs.Seats.{seat_of}
 use borrow.Author.Rules.{rules}
 use Rattle.index.proofs.place.seat_of.Goals as goal

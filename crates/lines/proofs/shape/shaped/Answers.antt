@@ -7,7 +7,7 @@ use borrow.Author.Rules.{rules}
 use borrow.Author.Tests.{not-true, not-false}
 use lib.ListN.{length, drop}
 use Rattle.lines.specs.Grammar.{has_shape}
-use Rattle.lines.specs.laws.Shapes.{shape-longer, shape-first, shape-end}
+use Rattle.lines.proofs.laws.Shapes.{shape-longer, shape-first, shape-end}
 use Rattle.lines.proofs.shape.shaped.Invariants.{Tested}
 use Rattle.lines.proofs.shape.shaped.Goals as goal
 

@@ -7,7 +7,7 @@ use borrow.Author.Rules.{rules}
 use borrow.Author.Tests.{not-true, not-false}
 use lib.ListN.{length, drop}
 use Rattle.lines.specs.Grammar.{has_shape}
-use Rattle.lines.specs.laws.Shapes.{shape-longer, shape-first, shape-end}
+use Rattle.lines.proofs.laws.Shapes.{shape-longer, shape-first, shape-end}
 use Rattle.lines.proofs.shape.shaped.Given as goal
 
 -- what is left of the line decides as the whole

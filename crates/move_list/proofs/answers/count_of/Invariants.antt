@@ -4,15 +4,15 @@ use Prim.Native.Nat.{ℕ, ◌+◌, ◌*◌, ◌^◌, ◌≤◌, ◌<◌}
 use Rattle.board.specs.Sets.{has, members, set_of}
 use Rattle.rules.specs.Rules.{moves_from, all_moves}
 use Rattle.move_list.specs.Lists.{room}
-use Rattle.move_list.specs.laws.Served.{few-moves}
+use Rattle.move_list.proofs.laws.Served.{few-moves}
 use mathlib.Core.Bool.{not, ◌&&◌}
 use lib.Dec.{eqb}
-use Rattle.board.specs.laws.LowestLaws.{Lowest, lowest-of}
+use Rattle.board.proofs.laws.LowestLaws.{Lowest, lowest-of}
 use mathlib.Core.List.{flat_map}
 use native.Mathlib.Omega.{arith}
 use lib.ListN.{length}
 use Rattle.position.specs.Keyed.{board_of}
-use Rattle.move_list.specs.laws.TurnLaws.{by-movers, movers-end, turn-length}
+use Rattle.move_list.proofs.laws.TurnLaws.{by-movers, movers-end, turn-length}
 use Rattle.move_list.proofs.answers.count_of.Given as goal
 
 abbrev pub invariant-loop-rest : goal.invariant-loop-rest

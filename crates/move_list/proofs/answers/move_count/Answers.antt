@@ -1,7 +1,7 @@
 -- `move_list::move_count` meets its contract.
 use mathlib.Core.Path.{refl, sym, ◌∙◌}
-use Rattle.move_list.specs.laws.AnswerLaws.{refused-count, given-count}
-use Rattle.move_list.specs.laws.PlacingLaws.{standing-refused, standing-check, standing-none}
+use Rattle.move_list.proofs.laws.AnswerLaws.{refused-count, given-count}
+use Rattle.move_list.proofs.laws.PlacingLaws.{standing-refused, standing-check, standing-none}
 use native.Mathlib.Omega.{arith}
 use borrow.Author.Rules.{rules}
 use Rattle.move_list.proofs.answers.move_count.Goals as goal

@@ -3,7 +3,7 @@ use mathlib.Core.Path.{◌≡◌, sym, ◌∙◌}
 use Prim.Native.Nat.{◌+◌, ◌*◌}
 use native.Mathlib.Omega.{arith}
 use Rattle.move_list.specs.Counting.{man_count}
-use Rattle.move_list.specs.laws.CountLaws.{count_none, count-pawn, count-plain}
+use Rattle.move_list.proofs.laws.CountLaws.{count_none, count-pawn, count-plain}
 use borrow.Author.Rules.{rules}
 use Rattle.move_list.proofs.counting.man_count.Goals as goal
 

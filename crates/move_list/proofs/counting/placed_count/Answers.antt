@@ -1,7 +1,7 @@
 -- `move_list::placed_count` meets its contract.
 use native.Mathlib.Omega.{arith}
-use Rattle.move_list.specs.laws.Served.{few-moves}
-use Rattle.move_list.specs.laws.CountLaws.{counted}
+use Rattle.move_list.proofs.laws.Served.{few-moves}
+use Rattle.move_list.proofs.laws.CountLaws.{counted}
 use borrow.Author.Rules.{rules}
 use Rattle.move_list.proofs.counting.placed_count.Goals as goal
 

@@ -3,11 +3,11 @@ use Prim.Native.Nat.{◌^◌, ◌<◌}
 use native.Mathlib.Omega.{arith}
 use lib.ListN.{length}
 use Rattle.board.specs.Sets.{members}
-use Rattle.board.specs.laws.LowestLaws.{Lowest, lowest-of}
+use Rattle.board.proofs.laws.LowestLaws.{Lowest, lowest-of}
 use Rattle.move_list.specs.Lists.{room}
 use Rattle.move_list.specs.ListLaws.{targets_moves}
-use Rattle.move_list.specs.laws.ListLaws.{Rest, rest_all, rest_end}
-use Rattle.move_list.specs.laws.TargetLaws.{targets-end, promotes-room, promotes-next, plain-room, plain-next}
+use Rattle.move_list.proofs.laws.ListLaws.{Rest, rest_all, rest_end}
+use Rattle.move_list.proofs.laws.TargetLaws.{targets-end, promotes-room, promotes-next, plain-room, plain-next}
 use Rattle.move_list.proofs.lists.add_moves.Given as goal
 
 abbrev pub invariant-loop-rest : goal.invariant-loop-rest

@@ -6,13 +6,13 @@ use Prim.Native.Nat.{ℕ, ◌^◌, ◌<◌}
 use lib.Dec.{eqb}
 use lib.ListN.{length}
 use Rattle.board.specs.Sets.{has, members, set_of}
-use Rattle.board.specs.laws.LowestLaws.{Lowest, lowest-of}
+use Rattle.board.proofs.laws.LowestLaws.{Lowest, lowest-of}
 use Rattle.rules.specs.Rules.{moves_from, all_moves}
 use Rattle.position.specs.Keyed.{board_of}
 use Rattle.move_list.specs.Lists.{list_of}
-use Rattle.move_list.specs.laws.Served.{few-moves}
-use Rattle.move_list.specs.laws.ListLaws.{Rest, rest-start, rest-done}
-use Rattle.move_list.specs.laws.TurnLaws.{by-movers, movers-end, turn-room, turn-rest}
+use Rattle.move_list.proofs.laws.Served.{few-moves}
+use Rattle.move_list.proofs.laws.ListLaws.{Rest, rest-start, rest-done}
+use Rattle.move_list.proofs.laws.TurnLaws.{by-movers, movers-end, turn-room, turn-rest}
 use Rattle.move_list.proofs.lists.moves_of.Goals as goal
 
 pub loop-rest-init : goal.loop-rest-init

@@ -1,7 +1,7 @@
 -- `lists::with_promotions` meets its contract.
 use native.Mathlib.Omega.{arith}
 use Rattle.rules.specs.Rules.{promotion_of}
-use Rattle.move_list.specs.laws.ListLaws.{appended-count, appended-four}
+use Rattle.move_list.proofs.laws.ListLaws.{appended-count, appended-four}
 use Rattle.move_list.proofs.lists.with_promotions.Goals as goal
 
 pub with_move-queen-requires : goal.with_move-queen-requires

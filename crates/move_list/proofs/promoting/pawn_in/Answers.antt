@@ -1,6 +1,6 @@
 -- `promoting::pawn_in` meets its contract.
 use borrow.Author.Rules.{rules}
-use Rattle.move_list.specs.laws.PawnIn.{pawn-absent, pawn-present}
+use Rattle.move_list.proofs.laws.PawnIn.{pawn-absent, pawn-present}
 use Rattle.move_list.proofs.promoting.pawn_in.Goals as goal
 
 pub returns-in-Absent : goal.returns-in-Absent

@@ -1,5 +1,5 @@
 -- `promoting::promoting_set` meets its contract.
-use Rattle.move_list.specs.laws.PawnIn.{set-pawn, set-none}
+use Rattle.move_list.proofs.laws.PawnIn.{set-pawn, set-none}
 use Rattle.move_list.proofs.promoting.promoting_set.Goals as goal
 
 pub returns-then-pawn_in : goal.returns-then-pawn_in

@@ -4,7 +4,7 @@ use Rattle.board.specs.Sets.{has}
 use Rattle.position.specs.Keyed.{board_of}
 use Rattle.position.specs.Posed.{posed}
 use Rattle.movegen.specs.Places.{men_strike}
-use Rattle.movegen.specs.laws.Struck.{check-men}
+use Rattle.movegen.proofs.laws.Struck.{check-men}
 use borrow.Author.Rules.{rules}
 use Rattle.movegen.proofs.places.men_check.Goals as goal
 

@@ -1,5 +1,5 @@
 -- `movegen::men_strike` meets its contract.
-use Rattle.movegen.specs.laws.Places.{or-first, or-next}
+use Rattle.movegen.proofs.laws.Places.{or-first, or-next}
 use borrow.Author.Rules.{rules}
 use Rattle.movegen.proofs.places.men_strike.Goals as goal
 

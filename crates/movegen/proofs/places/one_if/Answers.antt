@@ -2,7 +2,7 @@
 use mathlib.Core.Path.{sym, ◌∙◌}
 use native.Mathlib.Omega.{arith}
 use borrow.Author.Tests.{eq-eqb, ne_eqb}
-use Rattle.board.specs.laws.SetLaws.{set_is, has-none}
+use Rattle.board.proofs.laws.SetLaws.{set_is, has-none}
 use borrow.Author.Rules.{rules}
 use Rattle.movegen.proofs.places.one_if.Goals as goal
 

@@ -1,5 +1,5 @@
 -- `movegen::own_at` meets its contract.
-use Rattle.movegen.specs.laws.Places.{own-set}
+use Rattle.movegen.proofs.laws.Places.{own-set}
 use borrow.Author.Rules.{rules}
 use Rattle.movegen.proofs.places.own_at.Goals as goal
 

@@ -1,7 +1,7 @@
 -- `movegen::strike_set` meets its contract.
 use mathlib.Core.Path.{ap₂, ◌∙◌}
 use mathlib.Core.Bool.{◌||◌}
-use Rattle.board.specs.laws.SetLaws.{set-has, has-or}
+use Rattle.board.proofs.laws.SetLaws.{set-has, has-or}
 use borrow.Author.Rules.{rules}
 use Rattle.movegen.proofs.places.strike_set.Goals as goal
 

@@ -5,8 +5,8 @@ use mathlib.Core.Logic.{inl}
 use lib.Dec.{eqb}
 use borrow.Author.Tests.{eq-eqb}
 use Rattle.board.specs.Sets.{has}
-use Rattle.board.specs.laws.ReachLaws.{reaches-off}
-use Rattle.position.specs.laws.Pieces.{ne-and}
+use Rattle.board.proofs.laws.ReachLaws.{reaches-off}
+use Rattle.position.proofs.laws.Pieces.{ne-and}
 use borrow.Author.Rules.{rules}
 use Rattle.movegen.proofs.places.strikes.Goals as goal
 

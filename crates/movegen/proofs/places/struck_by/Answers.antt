@@ -6,9 +6,9 @@ use native.Mathlib.Omega.{arith}
 use lib.Dec.{eqb}
 use borrow.Author.Tests.{eq-eqb}
 use Rattle.board.specs.Sets.{has}
-use Rattle.board.specs.laws.ReachLaws.{reaches-off}
-use Rattle.board.specs.laws.SetLaws.{set_is, has-none}
-use Rattle.position.specs.laws.Pieces.{ne-and}
+use Rattle.board.proofs.laws.ReachLaws.{reaches-off}
+use Rattle.board.proofs.laws.SetLaws.{set_is, has-none}
+use Rattle.position.proofs.laws.Pieces.{ne-and}
 use borrow.Author.Rules.{rules}
 use Rattle.movegen.proofs.places.struck_by.Goals as goal
 

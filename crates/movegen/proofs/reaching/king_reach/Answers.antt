@@ -1,7 +1,7 @@
 -- `movegen::king_reach` meets its contract.
 use Rattle.position.specs.Keyed.{board_of}
 use Rattle.position.specs.Posed.{posed}
-use Rattle.movegen.specs.laws.Reach.{king-view}
+use Rattle.movegen.proofs.laws.Reach.{king-view}
 use borrow.Author.Rules.{rules}
 use Rattle.movegen.proofs.reaching.king_reach.Goals as goal
 

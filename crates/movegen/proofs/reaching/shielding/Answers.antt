@@ -4,7 +4,7 @@ use native.Mathlib.Omega.{arith}
 use borrow.Author.Tests.{not-true, not-false}
 use Rattle.position.specs.Keyed.{board_of}
 use Rattle.position.specs.Posed.{posed}
-use Rattle.movegen.specs.laws.Movers.{mover-none, mover-stays, mover-free, mover-parried}
+use Rattle.movegen.proofs.laws.Movers.{mover-none, mover-stays, mover-free, mover-parried}
 use borrow.Author.Rules.{rules}
 use Rattle.movegen.proofs.reaching.shielding.Goals as goal
 

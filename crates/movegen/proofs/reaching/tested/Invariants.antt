@@ -6,15 +6,15 @@ use mathlib.Core.Logic.{⊎_elim}
 use Prim.Native.Nat.{ℕ, ◌^◌, ◌<◌}
 use lib.ListN.{length}
 use Rattle.board.specs.Sets.{has, members}
-use Rattle.board.specs.laws.SetLaws.{has-none, set-has}
-use Rattle.board.specs.laws.LowestLaws.{Lowest, lowest-of}
+use Rattle.board.proofs.laws.SetLaws.{has-none, set-has}
+use Rattle.board.proofs.laws.LowestLaws.{Lowest, lowest-of}
 use Rattle.rules.specs.Rules.{in_check, moved}
 use Rattle.position.specs.declared.Men.{Men}
 use Rattle.position.specs.declared.Place.{Place}
 use Rattle.position.specs.Posed.{board_in}
-use Rattle.movegen.specs.laws.Targets.{turn_in, turn-out}
+use Rattle.movegen.proofs.laws.Targets.{turn_in, turn-out}
 use Rattle.movegen.specs.Reach.{Stays}
-use Rattle.movegen.specs.laws.Struck.{check-placed}
+use Rattle.movegen.proofs.laws.Struck.{check-placed}
 use Rattle.movegen.proofs.reaching.tested.Given as goal
 
 abbrev pub passes : Men → Place → ℕ → ℕ → Bool

@@ -1,7 +1,7 @@
 -- `pairs::kings_of` meets its contract, by the rule of the lists.
 use native.Mathlib.Omega.{arith}
 use borrow.Author.Rules.{rules}
-use Rattle.pairs.specs.laws.TableLaws.{kings-found, no-kings, row_lt}
+use Rattle.pairs.proofs.laws.TableLaws.{kings-found, no-kings, row_lt}
 use Rattle.pairs.proofs.back.kings_of.Goals as goal
 
 pub returns-then-pair-ge462 : goal.returns-then-pair-ge462

@@ -3,7 +3,7 @@ use mathlib.Core.Path.{◌≡◌, refl, sym, ◌∙◌}
 use Prim.Native.Nat.{◌-◌, ◌≤◌}
 use native.Mathlib.Omega.{arith}
 use Rattle.pairs.specs.Tables.{row_from, row_of}
-use Rattle.pairs.specs.laws.TableLaws.{row_here, row_next, row_last}
+use Rattle.pairs.proofs.laws.TableLaws.{row_here, row_next, row_last}
 use Rattle.pairs.proofs.back.row_of.Given as goal
 
 abbrev pub invariant-loop-i : goal.invariant-loop-i

@@ -1,6 +1,6 @@
 -- `pairs::pair_in` meets its contract.
 use borrow.Author.Rules.{rules}
-use Rattle.pairs.specs.laws.TableLaws.{in-outside, in-off, in_entry}
+use Rattle.pairs.proofs.laws.TableLaws.{in-outside, in-off, in_entry}
 use Rattle.pairs.proofs.forth.pair_in.Goals as goal
 
 pub returns-then-slot-ge10 : goal.returns-then-slot-ge10

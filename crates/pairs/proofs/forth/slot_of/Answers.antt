@@ -2,7 +2,7 @@
 use Prim.Native.Nat.{◌/◌}
 use native.Mathlib.Omega.{arith}
 use borrow.Author.Rules.{rules}
-use Rattle.pairs.specs.laws.TableLaws.{slot-past, slot-above, slot-place, place-small}
+use Rattle.pairs.proofs.laws.TableLaws.{slot-past, slot-above, slot-place, place-small}
 use Rattle.pairs.proofs.forth.slot_of.Goals as goal
 
 pub returns-then-file-gt3 : goal.returns-then-file-gt3

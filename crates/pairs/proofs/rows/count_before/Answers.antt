@@ -1,7 +1,7 @@
 -- `pairs::count_before` meets its contract.
 use mathlib.Core.Path.{refl}
 use borrow.Author.Rules.{rules}
-use Rattle.pairs.specs.laws.RowLaws.{part-ones, bit-some}
+use Rattle.pairs.proofs.laws.RowLaws.{part-ones, bit-some}
 use Rattle.pairs.proofs.rows.count_before.Goals as goal
 
 pub nonzero_rem-result : goal.nonzero_rem-result

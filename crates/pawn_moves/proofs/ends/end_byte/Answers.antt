@@ -1,7 +1,7 @@
 -- `ends::end_byte` meets its contract.
 use borrow.Author.Rules.{rules}
 use mathlib.Core.Path.{sym, ◌∙◌}
-use Rattle.pawn_moves.specs.laws.SeatLaws.{end-check, end_quiet}
+use Rattle.pawn_moves.proofs.laws.SeatLaws.{end-check, end_quiet}
 use Rattle.pawn_moves.proofs.ends.end_byte.Goals as goal
 
 pub returns-then-is_checked : goal.returns-then-is_checked

@@ -3,7 +3,7 @@ use borrow.Author.Rules.{rules}
 use mathlib.Core.Path.{ap, ◌∙◌}
 use Rattle.rules.specs.Rules.{Board, in_check}
 use Rattle.position.specs.Keyed.{board_of}
-use Rattle.pawn_moves.specs.laws.SeatLaws.{posed-board}
+use Rattle.pawn_moves.proofs.laws.SeatLaws.{posed-board}
 use Rattle.pawn_moves.proofs.ends.is_checked.Goals as goal
 
 pub returns : goal.returns

@@ -2,7 +2,7 @@
 use borrow.Author.Rules.{rules}
 use mathlib.Core.Path.{sym, ◌∙◌}
 use borrow.Author.Tests.{not-true, not-false}
-use Rattle.pawn_moves.specs.laws.SeatLaws.{quiet-mated, stuck-mated}
+use Rattle.pawn_moves.proofs.laws.SeatLaws.{quiet-mated, stuck-mated}
 use Rattle.pawn_moves.proofs.ends.is_mated.Goals as goal
 
 pub returns-then-not-is_checked : goal.returns-then-not-is_checked

@@ -2,7 +2,7 @@
 use borrow.Author.Rules.{rules}
 use mathlib.Core.Path.{refl, ap, ◌∙◌}
 use Rattle.pawn_numbers.specs.Places.{seated}
-use Rattle.pawn_numbers.specs.laws.PlaceLaws.{place-board}
+use Rattle.pawn_numbers.proofs.laws.PlaceLaws.{place-board}
 use Rattle.pawn_moves.proofs.numbers.pawn_seat.Goals as goal
 
 pub returns : goal.returns

@@ -1,6 +1,6 @@
 -- `reading::read` meets its contract.
 use borrow.Author.Rules.{rules}
-use Rattle.pawn_moves.specs.laws.AfterLaws.{read-beyond}
+use Rattle.pawn_moves.proofs.laws.AfterLaws.{read-beyond}
 use Rattle.pawn_moves.proofs.reading.read.Goals as goal
 
 pub returns-then-table-n : goal.returns-then-table-n

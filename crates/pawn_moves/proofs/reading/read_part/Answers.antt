@@ -1,6 +1,6 @@
 -- `reading::read_part` meets its contract: beyond the part it is 0, and within by its place in the run.
 use borrow.Author.Rules.{rules}
-use Rattle.pawn_moves.specs.laws.AfterLaws.{part-beyond, part_at}
+use Rattle.pawn_moves.proofs.laws.AfterLaws.{part-beyond, part_at}
 use Rattle.pawn_moves.proofs.reading.read_part.Goals as goal
 
 pub returns-then-at-ge-TABLE_SIZE : goal.returns-then-at-ge-TABLE_SIZE

@@ -2,7 +2,7 @@
 use mathlib.Core.Path.{sym, ◌∙◌}
 use Prim.Native.Nat.{◌-◌}
 use native.Mathlib.Omega.{arith}
-use Rattle.pawn_moves.specs.laws.LoopLaws.{Weighing, weighing-start, listed, weighing-refuted, weighing-next, weighing-met, weighing-unmet}
+use Rattle.pawn_moves.proofs.laws.LoopLaws.{Weighing, weighing-start, listed, weighing-refuted, weighing-next, weighing-met, weighing-unmet}
 use Rattle.pawn_moves.proofs.weighing.weigh.Goals as goal
 
 pub overflow_cast-count : goal.overflow_cast-count

@@ -2,7 +2,7 @@
 use mathlib.Core.Path.{sym}
 use mathlib.Core.Bool.{true, false}
 use borrow.Author.Tests.{eq-eqb, ne_eqb}
-use Rattle.pawn_numbers.specs.laws.PlaceLaws.{normal-by}
+use Rattle.pawn_numbers.proofs.laws.PlaceLaws.{normal-by}
 use borrow.Author.Rules.{rules}
 use Rattle.pawn_numbers.proofs.flips.pawn_normal.Goals as goal
 

@@ -1,5 +1,5 @@
 -- `pawn_numbers::side_flipped` meets its contract: each return by the tests that led there.
-use Rattle.pawn_numbers.specs.laws.PlaceLaws.{white-exchanged, black-exchanged, neither-side, side-kept}
+use Rattle.pawn_numbers.proofs.laws.PlaceLaws.{white-exchanged, black-exchanged, neither-side, side-kept}
 use Rattle.pawn_numbers.proofs.flips.side_flipped.Goals as goal
 
 pub returns-then-side-eq0 : goal.returns-then-side-eq0

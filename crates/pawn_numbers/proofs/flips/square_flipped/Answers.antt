@@ -2,9 +2,9 @@
 use mathlib.Core.Path.{ap, sym, ◌∙◌}
 use Prim.Native.Nat.{ℕ}
 use lib.Bits.{bit_xor}
-use Rattle.symmetry.specs.laws.SymmetryLaws.{mapped-off}
-use Rattle.rules.specs.laws.PawnLaws.{keeping}
-use Rattle.pawn_numbers.specs.laws.PlaceLaws.{bits-turn}
+use Rattle.symmetry.proofs.laws.SymmetryLaws.{mapped-off}
+use Rattle.rules.specs.Changed.{keeping}
+use Rattle.pawn_numbers.proofs.laws.PlaceLaws.{bits-turn}
 use borrow.Author.Rules.{rules}
 use Rattle.pawn_numbers.proofs.flips.square_flipped.Goals as goal
 

@@ -2,8 +2,8 @@
 use mathlib.Core.Path.{ap, sym, ◌∙◌}
 use mathlib.Core.Bool.{not, false}
 use Rattle.board.specs.Sets.{has}
-use Rattle.board.specs.laws.ReachLaws.{reaches-has, king-reaches}
-use Rattle.pawn_numbers.specs.laws.PlaceLaws.{separated-is}
+use Rattle.board.proofs.laws.ReachLaws.{reaches-has, king-reaches}
+use Rattle.pawn_numbers.proofs.laws.PlaceLaws.{separated-is}
 use borrow.Author.Rules.{rules}
 use Rattle.pawn_numbers.proofs.numbers.is_pawn_used.Goals as goal
 

@@ -3,7 +3,7 @@ use mathlib.Core.Path.{ap, ◌∙◌}
 use Rattle.pawn_numbers.specs.declared.PawnPlace.{PawnPlace}
 use Rattle.pawn_numbers.specs.PawnNumber.{separated, used_pawn}
 use Rattle.pawn_numbers.specs.Places.{seated}
-use Rattle.pawn_numbers.specs.laws.PlaceLaws.{place-board}
+use Rattle.pawn_numbers.proofs.laws.PlaceLaws.{place-board}
 use borrow.Author.Rules.{rules}
 use Rattle.pawn_numbers.proofs.numbers.pawn_used.Goals as goal
 

@@ -1,7 +1,7 @@
 -- `playing::promoting::make_as` meets its contract.
 use mathlib.Core.Path.{ap, ◌∙◌}
 use Rattle.playing.specs.Playing.{promoted_to}
-use Rattle.playing.specs.laws.PlayLaws.{after-plain, after-named}
+use Rattle.playing.proofs.laws.PlayLaws.{after-plain, after-named}
 use borrow.Author.Rules.{rules}
 use Rattle.playing.proofs.promoting.make_as.Goals as goal
 

@@ -1,6 +1,6 @@
 -- `pocket::four` meets its contract.
 use borrow.Author.Rules.{rules}
-use Rattle.pocket.specs.laws.WordLaws.{four_bytes}
+use Rattle.pocket.proofs.laws.WordLaws.{four_bytes}
 use Rattle.pocket.proofs.counter.four.Goals as goal
 
 pub returns : goal.returns

@@ -2,7 +2,7 @@
 use Prim.Native.Nat.{◌-◌}
 use native.Mathlib.Omega.{arith}
 use Rattle.pocket.specs.Pocket.{pocket_size}
-use Rattle.pocket.specs.laws.TallyLaws.{Sums, sums_none, sums-more, sums-room, sums-order, tallied, tally-length}
+use Rattle.pocket.proofs.laws.TallyLaws.{Sums, sums_none, sums-more, sums-room, sums-order, tallied, tally-length}
 use Rattle.pocket.proofs.counter.tally.Goals as goal
 
 pub returns-then-pocket-ne-POCKET_SIZE : goal.returns-then-pocket-ne-POCKET_SIZE

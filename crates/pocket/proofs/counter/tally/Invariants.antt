@@ -2,7 +2,7 @@
 use Prim.Native.Nat.{◌-◌}
 use native.Mathlib.Omega.{arith}
 use Rattle.pocket.specs.Pocket.{pocket_size}
-use Rattle.pocket.specs.laws.TallyLaws.{Sums, sums_none, sums-more, sums-room, sums-order, tallied, tally-length}
+use Rattle.pocket.proofs.laws.TallyLaws.{Sums, sums_none, sums-more, sums-room, sums-order, tallied, tally-length}
 use Rattle.pocket.proofs.counter.tally.Given as goal
 
 abbrev pub invariant-loop-i : goal.invariant-loop-i

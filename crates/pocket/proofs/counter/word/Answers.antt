@@ -1,6 +1,6 @@
 -- `pocket::word` meets its contract.
 use borrow.Author.Rules.{rules}
-use Rattle.pocket.specs.laws.WordLaws.{two-fours}
+use Rattle.pocket.proofs.laws.WordLaws.{two-fours}
 use Rattle.pocket.proofs.counter.word.Goals as goal
 
 pub returns : goal.returns

@@ -5,7 +5,7 @@ use borrow.Author.Rules.{rules}
 use lib.ListN.{length, length-set}
 use Rattle.finite.specs.Mapped.{Upto, upto-none, upto-more, upto_all}
 use Rattle.pocket.specs.Pocket.{packed_byte}
-use Rattle.pocket.specs.laws.PackLaws.{pack-table, pack-pocket, pack-done}
+use Rattle.pocket.proofs.laws.PackLaws.{pack-table, pack-pocket, pack-done}
 use Rattle.pocket.proofs.packer.pack.Given as goal
 
 abbrev pub invariant-loop-i : goal.invariant-loop-i

@@ -1,6 +1,6 @@
 -- `pocket::packed_byte` meets its contract.
 use borrow.Author.Rules.{rules}
-use Rattle.pocket.specs.laws.PackLaws.{packed-sum}
+use Rattle.pocket.proofs.laws.PackLaws.{packed-sum}
 use Rattle.pocket.proofs.packer.packed_byte.Goals as goal
 
 pub returns : goal.returns

@@ -1,7 +1,7 @@
 -- `pocket::entry_at` meets its contract.
 use mathlib.Core.Path.{refl}
 use Rattle.pocket.specs.Pocket.{entry_at}
-use Rattle.pocket.specs.laws.LookUpLaws.{entry-beyond}
+use Rattle.pocket.proofs.laws.LookUpLaws.{entry-beyond}
 use borrow.Author.Rules.{rules}
 use Rattle.pocket.proofs.reader.entry_at.Goals as goal
 

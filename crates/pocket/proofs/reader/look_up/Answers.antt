@@ -1,5 +1,5 @@
 -- `pocket::look_up` meets its contract: each return by the tests that led there.
-use Rattle.pocket.specs.laws.LookUpLaws.{refused-standing, refused-length, answered}
+use Rattle.pocket.proofs.laws.LookUpLaws.{refused-standing, refused-length, answered}
 use Rattle.pocket.proofs.reader.look_up.Goals as goal
 
 pub returns-then-refusal-ne0 : goal.returns-then-refusal-ne0

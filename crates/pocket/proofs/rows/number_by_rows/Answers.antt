@@ -2,8 +2,8 @@
 use mathlib.Core.Path.{ap, ◌∙◌}
 use borrow.Author.Rules.{rules}
 use Rattle.position.specs.Maps.{normal_position}
-use Rattle.position.specs.laws.MapLaws.{normal-position}
-use Rattle.index.specs.laws.AnswerLaws.{position-key}
+use Rattle.position.proofs.laws.MapLaws.{normal-position}
+use Rattle.index.proofs.laws.AnswerLaws.{position-key}
 use Rattle.pocket.proofs.rows.number_by_rows.Goals as goal
 
 pub returns : goal.returns

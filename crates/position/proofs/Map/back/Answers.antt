@@ -3,7 +3,7 @@ use mathlib.Core.Path.{ap, ◌∙◌}
 use borrow.Author.Rules.{rules}
 use Rattle.symmetry.specs.Symmetry.{mapped}
 use Rattle.position.specs.Maps.{reversals}
-use Rattle.position.specs.laws.MapLaws.{back-exchanged, back-plain}
+use Rattle.position.proofs.laws.MapLaws.{back-exchanged, back-plain}
 use Rattle.position.proofs.Map.back.Goals as goal
 
 pub returns-then-self : goal.returns-then-self

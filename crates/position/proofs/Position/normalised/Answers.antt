@@ -2,7 +2,7 @@
 use mathlib.Core.Path.{sym}
 use mathlib.Core.Bool.{true, false}
 use borrow.Author.Rules.{rules}
-use Rattle.position.specs.laws.MapLaws.{unmoved, normal-made}
+use Rattle.position.proofs.laws.MapLaws.{unmoved, normal-made}
 use Rattle.position.proofs.Position.normalised.Goals as goal
 
 pub returns-then-swap : goal.returns-then-swap

@@ -1,10 +1,10 @@
 use mathlib.Core.Path.{◌∙◌}
 use Rattle.board.specs.Sets.{has}
-use Rattle.board.specs.laws.SetLaws.{set-has}
+use Rattle.board.proofs.laws.SetLaws.{set-has}
 use Rattle.rules.specs.Rules.{occupied, attacked, in_check, king}
 use Rattle.position.specs.Keyed.{board_of}
 use Rattle.position.specs.Over.{attacked_over}
-use Rattle.position.specs.laws.Over.{attacked-same}
+use Rattle.position.proofs.laws.Over.{attacked-same}
 use borrow.Author.Rules.{rules}
 use Rattle.position.proofs.attack.in_check.Goals as goal
 

@@ -1,8 +1,8 @@
 -- `position::men_set` meets its contract.
 use mathlib.Core.Path.{◌∙◌}
 use Rattle.board.specs.Sets.{has}
-use Rattle.board.specs.laws.SetLaws.{has-or}
-use Rattle.position.specs.laws.MenOver.{men-slots}
+use Rattle.board.proofs.laws.SetLaws.{has-or}
+use Rattle.position.proofs.laws.MenOver.{men-slots}
 use borrow.Author.Rules.{rules}
 use Rattle.position.proofs.attack.men_set.Goals as goal
 

@@ -1,7 +1,7 @@
 -- `position::slot_set` meets its contract.
 use mathlib.Core.Path.{◌∙◌}
-use Rattle.board.specs.laws.SetLaws.{has-none}
-use Rattle.position.specs.laws.MenOver.{any-absent, any-present}
+use Rattle.board.proofs.laws.SetLaws.{has-none}
+use Rattle.position.proofs.laws.MenOver.{any-absent, any-present}
 use borrow.Author.Rules.{rules}
 use Rattle.position.proofs.attack.slot_set.Goals as goal
 

@@ -1,7 +1,7 @@
 -- `position::slot_strikes` meets its contract.
 use mathlib.Core.Path.{sym, ◌∙◌}
-use Rattle.position.specs.laws.Pieces.{ne-and, eq-and}
-use Rattle.position.specs.laws.MenOver.{any-absent, any-present}
+use Rattle.position.proofs.laws.Pieces.{ne-and, eq-and}
+use Rattle.position.proofs.laws.MenOver.{any-absent, any-present}
 use borrow.Author.Rules.{rules}
 use Rattle.position.proofs.attack.slot_strikes.Goals as goal
 

@@ -1,10 +1,10 @@
 use mathlib.Core.Path.{sym, ◌∙◌}
 use borrow.Author.Tests.{eq-eqb, ne_eqb}
 use Rattle.board.specs.Sets.{has}
-use Rattle.board.specs.laws.SetLaws.{has-none, set-has}
-use Rattle.rules.specs.laws.CanMove.{attacks-piece}
-use Rattle.rules.specs.laws.OnBoard.{attacks-pawn}
-use Rattle.position.specs.laws.Pieces.{ne-and, eq-and}
+use Rattle.board.proofs.laws.SetLaws.{has-none, set-has}
+use Rattle.rules.proofs.laws.CanMove.{attacks-piece}
+use Rattle.rules.proofs.laws.OnBoard.{attacks-pawn}
+use Rattle.position.proofs.laws.Pieces.{ne-and, eq-and}
 use borrow.Author.Rules.{rules}
 use Rattle.position.proofs.attack.strike_set.Goals as goal
 

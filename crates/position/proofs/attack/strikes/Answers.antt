@@ -1,9 +1,9 @@
 use mathlib.Core.Path.{sym, ◌∙◌}
 use borrow.Author.Tests.{eq-eqb, ne_eqb}
 use Rattle.board.specs.Sets.{has}
-use Rattle.rules.specs.laws.CanMove.{attacks-piece}
-use Rattle.rules.specs.laws.OnBoard.{attacks-pawn, hits-has}
-use Rattle.position.specs.laws.Pieces.{ne-and, eq-and}
+use Rattle.rules.proofs.laws.CanMove.{attacks-piece}
+use Rattle.rules.proofs.laws.OnBoard.{attacks-pawn, hits-has}
+use Rattle.position.proofs.laws.Pieces.{ne-and, eq-and}
 use borrow.Author.Rules.{rules}
 use Rattle.position.proofs.attack.strikes.Goals as goal
 

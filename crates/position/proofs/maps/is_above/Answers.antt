@@ -2,7 +2,7 @@
 use Rattle.position.specs.declared.Slot.{Slot}
 use mathlib.Core.Path.{sym, ap}
 use Rattle.numbering.specs.Normal.{first_above}
-use Rattle.position.specs.laws.MapLaws.{one-above}
+use Rattle.position.proofs.laws.MapLaws.{one-above}
 use Rattle.position.specs.Keyed.{slot_men}
 use borrow.Author.Rules.{rules}
 use Rattle.position.proofs.maps.is_above.Goals as goal

@@ -1,6 +1,6 @@
 -- `position::men_above` meets its contract.
 use mathlib.Core.Path.{◌∙◌}
-use Rattle.position.specs.laws.MapLaws.{none_above, next-above, first-above}
+use Rattle.position.proofs.laws.MapLaws.{none_above, next-above, first-above}
 use borrow.Author.Rules.{rules}
 use Rattle.position.proofs.maps.men_above.Goals as goal
 

@@ -1,6 +1,6 @@
 -- `position::slot_reversed` meets its contract.
 use Rattle.position.specs.Maps.{reversals}
-use Rattle.position.specs.laws.MapLaws.{by-square}
+use Rattle.position.proofs.laws.MapLaws.{by-square}
 use borrow.Author.Rules.{rules}
 use Rattle.position.proofs.maps.slot_reversed.Goals as goal
 

@@ -1,6 +1,6 @@
 -- `position::slot_transposed` meets its contract.
 use Rattle.symmetry.specs.Symmetry.{exchange}
-use Rattle.position.specs.laws.MapLaws.{by-square}
+use Rattle.position.proofs.laws.MapLaws.{by-square}
 use borrow.Author.Rules.{rules}
 use Rattle.position.proofs.maps.slot_transposed.Goals as goal
 

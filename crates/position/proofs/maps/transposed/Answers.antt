@@ -3,7 +3,7 @@ use mathlib.Core.Path.{sym}
 use borrow.Author.Rules.{rules}
 use borrow.Author.Tests.{lt-ltb}
 use Rattle.symmetry.specs.Symmetry.{mapped, exchange}
-use Rattle.symmetry.specs.laws.SymmetryLaws.{mapped-off}
+use Rattle.symmetry.proofs.laws.SymmetryLaws.{mapped-off}
 use Rattle.position.proofs.maps.transposed.Goals as goal
 
 pub returns-then-s-ge64 : goal.returns-then-s-ge64

@@ -1,7 +1,7 @@
 use mathlib.Core.Path.{sym, ◌∙◌}
-use Rattle.board.specs.laws.SetLaws.{set_is, set-has}
+use Rattle.board.proofs.laws.SetLaws.{set_is, set-has}
 use Rattle.position.specs.Pieces.{stands_on}
-use Rattle.position.specs.laws.Pieces.{occupied-four, union-four, union-lt}
+use Rattle.position.proofs.laws.Pieces.{occupied-four, union-four, union-lt}
 use borrow.Author.Rules.{rules}
 use Rattle.position.proofs.occupancy.occupied.Goals as goal
 

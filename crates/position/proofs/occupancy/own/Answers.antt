@@ -1,7 +1,7 @@
 use mathlib.Core.Path.{sym, ◌∙◌}
-use Rattle.board.specs.laws.SetLaws.{set_is}
+use Rattle.board.proofs.laws.SetLaws.{set_is}
 use Rattle.position.specs.Pieces.{own_on}
-use Rattle.position.specs.laws.Pieces.{stands-four, union-four, union-lt}
+use Rattle.position.proofs.laws.Pieces.{stands-four, union-four, union-lt}
 use borrow.Author.Rules.{rules}
 use Rattle.position.proofs.occupancy.own.Goals as goal
 

@@ -1,5 +1,5 @@
 -- `position::opposite` meets its contract.
-use Rattle.position.specs.laws.OwnerLaws.{other-stays, other-side}
+use Rattle.position.proofs.laws.OwnerLaws.{other-stays, other-side}
 use borrow.Author.Rules.{rules}
 use Rattle.position.proofs.owners.opposite.Goals as goal
 

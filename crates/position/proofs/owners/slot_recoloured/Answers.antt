@@ -1,5 +1,5 @@
 -- `position::slot_recoloured` meets its contract.
-use Rattle.position.specs.laws.OwnerLaws.{by-slot}
+use Rattle.position.proofs.laws.OwnerLaws.{by-slot}
 use borrow.Author.Rules.{rules}
 use Rattle.position.proofs.owners.slot_recoloured.Goals as goal
 

@@ -3,10 +3,10 @@ use mathlib.Core.Path.{sym, ◌∙◌}
 use mathlib.Core.Bool.{false}
 use Rattle.finite.specs.Truth.{refuted}
 use Rattle.board.specs.Sets.{has}
-use Rattle.board.specs.laws.ReachLaws.{reaches-has, king-reaches}
+use Rattle.board.proofs.laws.ReachLaws.{reaches-has, king-reaches}
 use Rattle.rules.specs.Rules.{touching}
 use Rattle.position.specs.Keyed.{board_of}
-use Rattle.position.specs.laws.Unrefused.{unrefused}
+use Rattle.position.proofs.laws.Unrefused.{unrefused}
 use borrow.Author.Rules.{rules}
 use Rattle.position.proofs.refusals.is_refused.Goals as goal
 

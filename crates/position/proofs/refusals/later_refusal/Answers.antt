@@ -2,7 +2,7 @@
 use mathlib.Core.Path.{◌≡◌, sym, ◌∙◌}
 use Rattle.std.proofs.Common.{Bool, false, ◌<◌, ◌^◌, ℕ}
 use Rattle.board.specs.Sets.{has, set_of}
-use Rattle.board.specs.laws.ReachLaws.{reaches-has, king-reaches}
+use Rattle.board.proofs.laws.ReachLaws.{reaches-has, king-reaches}
 use Rattle.board.specs.Reach.{reaches}
 use Rattle.rules.specs.Rules.{touching}
 use Rattle.position.specs.declared.Position.{Position}

@@ -4,7 +4,7 @@ use Rattle.board.specs.Sets.{set_of}
 use Rattle.rules.specs.declared.Piece.{Piece}
 use Rattle.rules.specs.Rules.{can_move}
 use Rattle.position.specs.Keyed.{board_of}
-use Rattle.position_moves.specs.laws.InPosition.{man-none, man-free}
+use Rattle.position_moves.proofs.laws.InPosition.{man-none, man-free}
 use borrow.Author.Rules.{rules}
 use Rattle.position_moves.proofs.in_position.man_targets.Goals as goal
 

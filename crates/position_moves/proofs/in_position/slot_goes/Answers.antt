@@ -1,8 +1,8 @@
 -- `movegen::slot_goes` meets its contract.
 use mathlib.Core.Path.{sym, ◌∙◌}
-use Rattle.board.specs.laws.SetLaws.{has-none}
-use Rattle.position.specs.laws.Pieces.{ne-and, eq-and}
-use Rattle.position.specs.laws.MenOver.{any-absent, any-present}
+use Rattle.board.proofs.laws.SetLaws.{has-none}
+use Rattle.position.proofs.laws.Pieces.{ne-and, eq-and}
+use Rattle.position.proofs.laws.MenOver.{any-absent, any-present}
 use borrow.Author.Rules.{rules}
 use Rattle.position_moves.proofs.in_position.slot_goes.Goals as goal
 

@@ -5,7 +5,7 @@ use Rattle.board.specs.Sets.{set_of}
 use Rattle.rules.specs.declared.Piece.{Piece}
 use Rattle.rules.specs.Rules.{can_move}
 use Rattle.position.specs.Keyed.{board_of}
-use Rattle.position_moves.specs.laws.InPosition.{nobody-moves}
+use Rattle.position_moves.proofs.laws.InPosition.{nobody-moves}
 use borrow.Author.Rules.{rules}
 use Rattle.position_moves.proofs.in_position.targets_from.Goals as goal
 

@@ -1,7 +1,7 @@
 use mathlib.Core.Path.{sym, ◌∙◌}
 use Rattle.board.specs.Sets.{has}
 use Rattle.position.specs.Over.{goes_from}
-use Rattle.position.specs.laws.Pieces.{goes-four, union-four}
+use Rattle.position.proofs.laws.Pieces.{goes-four, union-four}
 use borrow.Author.Rules.{rules}
 use Rattle.position_moves.proofs.targets.goes_over.Goals as goal
 

@@ -2,10 +2,10 @@
 use mathlib.Core.Path.{sym, ◌∙◌}
 use borrow.Author.Tests.{eq-eqb, ne_eqb}
 use Rattle.board.specs.Sets.{has}
-use Rattle.board.specs.laws.SetLaws.{set-has}
+use Rattle.board.proofs.laws.SetLaws.{set-has}
 use Rattle.rules.specs.Rules.{piece_of}
-use Rattle.rules.specs.laws.CanMove.{goes-piece}
-use Rattle.rules.specs.laws.OnBoard.{goes-pawn}
+use Rattle.rules.proofs.laws.CanMove.{goes-piece}
+use Rattle.rules.proofs.laws.OnBoard.{goes-pawn}
 use borrow.Author.Rules.{rules}
 use Rattle.position_moves.proofs.targets.goes_to.Goals as goal
 

@@ -1,5 +1,5 @@
 -- `moves::legal_targets` meets its contract: each return is one of the ways of `Targets`.
-use Rattle.movegen.specs.laws.Targets.{by-making, by-attacked, by-freedom}
+use Rattle.movegen.proofs.laws.Targets.{by-making, by-attacked, by-freedom}
 use mathlib.Core.Path.{sym, ◌∙◌}
 use borrow.Author.Rules.{rules}
 use Rattle.position_moves.proofs.targets.legal_targets.Goals as goal

@@ -5,12 +5,12 @@ use mathlib.Core.Logic.{⊎_elim}
 use Prim.Native.Nat.{ℕ, ◌^◌, ◌<◌}
 use lib.ListN.{length}
 use Rattle.board.specs.Sets.{has, members}
-use Rattle.board.specs.laws.SetLaws.{has-none, set-has}
-use Rattle.board.specs.laws.LowestLaws.{Lowest, lowest-of}
+use Rattle.board.proofs.laws.SetLaws.{has-none, set-has}
+use Rattle.board.proofs.laws.LowestLaws.{Lowest, lowest-of}
 use Rattle.rules.specs.Rules.{in_check, moved}
 use Rattle.position.specs.declared.Position.{Position}
 use Rattle.position.specs.Keyed.{board_of}
-use Rattle.movegen.specs.laws.Targets.{turn_in, turn-out, check-made}
+use Rattle.movegen.proofs.laws.Targets.{turn_in, turn-out, check-made}
 use Rattle.position_moves.proofs.targets.tested.Invariants.{passes}
 use Rattle.position_moves.proofs.targets.tested.Goals.{then-not-in_check, else-not-in_check}
 use Rattle.position_moves.proofs.targets.tested.Goals as goal

@@ -1,5 +1,5 @@
 -- `retracting::is_legal` meets its contract.
-use Rattle.retracting.specs.laws.Code.{kings-near, kings-far}
+use Rattle.retracting.proofs.laws.Code.{kings-near, kings-far}
 use Rattle.retracting.proofs.places.is_legal.Goals as goal
 
 pub returns-then-attacks : goal.returns-then-attacks

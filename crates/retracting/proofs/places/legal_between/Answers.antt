@@ -10,7 +10,7 @@ use Rattle.board.specs.Sets.{has}
 use Rattle.rules.specs.Rules.{legal}
 use Rattle.position.specs.Posed.{board_in}
 use Rattle.retracting.specs.Retracting.{place_before}
-use Rattle.retracting.specs.laws.Code.{in_both}
+use Rattle.retracting.proofs.laws.Code.{in_both}
 use Rattle.retracting.proofs.places.legal_between.Goals as goal
 
 pub returns : goal.returns

@@ -7,15 +7,15 @@ use lib.Dec.{T, eqb}
 use lib.ListN.{length}
 use Rattle.finite.specs.Truth.{or_right}
 use Rattle.board.specs.Sets.{has, members}
-use Rattle.board.specs.laws.SetLaws.{has-none, set-has}
-use Rattle.board.specs.laws.LowestLaws.{Lowest, lowest-of}
+use Rattle.board.proofs.laws.SetLaws.{has-none, set-has}
+use Rattle.board.proofs.laws.LowestLaws.{Lowest, lowest-of}
 use Rattle.rules.specs.Rules.{legal}
 use Rattle.position.specs.declared.Men.{Men}
 use Rattle.position.specs.declared.Place.{Place}
 use Rattle.position.specs.Posed.{board_in}
-use Rattle.movegen.specs.laws.Targets.{turn_in, turn-out}
+use Rattle.movegen.proofs.laws.Targets.{turn_in, turn-out}
 use Rattle.retracting.specs.Retracting.{place_before, CompleteApart}
-use Rattle.retracting.specs.laws.Code.{told-legal}
+use Rattle.retracting.proofs.laws.Code.{told-legal}
 use Rattle.retracting.proofs.places.legal_from.Given as goal
 
 abbrev pub passes : Men → Place → ℕ → ℕ → ℕ → Bool

@@ -1,5 +1,5 @@
 -- `retracting::place_before` meets its contract.
-use Rattle.retracting.specs.laws.Code.{before-by}
+use Rattle.retracting.proofs.laws.Code.{before-by}
 use Rattle.retracting.proofs.places.place_before.Goals as goal
 
 pub returns : goal.returns

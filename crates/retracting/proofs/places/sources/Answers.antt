@@ -3,7 +3,7 @@ use mathlib.Core.Path.{◌≡◌, sym, ◌∙◌}
 use Rattle.rules.specs.Rules.{legal}
 use Rattle.position.specs.Posed.{board_in}
 use Rattle.retracting.specs.Retracting.{loser, place_before}
-use Rattle.retracting.specs.laws.Code.{no_source, no_capture, own-taken, foe-taken, mover, steps_of, sifts-none, exact}
+use Rattle.retracting.proofs.laws.Code.{no_source, no_capture, own-taken, foe-taken, mover, steps_of, sifts-none, exact}
 use Rattle.retracting.proofs.places.sources.Goals as goal
 
 pub returns-then-owner-q : goal.returns-then-owner-q

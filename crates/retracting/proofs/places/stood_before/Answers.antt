@@ -1,5 +1,5 @@
 -- `retracting::stood_before` meets its contract.
-use Rattle.retracting.specs.laws.Code.{stood-none, stood-taken}
+use Rattle.retracting.proofs.laws.Code.{stood-none, stood-taken}
 use Rattle.retracting.proofs.places.stood_before.Goals as goal
 
 pub returns-then-taken-eq0 : goal.returns-then-taken-eq0

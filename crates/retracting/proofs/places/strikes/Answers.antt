@@ -4,7 +4,7 @@ use native.Mathlib.Omega.{arith}
 use Rattle.finite.specs.Truth.{fails}
 use Rattle.board.specs.Reach.{reaches}
 use Rattle.board.specs.Sets.{has}
-use Rattle.board.specs.laws.ReachLaws.{reaches-squares}
+use Rattle.board.proofs.laws.ReachLaws.{reaches-squares}
 use Rattle.retracting.proofs.places.strikes.Goals as goal
 
 pub returns-then-s-ge64 : goal.returns-then-s-ge64

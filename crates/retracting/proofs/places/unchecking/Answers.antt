@@ -1,6 +1,6 @@
 -- `retracting::unchecking` meets its contract.
 use Rattle.board.specs.Sets.{has}
-use Rattle.retracting.specs.laws.Code.{apart-there, unstruck, struck-first, struck-second, still-strikes, none-strikes}
+use Rattle.retracting.proofs.laws.Code.{apart-there, unstruck, struck-first, struck-second, still-strikes, none-strikes}
 use Rattle.retracting.proofs.places.unchecking.Goals as goal
 
 pub returns-then-strikes : goal.returns-then-strikes

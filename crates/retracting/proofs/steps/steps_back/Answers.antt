@@ -1,8 +1,8 @@
 -- `retracting::steps_back` meets its contract.
 use mathlib.Core.Path.{◌≡◌, sym, ◌∙◌}
 use Rattle.retracting.specs.Retracting.{loser}
-use Rattle.retracting.specs.laws.Code.{own-taken, foe-taken, steps_of}
-use Rattle.retracting.specs.laws.Stepping.{no_steps, man-steps, king-steps}
+use Rattle.retracting.proofs.laws.Code.{own-taken, foe-taken, steps_of}
+use Rattle.retracting.proofs.laws.Stepping.{no_steps, man-steps, king-steps}
 use Rattle.retracting.proofs.steps.steps_back.Goals as goal
 
 pub returns-then-taken-loser : goal.returns-then-taken-loser

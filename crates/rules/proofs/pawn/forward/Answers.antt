@@ -1,4 +1,4 @@
-use Rattle.rules.specs.laws.PawnSteps.{forward-other}
+use Rattle.rules.proofs.laws.PawnSteps.{forward-other}
 use borrow.Author.Rules.{rules}
 use Rattle.rules.proofs.pawn.forward.Goals as goal
 

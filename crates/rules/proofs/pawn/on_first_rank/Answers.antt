@@ -1,6 +1,6 @@
 use Prim.Native.Nat.{◌/◌}
 use native.Mathlib.Omega.{arith}
-use Rattle.rules.specs.laws.PawnSteps.{rank-of, rank-other}
+use Rattle.rules.proofs.laws.PawnSteps.{rank-of, rank-other}
 use Rattle.rules.proofs.pawn.on_first_rank.Goals as goal
 
 pub returns-then-colour-eq0 : goal.returns-then-colour-eq0

@@ -1,4 +1,4 @@
-use Rattle.rules.specs.laws.PawnSteps.{hits-set}
+use Rattle.rules.proofs.laws.PawnSteps.{hits-set}
 use borrow.Author.Rules.{rules}
 use Rattle.rules.proofs.pawn.pawn_hits.Goals as goal
 

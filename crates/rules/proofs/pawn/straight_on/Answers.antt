@@ -1,6 +1,6 @@
 use mathlib.Core.Path.{sym, ◌∙◌}
 use borrow.Author.Tests.{not-true, not-false}
-use Rattle.rules.specs.laws.PawnSteps.{straight-one, straight-held, straight-two}
+use Rattle.rules.proofs.laws.PawnSteps.{straight-one, straight-held, straight-two}
 use borrow.Author.Rules.{rules}
 use Rattle.rules.proofs.pawn.straight_on.Goals as goal
 

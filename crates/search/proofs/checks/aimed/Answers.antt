@@ -1,8 +1,8 @@
 -- `search::aimed` meets its contract.
 use mathlib.Core.Path.{sym, ◌∙◌}
 use Rattle.board.specs.Sets.{has}
-use Rattle.board.specs.laws.SetLaws.{has-none, set-has}
-use Rattle.search.specs.laws.TriedLaws.{aims-elsewhere, aims-here}
+use Rattle.board.proofs.laws.SetLaws.{has-none, set-has}
+use Rattle.search.proofs.laws.TriedLaws.{aims-elsewhere, aims-here}
 use Rattle.search.proofs.checks.aimed.Goals as goal
 
 pub returns-then-m-from : goal.returns-then-m-from

@@ -1,6 +1,6 @@
 -- `search::aimed_all` meets its contract.
 use Rattle.board.specs.Sets.{has}
-use Rattle.search.specs.laws.TriedLaws.{aims-all}
+use Rattle.search.proofs.laws.TriedLaws.{aims-all}
 use Rattle.search.proofs.checks.aimed_all.Goals as goal
 
 pub returns : goal.returns

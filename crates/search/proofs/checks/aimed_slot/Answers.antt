@@ -2,8 +2,8 @@
 use mathlib.Core.Path.{sym, ◌∙◌}
 use borrow.Author.Rules.{rules}
 use Rattle.board.specs.Sets.{has}
-use Rattle.board.specs.laws.SetLaws.{has-none}
-use Rattle.search.specs.laws.TriedLaws.{aims-absent, aims-present}
+use Rattle.board.proofs.laws.SetLaws.{has-none}
+use Rattle.search.proofs.laws.TriedLaws.{aims-absent, aims-present}
 use Rattle.search.proofs.checks.aimed_slot.Goals as goal
 
 pub returns-in-Absent : goal.returns-in-Absent

@@ -1,5 +1,5 @@
 -- `search::checking` meets its contract.
-use Rattle.search.specs.laws.CheckLaws.{all-checks, aimed-checks}
+use Rattle.search.proofs.laws.CheckLaws.{all-checks, aimed-checks}
 use Rattle.search.proofs.checks.checking.Goals as goal
 
 pub returns-then-king-from : goal.returns-then-king-from

@@ -1,5 +1,5 @@
 -- `search::tried` meets its contract.
-use Rattle.search.specs.laws.TriedLaws.{tried-every, tried-checks}
+use Rattle.search.proofs.laws.TriedLaws.{tried-every, tried-checks}
 use Rattle.search.proofs.checks.tried.Goals as goal
 
 pub returns-then-k-ne1 : goal.returns-then-k-ne1

@@ -5,11 +5,11 @@ use Prim.Native.Nat.{ℕ, ◌^◌, ◌<◌}
 use lib.Dec.{eqb}
 use lib.ListN.{length}
 use Rattle.board.specs.Sets.{has, members, set_of}
-use Rattle.board.specs.laws.LowestLaws.{Lowest, lowest-of}
+use Rattle.board.proofs.laws.LowestLaws.{Lowest, lowest-of}
 use Rattle.rules.specs.Rules.{empty, moves}
 use Rattle.position.specs.Keyed.{board_of}
 use Rattle.search.specs.Tried.{moves_on}
-use Rattle.search.specs.laws.MoverLaws.{on-movers, on_none, on-skip, on_some}
+use Rattle.search.proofs.laws.MoverLaws.{on-movers, on_none, on-skip, on_some}
 use Rattle.search.proofs.movers.can_move.Goals as goal
 
 pub loop-rest-init : goal.loop-rest-init

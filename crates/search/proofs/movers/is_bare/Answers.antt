@@ -1,6 +1,6 @@
 -- `search::is_bare` meets its contract.
 use borrow.Author.Rules.{rules}
-use Rattle.search.specs.laws.MoverLaws.{bare-first, bare-second, bare-both}
+use Rattle.search.proofs.laws.MoverLaws.{bare-first, bare-second, bare-both}
 use Rattle.search.proofs.movers.is_bare.Goals as goal
 
 pub returns-in-Present : goal.returns-in-Present

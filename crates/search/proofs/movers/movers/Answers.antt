@@ -1,5 +1,5 @@
 -- `search::movers` meets its contract.
-use Rattle.search.specs.laws.MoverLaws.{movers-bare, movers-own}
+use Rattle.search.proofs.laws.MoverLaws.{movers-bare, movers-own}
 use Rattle.search.proofs.movers.movers.Goals as goal
 
 pub returns-then-is_bare : goal.returns-then-is_bare

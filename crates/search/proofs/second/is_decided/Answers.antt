@@ -1,5 +1,5 @@
 -- `search::is_decided` meets its contract.
-use Rattle.search.specs.laws.OpinionLaws.{asked-odd, asked-even}
+use Rattle.search.proofs.laws.OpinionLaws.{asked-odd, asked-even}
 use Rattle.search.proofs.second.is_decided.Goals as goal
 
 pub returns-then-n-eq1 : goal.returns-then-n-eq1

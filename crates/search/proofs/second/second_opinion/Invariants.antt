@@ -3,7 +3,7 @@ use Prim.Native.Nat.{◌+◌, ◌-◌}
 use native.Mathlib.Omega.{arith}
 use Rattle.position.specs.Keyed.{board_of}
 use Rattle.search.specs.Tried.{Pawnless}
-use Rattle.search.specs.laws.OpinionLaws.{NoneBelow, served-pawnless, below_none, below_more, found_none, found-win, found-loss, opinion-refused, opinion-deep, opinion-searched}
+use Rattle.search.proofs.laws.OpinionLaws.{NoneBelow, served-pawnless, below_none, below_more, found_none, found-win, found-loss, opinion-refused, opinion-deep, opinion-searched}
 use Rattle.search.proofs.second.second_opinion.Given as goal
 
 abbrev pub invariant-loop-n : goal.invariant-loop-n

@@ -1,7 +1,7 @@
 -- `search::won_within` and `search::lost_within`, which call each other, meet their contracts.
 use Rattle.std.proofs.Common.{◌≡◌, refl, ap, not, arith}
-use Rattle.board.specs.laws.LowestLaws.{lowest-of}
-use Rattle.search.specs.laws.WithinLaws.{won-none, won-start, won-hit, won-miss, any-piece, any-piece-end, any-end, lost-mate, lost-stalemate, lost-none, lost-start, lost-miss, lost-hit, all-piece, all-piece-end, all_end}
+use Rattle.board.proofs.laws.LowestLaws.{lowest-of}
+use Rattle.search.proofs.laws.WithinLaws.{won-none, won-start, won-hit, won-miss, any-piece, any-piece-end, any-end, lost-mate, lost-stalemate, lost-none, lost-start, lost-miss, lost-hit, all-piece, all-piece-end, all_end}
 use Rattle.search.proofs.within.+lost_within_won_within.Goals as goal
 
 pub lost_within-returns-then-in_check : goal.lost_within-returns-then-in_check

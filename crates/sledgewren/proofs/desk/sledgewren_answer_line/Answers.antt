@@ -1,6 +1,6 @@
 -- `host::sledgewren_answer_line` meets its contract, by the test of the slip's length.
 use borrow.Author.Rules.{rules}
-use Rattle.sledgewren.specs.laws.Laws.{not-replied, line-replied}
+use Rattle.sledgewren.proofs.laws.Laws.{not-replied, line-replied}
 use Rattle.sledgewren.proofs.desk.sledgewren_answer_line.Goals as goal
 
 pub returns-then-slip-ne-SLIP_BYTES : goal.returns-then-slip-ne-SLIP_BYTES

@@ -4,7 +4,7 @@ use Prim.Native.Nat.{◌-◌, ◌≤◌}
 use native.Mathlib.Omega.{arith}
 use lib.ListN.{length, drop, length-set}
 use lib.Seq.{sets}
-use Rattle.sledgewren.specs.laws.Laws.{sets-all, copy-turn, copy-end}
+use Rattle.sledgewren.proofs.laws.Laws.{sets-all, copy-turn, copy-end}
 use Rattle.sledgewren.proofs.desk.write_slip.Goals as goal
 
 pub loop-i-init : goal.loop-i-init

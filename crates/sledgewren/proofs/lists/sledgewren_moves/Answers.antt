@@ -1,10 +1,10 @@
 -- `sledgewren::sledgewren_moves` meets its contract: each return by the tests that led there.
 use mathlib.Core.Path.{sym, ◌∙◌}
 use native.Mathlib.Omega.{arith}
-use Rattle.move_list.specs.laws.Served.{few-moves}
-use Rattle.move_list.specs.laws.PlacingLaws.{standing-refused, standing-check, standing-none}
+use Rattle.move_list.proofs.laws.Served.{few-moves}
+use Rattle.move_list.proofs.laws.PlacingLaws.{standing-refused, standing-check, standing-none}
 use borrow.Author.Rules.{rules}
-use Rattle.sledgewren.specs.laws.Laws.{not_listed, refused-bytes, given-bytes}
+use Rattle.sledgewren.proofs.laws.Laws.{not_listed, refused-bytes, given-bytes}
 use Rattle.sledgewren.proofs.lists.sledgewren_moves.Goals as goal
 
 pub returns-then-moves-ne-LIST_BYTES : goal.returns-then-moves-ne-LIST_BYTES

@@ -1,6 +1,6 @@
 -- `sledgewren::sledgewren_position` meets its contract. The word of the answer.
 use borrow.Author.Rules.{rules}
-use Rattle.sledgewren.specs.laws.TableLaws.{placed_by}
+use Rattle.sledgewren.proofs.laws.TableLaws.{placed_by}
 use Rattle.sledgewren.proofs.numbers.sledgewren_position.Goals as goal
 
 pub returns : goal.returns

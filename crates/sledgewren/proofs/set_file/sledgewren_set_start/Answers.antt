@@ -1,7 +1,7 @@
 -- `host::sledgewren_set_start` meets its contract. The word of the answer.
 use borrow.Author.Rules.{rules}
 use Rattle.sets.specs.Answers.{start_of}
-use Rattle.sledgewren.specs.laws.SetLaws.{written-by}
+use Rattle.sledgewren.proofs.laws.SetLaws.{written-by}
 use Rattle.sledgewren.proofs.set_file.sledgewren_set_start.Goals as goal
 
 pub returns : goal.returns

@@ -1,6 +1,6 @@
 -- `host::said_word` meets its contract.
 use borrow.Author.Rules.{rules}
-use Rattle.sledgewren.specs.laws.StepWordLaws.{settled-word}
+use Rattle.sledgewren.proofs.laws.StepWordLaws.{settled-word}
 use Rattle.sledgewren.proofs.steps.said_word.Goals as goal
 
 pub returns-in-Settled : goal.returns-in-Settled

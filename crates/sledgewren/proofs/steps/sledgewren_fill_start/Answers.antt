@@ -1,6 +1,6 @@
 -- `sledgewren::sledgewren_fill_start` meets its contract.
 use borrow.Author.Rules.{rules}
-use Rattle.sledgewren.specs.laws.StepWordLaws.{start_fits, start-handed}
+use Rattle.sledgewren.proofs.laws.StepWordLaws.{start_fits, start-handed}
 use Rattle.sledgewren.proofs.steps.sledgewren_fill_start.Goals as goal
 
 pub step_word-requires : goal.step_word-requires

@@ -1,6 +1,6 @@
 -- `sledgewren::sledgewren_fill_step` meets its contract.
 use borrow.Author.Rules.{rules}
-use Rattle.sledgewren.specs.laws.StepWordLaws.{step_fits, step-handed}
+use Rattle.sledgewren.proofs.laws.StepWordLaws.{step_fits, step-handed}
 use Rattle.sledgewren.proofs.steps.sledgewren_fill_step.Goals as goal
 
 pub step_word-requires : goal.step_word-requires

@@ -1,6 +1,6 @@
 -- `sledgewren::sledgewren_check` meets its contract. The word of the answer.
 use borrow.Author.Rules.{rules}
-use Rattle.sledgewren.specs.laws.TableLaws.{checked-by}
+use Rattle.sledgewren.proofs.laws.TableLaws.{checked-by}
 use Rattle.sledgewren.proofs.tables.sledgewren_check.Goals as goal
 
 pub returns : goal.returns

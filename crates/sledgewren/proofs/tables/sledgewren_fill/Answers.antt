@@ -1,6 +1,6 @@
 -- `sledgewren::sledgewren_fill` meets its contract. The word of the answer.
 use borrow.Author.Rules.{rules}
-use Rattle.sledgewren.specs.laws.TableLaws.{filled-by}
+use Rattle.sledgewren.proofs.laws.TableLaws.{filled-by}
 use Rattle.sledgewren.proofs.tables.sledgewren_fill.Goals as goal
 
 pub returns : goal.returns

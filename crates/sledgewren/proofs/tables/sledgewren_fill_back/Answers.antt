@@ -1,6 +1,6 @@
 -- `sledgewren::sledgewren_fill_back` meets its contract. The word of the answer.
 use borrow.Author.Rules.{rules}
-use Rattle.sledgewren.specs.laws.TableLaws.{filled-back-by}
+use Rattle.sledgewren.proofs.laws.TableLaws.{filled-back-by}
 use Rattle.sledgewren.proofs.tables.sledgewren_fill_back.Goals as goal
 
 pub returns : goal.returns

@@ -1,6 +1,6 @@
 -- `host::written_word` meets its contract: the sum of the bytes in their places.
 use borrow.Author.Rules.{rules}
-use Rattle.sledgewren.specs.laws.TypedLaws.{word_sum}
+use Rattle.sledgewren.proofs.laws.TypedLaws.{word_sum}
 use Rattle.sledgewren.proofs.typed_number.written_word.Goals as goal
 
 pub returns : goal.returns

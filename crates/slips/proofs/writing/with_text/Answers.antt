@@ -5,7 +5,7 @@ use native.Mathlib.Omega.{arith}
 use borrow.Author.Rules.{rules}
 use lib.ListN.{length, drop}
 use Rattle.slips.specs.Appending.{appended}
-use Rattle.slips.specs.laws.Appending.{appended-first, appended-end}
+use Rattle.slips.proofs.laws.Appending.{appended-first, appended-end}
 use Rattle.slips.proofs.writing.with_text.Goals as goal
 
 pub loop-i-init : goal.loop-i-init

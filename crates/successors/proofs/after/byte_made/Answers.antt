@@ -1,5 +1,5 @@
 -- `successors::byte_made` meets its contract.
-use Rattle.successors.specs.laws.ByteLaws.{byte-moved}
+use Rattle.successors.proofs.laws.ByteLaws.{byte-moved}
 use Rattle.successors.proofs.after.byte_made.Goals as goal
 
 pub returns : goal.returns

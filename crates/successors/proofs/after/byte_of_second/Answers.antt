@@ -1,6 +1,6 @@
 -- `successors::byte_of_second` meets its contract: bare kings, the table lent for both, or the second.
 use borrow.Author.Rules.{rules}
-use Rattle.successors.specs.laws.ByteLaws.{byte-bare, byte-like, byte-second}
+use Rattle.successors.proofs.laws.ByteLaws.{byte-bare, byte-like, byte-second}
 use Rattle.successors.proofs.after.byte_of_second.Goals as goal
 
 pub returns-then-q-ge64 : goal.returns-then-q-ge64

@@ -1,6 +1,6 @@
 -- `successors::read_at` meets its contract.
 use borrow.Author.Rules.{rules}
-use Rattle.successors.specs.laws.ByteLaws.{read-beyond}
+use Rattle.successors.proofs.laws.ByteLaws.{read-beyond}
 use Rattle.successors.proofs.after.read_at.Goals as goal
 
 pub returns-then-table-n : goal.returns-then-table-n

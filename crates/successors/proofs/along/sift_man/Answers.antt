@@ -1,10 +1,10 @@
 -- `successors::sift_man` meets its contract: along the frame, or one by one.
 use borrow.Author.Rules.{rules}
 use mathlib.Core.Path.{sym, ◌∙◌}
-use Rattle.position.specs.laws.PosedLaws.{complete-spread}
-use Rattle.successors.specs.laws.FramingLaws.{frame-side}
-use Rattle.successors.specs.laws.TakingLaws.{quiet-legal}
-use Rattle.successors.specs.laws.QuietLaws.{byte-plain}
+use Rattle.position.proofs.laws.PosedLaws.{complete-spread}
+use Rattle.successors.proofs.laws.FramingLaws.{frame-side}
+use Rattle.successors.proofs.laws.TakingLaws.{quiet-legal}
+use Rattle.successors.proofs.laws.QuietLaws.{byte-plain}
 use Rattle.successors.proofs.along.sift_man.Goals as goal
 
 pub sift_plain-requires : goal.sift_plain-requires

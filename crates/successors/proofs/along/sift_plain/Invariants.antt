@@ -7,9 +7,9 @@ use lib.Bits.{bit_xor}
 use lib.Dec.{T, eqb}
 use lib.ListN.{length, get_or}
 use Rattle.board.specs.Sets.{has, members, set_of}
-use Rattle.board.specs.laws.LowestLaws.{Lowest, lowest-of}
+use Rattle.board.proofs.laws.LowestLaws.{Lowest, lowest-of}
 use Rattle.rules.specs.Rules.{Board, moved}
-use Rattle.successors.specs.laws.SiftLaws.{Sifting, sift-start, sift-refuted, sift-turn, sift-end}
+use Rattle.successors.proofs.laws.SiftLaws.{Sifting, sift-start, sift-refuted, sift-turn, sift-end}
 use Rattle.successors.proofs.along.sift_plain.Given as goal
 
 abbrev pub invariant-loop-rest : goal.invariant-loop-rest

@@ -8,15 +8,15 @@ use native.Mathlib.Omega.{arith}
 use lib.Dec.{eqb}
 use lib.ListN.{length}
 use Rattle.board.specs.Sets.{has, members, set_of}
-use Rattle.board.specs.laws.LowestLaws.{Lowest, lowest-of}
+use Rattle.board.proofs.laws.LowestLaws.{Lowest, lowest-of}
 use Rattle.position.specs.declared.Men.{Men}
 use Rattle.position.specs.declared.Place.{Place}
 use Rattle.position.specs.Posed.{board_in, Complete}
 use Rattle.index.specs.Moving.{king_on, Stands}
 use Rattle.successors.specs.Successors.{bytes_in, king_at}
 use Rattle.successors.specs.Quiet.{quiet_to}
-use Rattle.successors.specs.laws.KingKeys.{byte_step}
-use Rattle.successors.specs.laws.SiftLaws.{Sifting, sift-start, sift-refuted, sift-turn, sift-end}
+use Rattle.successors.proofs.laws.KingKeys.{byte_step}
+use Rattle.successors.proofs.laws.SiftLaws.{Sifting, sift-start, sift-refuted, sift-turn, sift-end}
 use Rattle.successors.proofs.by_king.sift_king.Given as goal
 
 abbrev pub invariant-loop-rest : goal.invariant-loop-rest

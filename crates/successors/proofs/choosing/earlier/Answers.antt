@@ -1,5 +1,5 @@
 -- `successors::earlier` meets its contract.
-use Rattle.successors.specs.laws.ChoiceLaws.{earlier-second, earlier-first}
+use Rattle.successors.proofs.laws.ChoiceLaws.{earlier-second, earlier-first}
 use Rattle.successors.proofs.choosing.earlier.Goals as goal
 
 pub returns-then-b-a : goal.returns-then-b-a

@@ -1,6 +1,6 @@
 -- `successors::is_taking` meets its contract.
 use borrow.Author.Rules.{rules}
-use Rattle.successors.specs.laws.PlaceLaws.{place-taking}
+use Rattle.successors.proofs.laws.PlaceLaws.{place-taking}
 use Rattle.successors.proofs.choosing.is_taking.Goals as goal
 
 pub returns : goal.returns

@@ -1,6 +1,6 @@
 -- `successors::seen_from` meets its contract.
 use borrow.Author.Rules.{rules}
-use Rattle.successors.specs.laws.ChoiceLaws.{seen_none, seen-lowest}
+use Rattle.successors.proofs.laws.ChoiceLaws.{seen_none, seen-lowest}
 use Rattle.successors.proofs.choosing.seen_from.Goals as goal
 
 pub returns-then-set-eq0 : goal.returns-then-set-eq0

@@ -1,6 +1,6 @@
 -- `successors::seen_in` meets its contract.
 use borrow.Author.Rules.{rules}
-use Rattle.successors.specs.laws.ChoiceLaws.{seen-is}
+use Rattle.successors.proofs.laws.ChoiceLaws.{seen-is}
 use Rattle.successors.proofs.choosing.seen_in.Goals as goal
 
 pub returns : goal.returns

@@ -1,7 +1,7 @@
 -- `successors::weighed_by` meets its contract.
 use borrow.Author.Rules.{rules}
 use mathlib.Core.Path.{sym, ◌∙◌}
-use Rattle.successors.specs.laws.PlaceVerdicts.{weighs-none}
+use Rattle.successors.proofs.laws.PlaceVerdicts.{weighs-none}
 use Rattle.successors.proofs.choosing.weighed_by.Goals as goal
 
 pub returns-then-seen-lt64 : goal.returns-then-seen-lt64

@@ -1,6 +1,6 @@
 -- `successors::chosen_digits` meets its contract.
 use borrow.Author.Rules.{rules}
-use Rattle.successors.specs.laws.FramingLaws.{chosen_plain, chosen-turned, chosen_less, chosen_more}
+use Rattle.successors.proofs.laws.FramingLaws.{chosen_plain, chosen-turned, chosen_less, chosen_more}
 use Rattle.successors.proofs.framing.chosen_digits.Goals as goal
 
 pub returns-then-exchange-eq0 : goal.returns-then-exchange-eq0

@@ -2,7 +2,7 @@
 use mathlib.Core.Path.{refl}
 use native.Mathlib.Omega.{arith}
 use borrow.Author.Rules.{rules}
-use Rattle.successors.specs.laws.FramingLaws.{frame_is}
+use Rattle.successors.proofs.laws.FramingLaws.{frame_is}
 use Rattle.successors.proofs.framing.frame_for.Goals as goal
 
 pub returns : goal.returns

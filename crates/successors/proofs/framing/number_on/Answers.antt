@@ -1,6 +1,6 @@
 -- `successors::number_on` meets its contract.
 use borrow.Author.Rules.{rules}
-use Rattle.successors.specs.laws.FramingLaws.{number-single, number-double}
+use Rattle.successors.proofs.laws.FramingLaws.{number-single, number-double}
 use Rattle.successors.proofs.framing.number_on.Goals as goal
 
 pub returns-then-single : goal.returns-then-single

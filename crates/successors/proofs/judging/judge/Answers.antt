@@ -1,8 +1,8 @@
 -- `successors::judge` meets its contract: a piece at a time.
 use borrow.Author.Rules.{rules}
 use mathlib.Core.Path.{◌∙◌}
-use Rattle.successors.specs.laws.QuietLaws.{of-first, of-second}
-use Rattle.successors.specs.laws.JudgeLaws.{no-moves, king-refuted, first-refuted, second-refuted, all-suited}
+use Rattle.successors.proofs.laws.QuietLaws.{of-first, of-second}
+use Rattle.successors.proofs.laws.JudgeLaws.{no-moves, king-refuted, first-refuted, second-refuted, all-suited}
 use Rattle.successors.proofs.judging.judge.Goals.{then-reach-eq0, else-reach-eq0, then-reach-eq0-2, else-reach-eq0-2}
 use Rattle.successors.proofs.judging.judge.Goals as goal
 

@@ -1,7 +1,7 @@
 -- `successors::judge_black` meets its contract: his king alone moves.
 use mathlib.Core.Path.{refl}
-use Rattle.successors.specs.laws.JudgeLaws.{no-moves, king-refuted, all-suited}
-use Rattle.successors.specs.laws.LoneReach.{first-none, second_none}
+use Rattle.successors.proofs.laws.JudgeLaws.{no-moves, king-refuted, all-suited}
+use Rattle.successors.proofs.laws.LoneReach.{first-none, second_none}
 use borrow.Author.Rules.{rules}
 use Rattle.successors.proofs.lone.judge_black.Goals as goal
 

@@ -1,9 +1,9 @@
 -- `successors::judge_white` meets its contract: a piece at a time.
 use mathlib.Core.Path.{refl}
-use Rattle.position.specs.laws.PosedLaws.{complete-spread}
-use Rattle.successors.specs.laws.JudgeLaws.{no-moves, king-refuted, first-refuted, all-suited}
-use Rattle.successors.specs.laws.LoneReach.{second_none}
-use Rattle.successors.specs.laws.LoneBytes.{white-step}
+use Rattle.position.proofs.laws.PosedLaws.{complete-spread}
+use Rattle.successors.proofs.laws.JudgeLaws.{no-moves, king-refuted, first-refuted, all-suited}
+use Rattle.successors.proofs.laws.LoneReach.{second_none}
+use Rattle.successors.proofs.laws.LoneBytes.{white-step}
 use borrow.Author.Rules.{rules}
 use Rattle.successors.proofs.lone.judge_white.Goals as goal
 

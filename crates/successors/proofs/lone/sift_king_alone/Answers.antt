@@ -1,9 +1,9 @@
 -- `successors::sift_king_alone` meets its contract: the step that takes the man, and those that do not.
 use mathlib.Core.Path.{◌∙◌}
-use Rattle.successors.specs.laws.SiftLaws.{parts-refuted, parts-suited}
-use Rattle.successors.specs.laws.TakingLaws.{taking-set, quiet-set}
-use Rattle.successors.specs.laws.LoneReach.{man-has}
-use Rattle.successors.specs.laws.LoneBytes.{bare_step}
+use Rattle.successors.proofs.laws.SiftLaws.{parts-refuted, parts-suited}
+use Rattle.successors.proofs.laws.TakingLaws.{taking-set, quiet-set}
+use Rattle.successors.proofs.laws.LoneReach.{man-has}
+use Rattle.successors.proofs.laws.LoneBytes.{bare_step}
 use borrow.Author.Rules.{rules}
 use Rattle.successors.proofs.lone.sift_king_alone.Goals as goal
 

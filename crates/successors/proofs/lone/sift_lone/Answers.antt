@@ -1,7 +1,7 @@
 -- `successors::sift_lone` meets its contract: a row of the man's squares, or one by one.
 use mathlib.Core.Path.{sym, ◌∙◌}
 use Rattle.finite.specs.Truth.{of-true}
-use Rattle.successors.specs.laws.LoneBytes.{man-step}
+use Rattle.successors.proofs.laws.LoneBytes.{man-step}
 use borrow.Author.Rules.{rules}
 use Rattle.successors.proofs.lone.sift_lone.Goals as goal
 

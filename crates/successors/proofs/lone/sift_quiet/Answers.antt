@@ -1,8 +1,8 @@
 -- `successors::sift_quiet` meets its contract: at a row of pairs, or each number by itself.
 use mathlib.Core.Path.{refl, sym, ◌∙◌}
 use Rattle.finite.specs.Truth.{of-true}
-use Rattle.position.specs.laws.PosedLaws.{complete-spread}
-use Rattle.successors.specs.laws.LoneBytes.{black-step, row_step}
+use Rattle.position.proofs.laws.PosedLaws.{complete-spread}
+use Rattle.successors.proofs.laws.LoneBytes.{black-step, row_step}
 use borrow.Author.Rules.{rules}
 use Rattle.successors.proofs.lone.sift_quiet.Goals as goal
 

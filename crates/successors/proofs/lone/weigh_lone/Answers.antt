@@ -2,7 +2,7 @@
 use mathlib.Core.Path.{◌≡◌}
 use Prim.Native.Nat.{ℕ, ◌<◌}
 use native.Mathlib.Omega.{arith}
-use Rattle.position.specs.laws.PosedLaws.{complete-spread}
+use Rattle.position.proofs.laws.PosedLaws.{complete-spread}
 use borrow.Author.Rules.{rules}
 use Rattle.successors.proofs.lone.weigh_lone.Goals as goal
 

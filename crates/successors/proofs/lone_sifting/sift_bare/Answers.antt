@@ -1,7 +1,7 @@
 -- `successors::sift_bare` meets its contract: each return by the tests that led there.
 use mathlib.Core.Path.{sym, ◌∙◌}
 use borrow.Author.Rules.{rules}
-use Rattle.successors.specs.laws.JudgeLaws.{no-moves, same-refuted, same-suited, same-unmet}
+use Rattle.successors.proofs.laws.JudgeLaws.{no-moves, same-refuted, same-suited, same-unmet}
 use Rattle.successors.proofs.lone_sifting.sift_bare.Goals as goal
 
 pub returns-then-targets-eq0 : goal.returns-then-targets-eq0

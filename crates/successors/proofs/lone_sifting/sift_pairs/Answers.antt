@@ -8,9 +8,9 @@ use lib.Dec.{T, eqb}
 use lib.ListN.{length, get_or}
 use Rattle.board.specs.Sets.{has, members, set_of}
 use Rattle.board.specs.SetLaws.{bit}
-use Rattle.board.specs.laws.LowestLaws.{Lowest, lowest-of}
+use Rattle.board.proofs.laws.LowestLaws.{Lowest, lowest-of}
 use Rattle.rules.specs.Rules.{Board, moved}
-use Rattle.successors.specs.laws.SiftLaws.{Sifting, sift-start, sift-refuted, sift-turn, sift-end}
+use Rattle.successors.proofs.laws.SiftLaws.{Sifting, sift-start, sift-refuted, sift-turn, sift-end}
 use Rattle.successors.proofs.lone_sifting.sift_pairs.Goals as goal
 
 pub loop-rest-init : goal.loop-rest-init

@@ -6,11 +6,11 @@ use native.Mathlib.Omega.{arith}
 use lib.Dec.{T, eqb}
 use lib.ListN.{length, get_or}
 use Rattle.board.specs.Sets.{has, members, set_of}
-use Rattle.board.specs.laws.LowestLaws.{Lowest, lowest-of}
+use Rattle.board.proofs.laws.LowestLaws.{Lowest, lowest-of}
 use Rattle.rules.specs.Rules.{Board, moved}
 use Rattle.numbering.specs.Number.{number_of}
 use Rattle.position.specs.Keyed.{board_of, one_man}
-use Rattle.successors.specs.laws.SiftLaws.{Sifting, sift-start, sift-refuted, sift-turn, sift-end}
+use Rattle.successors.proofs.laws.SiftLaws.{Sifting, sift-start, sift-refuted, sift-turn, sift-end}
 use Rattle.successors.proofs.lone_sifting.sift_white.Goals as goal
 
 pub loop-rest-init : goal.loop-rest-init

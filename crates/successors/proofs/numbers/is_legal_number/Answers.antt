@@ -1,7 +1,7 @@
 -- `successors::is_legal_number` meets its contract.
 use borrow.Author.Rules.{rules}
 use mathlib.Core.Path.{sym}
-use Rattle.successors.specs.laws.NumberLaws.{told-legal, told-nothing}
+use Rattle.successors.proofs.laws.NumberLaws.{told-legal, told-nothing}
 use Rattle.successors.proofs.numbers.is_legal_number.Goals as goal
 
 pub returns-in-Legal : goal.returns-in-Legal

@@ -3,8 +3,8 @@ use borrow.Author.Rules.{rules}
 use mathlib.Core.Path.{sym, ◌∙◌}
 use borrow.Author.Tests.{not-true, not-false}
 use Rattle.finite.specs.Truth.{of-true}
-use Rattle.index.specs.laws.CompleteLaws.{used-complete}
-use Rattle.successors.specs.laws.NumberLaws.{found-unused, found-illegal, found-legal, checked-other}
+use Rattle.index.proofs.laws.CompleteLaws.{used-complete}
+use Rattle.successors.proofs.laws.NumberLaws.{found-unused, found-illegal, found-legal, checked-other}
 use Rattle.successors.proofs.numbers.legal_at.Goals as goal
 
 pub returns-then-not-is_used : goal.returns-then-not-is_used

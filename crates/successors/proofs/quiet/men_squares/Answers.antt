@@ -4,7 +4,7 @@ use mathlib.Core.Bool.{◌||◌}
 use Prim.Native.Nat.{ℕ}
 use lib.Dec.{eqb}
 use borrow.Author.Rules.{rules}
-use Rattle.board.specs.laws.SetLaws.{has-or, set-has}
+use Rattle.board.proofs.laws.SetLaws.{has-or, set-has}
 use Rattle.finite.specs.Truth.{eqb-sym}
 use Rattle.successors.proofs.quiet.men_squares.Goals as goal
 

@@ -1,8 +1,8 @@
 -- `successors::sift_moves` meets its contract: the moves that take a man, and those that take none.
 use borrow.Author.Rules.{rules}
 use mathlib.Core.Path.{◌∙◌}
-use Rattle.successors.specs.laws.SiftLaws.{parts-refuted, parts-suited}
-use Rattle.successors.specs.laws.TakingLaws.{taking-set, quiet-set}
+use Rattle.successors.proofs.laws.SiftLaws.{parts-refuted, parts-suited}
+use Rattle.successors.proofs.laws.TakingLaws.{taking-set, quiet-set}
 use Rattle.successors.proofs.quiet.sift_moves.Goals as goal
 
 pub returns-in_default : goal.returns-in_default

@@ -1,8 +1,8 @@
 -- `successors::sift_steps` meets its contract: the king's moves that take a man, and those that take none.
 use borrow.Author.Rules.{rules}
 use mathlib.Core.Path.{◌∙◌}
-use Rattle.successors.specs.laws.SiftLaws.{parts-refuted, parts-suited}
-use Rattle.successors.specs.laws.TakingLaws.{taking-set, quiet-set, taking-at}
+use Rattle.successors.proofs.laws.SiftLaws.{parts-refuted, parts-suited}
+use Rattle.successors.proofs.laws.TakingLaws.{taking-set, quiet-set, taking-at}
 use Rattle.successors.proofs.quiet.sift_steps.Goals as goal
 
 pub returns-in_default : goal.returns-in_default

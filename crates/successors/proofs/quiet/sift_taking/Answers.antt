@@ -1,7 +1,7 @@
 -- `successors::sift_taking` meets its contract.
 use borrow.Author.Rules.{rules}
-use Rattle.successors.specs.laws.JudgeLaws.{no-moves}
-use Rattle.successors.specs.laws.TakingLaws.{taking-legal}
+use Rattle.successors.proofs.laws.JudgeLaws.{no-moves}
+use Rattle.successors.proofs.laws.TakingLaws.{taking-legal}
 use Rattle.successors.proofs.quiet.sift_taking.Goals as goal
 
 pub returns-then-targets-eq0 : goal.returns-then-targets-eq0

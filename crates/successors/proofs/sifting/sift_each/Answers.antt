@@ -6,13 +6,13 @@ use native.Mathlib.Omega.{arith}
 use lib.Dec.{T, eqb}
 use lib.ListN.{length}
 use Rattle.board.specs.Sets.{has, members, set_of}
-use Rattle.board.specs.laws.LowestLaws.{Lowest, lowest-of}
+use Rattle.board.proofs.laws.LowestLaws.{Lowest, lowest-of}
 use Rattle.rules.specs.Rules.{can_move}
 use Rattle.position.specs.Posed.{board_in, Complete}
-use Rattle.position.specs.laws.PosedLaws.{complete-spread}
+use Rattle.position.proofs.laws.PosedLaws.{complete-spread}
 use Rattle.successors.specs.Successors.{bytes_in}
-use Rattle.successors.specs.laws.FramingLaws.{frame-side}
-use Rattle.successors.specs.laws.SiftLaws.{Sifting, sift-start, sift-refuted, sift-turn, sift-end}
+use Rattle.successors.proofs.laws.FramingLaws.{frame-side}
+use Rattle.successors.proofs.laws.SiftLaws.{Sifting, sift-start, sift-refuted, sift-turn, sift-end}
 use Rattle.successors.proofs.sifting.sift_each.Goals as goal
 
 pub loop-rest-init : goal.loop-rest-init

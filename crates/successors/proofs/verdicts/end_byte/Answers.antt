@@ -1,7 +1,7 @@
 -- `successors::end_byte` meets its contract.
 use borrow.Author.Rules.{rules}
 use mathlib.Core.Path.{sym, ◌∙◌}
-use Rattle.successors.specs.laws.PlaceVerdicts.{end-check, end_quiet}
+use Rattle.successors.proofs.laws.PlaceVerdicts.{end-check, end_quiet}
 use Rattle.successors.proofs.verdicts.end_byte.Goals as goal
 
 pub returns-then-checked : goal.returns-then-checked

@@ -1,8 +1,8 @@
 -- `successors::requires_byte` meets its contract: each return by what is weighed.
 use borrow.Author.Rules.{rules}
 use mathlib.Core.Path.{refl, sym}
-use Rattle.successors.specs.laws.VerdictLaws.{verdict-zero, told-wrong, told-right}
-use Rattle.successors.specs.laws.PlaceVerdicts.{place-side, end-required, weighed-refuted, weighed-unmet, weighed-stuck, weighed-met}
+use Rattle.successors.proofs.laws.VerdictLaws.{verdict-zero, told-wrong, told-right}
+use Rattle.successors.proofs.laws.PlaceVerdicts.{place-side, end-required, weighed-refuted, weighed-unmet, weighed-stuck, weighed-met}
 use Rattle.successors.proofs.verdicts.requires_byte.Goals as goal
 
 pub returns-then-byte-eq0 : goal.returns-then-byte-eq0

@@ -2,8 +2,8 @@
 use borrow.Author.Rules.{rules}
 use mathlib.Core.Path.{sym, ◌∙◌}
 use borrow.Author.Tests.{not-true}
-use Rattle.successors.specs.laws.VerdictLaws.{depth-mate, depth-byte}
-use Rattle.successors.specs.laws.PlaceVerdicts.{place-quiet, place-moving}
+use Rattle.successors.proofs.laws.VerdictLaws.{depth-mate, depth-byte}
+use Rattle.successors.proofs.laws.PlaceVerdicts.{place-quiet, place-moving}
 use Rattle.successors.proofs.verdicts.requires_depth.Goals as goal
 
 pub returns-then-not-checked : goal.returns-then-not-checked

@@ -1,8 +1,8 @@
 -- `successors::verdict_on` meets its contract: each return by what is weighed.
 use borrow.Author.Rules.{rules}
 use mathlib.Core.Path.{◌∙◌}
-use Rattle.successors.specs.laws.VerdictLaws.{verdict-zero}
-use Rattle.successors.specs.laws.PlaceVerdicts.{weighed-refuted, weighed-unmet, weighed-stuck, weighed-on, weighed-met}
+use Rattle.successors.proofs.laws.VerdictLaws.{verdict-zero}
+use Rattle.successors.proofs.laws.PlaceVerdicts.{weighed-refuted, weighed-unmet, weighed-stuck, weighed-on, weighed-met}
 use Rattle.successors.proofs.verdicts.verdict_on.Goals as goal
 
 pub returns-then-byte-eq0 : goal.returns-then-byte-eq0

@@ -1,6 +1,6 @@
 -- `successors::verdict_over` meets its contract.
 use borrow.Author.Rules.{rules}
-use Rattle.successors.specs.laws.PlaceVerdicts.{end-right, end-wrong, place-side}
+use Rattle.successors.proofs.laws.PlaceVerdicts.{end-right, end-wrong, place-side}
 use Rattle.successors.proofs.verdicts.verdict_over.Goals as goal
 
 pub returns-then-byte-end_byte : goal.returns-then-byte-end_byte

@@ -1,6 +1,6 @@
 -- `successors::weigh` meets its contract.
 use borrow.Author.Rules.{rules}
-use Rattle.successors.specs.laws.PlaceVerdicts.{to-reaches}
+use Rattle.successors.proofs.laws.PlaceVerdicts.{to-reaches}
 use Rattle.successors.proofs.verdicts.weigh.Goals as goal
 
 pub returns : goal.returns

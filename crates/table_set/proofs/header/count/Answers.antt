@@ -1,5 +1,5 @@
 -- `table_set::count` meets its contract.
-use Rattle.table_set.specs.laws.Writing.{codes-count}
+use Rattle.table_set.proofs.laws.Writing.{codes-count}
 use native.Mathlib.Omega.{arith}
 use borrow.Author.Rules.{rules}
 use Rattle.table_set.proofs.header.count.Goals as goal

@@ -1,5 +1,5 @@
 -- `table_set::write_header` meets its contract. The loop's invariant: the entries left, written over the set as it stands, give the whole header.
-use Rattle.table_set.specs.laws.Turns.{Headed, headed-start, headed-pass, headed-room, headed-take, headed-end}
+use Rattle.table_set.proofs.laws.Turns.{Headed, headed-start, headed-pass, headed-room, headed-take, headed-end}
 use Prim.Native.Nat.{◌-◌}
 use mathlib.Core.Path.{◌∙◌}
 use borrow.Author.Tests.{not-true, not-false}

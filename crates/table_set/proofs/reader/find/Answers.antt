@@ -1,5 +1,5 @@
 -- `table_set::find` meets its contract. The loop's invariant: the search of the entries left gives the answer.
-use Rattle.table_set.specs.laws.Reading.{set-passed, find-code, find-wrong, find-entries, found_here, found-later, found-not}
+use Rattle.table_set.proofs.laws.Reading.{set-passed, find-code, find-wrong, find-entries, found_here, found-later, found-not}
 use Rattle.sets.specs.Answers.{find_entry, find_of}
 use lib.ListN.{length}
 use Prim.Native.Nat.{◌+◌, ◌*◌, ◌≤◌}

@@ -1,5 +1,5 @@
 -- `table_set::is_entry` meets its contract.
-use Rattle.table_set.specs.laws.Reading.{entry-low, entry-high, entry-offset, entry_length}
+use Rattle.table_set.proofs.laws.Reading.{entry-low, entry-high, entry-offset, entry_length}
 use borrow.Author.Rules.{rules}
 use Rattle.table_set.proofs.reader.is_entry.Goals as goal
 

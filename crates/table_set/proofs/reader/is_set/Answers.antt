@@ -1,5 +1,5 @@
 -- `table_set::is_set` meets its contract. The loop's invariant: the test of the entries left is the test of the set.
-use Rattle.table_set.specs.laws.Reading.{entries-stop, entries-more, entries_none, set-short, set-unlike, set-entries}
+use Rattle.table_set.proofs.laws.Reading.{entries-stop, entries-more, entries_none, set-short, set-unlike, set-entries}
 use Rattle.sets.specs.Answers.{right_entries, right_set}
 use lib.ListN.{length}
 use Prim.Native.Nat.{◌+◌, ◌*◌, ◌≤◌}

@@ -1,5 +1,5 @@
 -- `table_set::part` meets its contract: a table that is found lies inside the set.
-use Rattle.table_set.specs.laws.Reading.{part_room, part-found, part-refused}
+use Rattle.table_set.proofs.laws.Reading.{part_room, part-found, part-refused}
 use native.Mathlib.Omega.{arith}
 use borrow.Author.Rules.{rules}
 use Rattle.table_set.proofs.reader.part.Goals as goal

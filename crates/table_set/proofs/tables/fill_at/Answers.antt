@@ -1,5 +1,5 @@
 -- `table_set::fill_at` meets its contract.
-use Rattle.table_set.specs.laws.Writing.{at-kept, at-cleared}
+use Rattle.table_set.proofs.laws.Writing.{at-kept, at-cleared}
 use mathlib.Core.Path.{◌∙◌}
 use borrow.Author.Rules.{rules}
 use Rattle.table_set.proofs.tables.fill_at.Goals as goal

@@ -1,6 +1,6 @@
 -- `table_set::fill_ending` meets its contract: a table that is found lies inside the set.
-use Rattle.table_set.specs.laws.Reading.{part_room}
-use Rattle.table_set.specs.laws.Writing.{in-found, in-refused}
+use Rattle.table_set.proofs.laws.Reading.{part_room}
+use Rattle.table_set.proofs.laws.Writing.{in-found, in-refused}
 use borrow.Author.Rules.{rules}
 use Rattle.table_set.proofs.writer.fill_ending.Goals as goal
 

@@ -1,5 +1,5 @@
 -- `table_set::start` meets its contract.
-use Rattle.table_set.specs.laws.Writing.{start-unlike, start_is}
+use Rattle.table_set.proofs.laws.Writing.{start-unlike, start_is}
 use native.Mathlib.Omega.{arith}
 use borrow.Author.Rules.{rules}
 use Rattle.table_set.proofs.writer.start.Goals as goal

@@ -1,8 +1,8 @@
 -- `table_set::write` meets its contract. The loop's invariant: the tables left, filled in the set as it stands, give the answer.
 use Rattle.sets.specs.Layout.{codes_of}
-use Rattle.table_set.specs.laws.Turns.{Tabled, tabled_start, tabled-pass, tabled-room, tabled-take, tabled-refused, tabled-end, write-is}
-use Rattle.sets.specs.laws.Finish.{finish}
-use Rattle.table_set.specs.laws.Writing.{write-unlike}
+use Rattle.table_set.proofs.laws.Turns.{Tabled, tabled_start, tabled-pass, tabled-room, tabled-take, tabled-refused, tabled-end, write-is}
+use Rattle.sets.proofs.laws.Finish.{finish}
+use Rattle.table_set.proofs.laws.Writing.{write-unlike}
 use Prim.Native.Nat.{◌-◌}
 use mathlib.Core.Path.{◌∙◌}
 use borrow.Author.Tests.{not-true, not-false}

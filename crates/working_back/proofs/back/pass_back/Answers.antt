@@ -1,11 +1,11 @@
 -- `working_back::pass_back` meets its contract.
 use native.Mathlib.Omega.{arith}
 use borrow.Author.Rules.{rules}
-use Rattle.working_back.specs.laws.Admitted.{most, admitted-kept}
+use Rattle.working_back.proofs.laws.Admitted.{most, admitted-kept}
 use Rattle.rules.specs.Chess.{chess}
 use Rattle.working_back.specs.Admitted.{over}
-use Rattle.working_back.specs.laws.Few.{alive-kept}
-use Rattle.working_back.specs.laws.Found.{back-both}
+use Rattle.working_back.proofs.laws.Few.{alive-kept}
+use Rattle.working_back.proofs.laws.Found.{back-both}
 use Rattle.working_back.proofs.back.pass_back.Goals as goal
 
 pub pass_captures-a-requires : goal.pass_captures-a-requires

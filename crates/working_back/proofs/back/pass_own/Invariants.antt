@@ -9,9 +9,9 @@ use Rattle.rules.specs.Chess.{chess}
 use Rattle.working_back.specs.Admitted.{over}
 use Rattle.working_back.specs.Trying.{Alive}
 use Rattle.working_back.specs.Back.{SweepsOwn}
-use Rattle.working_back.specs.laws.Admitted.{most, in_size, admitted-kept}
-use Rattle.working_back.specs.laws.Few.{alive-kept}
-use Rattle.working_back.specs.laws.Own.{own-start, own_turn, own-skip, own-end, place-legal, standing-live, alive-number, at-legal, within, not_last}
+use Rattle.working_back.proofs.laws.Admitted.{most, in_size, admitted-kept}
+use Rattle.working_back.proofs.laws.Few.{alive-kept}
+use Rattle.working_back.proofs.laws.Own.{own-start, own_turn, own-skip, own-end, place-legal, standing-live, alive-number, at-legal, within, not_last}
 use Rattle.working_back.proofs.back.pass_own.Given as goal
 
 abbrev pub invariant-loop-j : goal.invariant-loop-j

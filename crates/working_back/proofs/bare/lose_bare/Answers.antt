@@ -6,15 +6,15 @@ use lib.Dec.{T, eqb}
 use lib.ListN.{length}
 use Rattle.finite.specs.Truth.{or_right}
 use Rattle.board.specs.Sets.{has, members}
-use Rattle.board.specs.laws.LowestLaws.{lowest-beyond}
+use Rattle.board.proofs.laws.LowestLaws.{lowest-beyond}
 use Rattle.rules.specs.Chess.{chess}
 use Rattle.working_back.specs.Admitted.{over}
 use Rattle.working_back.specs.Trying.{Alive}
 use Rattle.working_back.specs.Bare.{Knows}
-use Rattle.working_back.specs.laws.Few.{alive-kept}
-use Rattle.working_back.specs.laws.BareLost.{knows-none}
-use Rattle.working_back.specs.laws.Admitted.{admitted-kept}
-use Rattle.working_back.specs.laws.Sources.{Taken, taken_start, taken-turn, taken-end, lowest-in}
+use Rattle.working_back.proofs.laws.Few.{alive-kept}
+use Rattle.working_back.proofs.laws.BareLost.{knows-none}
+use Rattle.working_back.proofs.laws.Admitted.{admitted-kept}
+use Rattle.working_back.proofs.laws.Sources.{Taken, taken_start, taken-turn, taken-end, lowest-in}
 use Rattle.working_back.proofs.bare.lose_bare.Goals as goal
 
 pub loop-rest-init : goal.loop-rest-init

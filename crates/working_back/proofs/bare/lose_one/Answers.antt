@@ -3,9 +3,9 @@ use mathlib.Core.Path.{sym, ap, ap₂, ◌∙◌}
 use mathlib.Core.Bool.{Bool, ◌||◌}
 use borrow.Author.Rules.{rules}
 use Rattle.retracting.specs.Retracting.{place_before}
-use Rattle.working_back.specs.laws.Places.{tried_other}
-use Rattle.working_back.specs.laws.Numbers.{holds-legal}
-use Rattle.working_back.specs.laws.BareLost.{bare-at, taking-can, goal-seated, bare-quiet, held-inside, knows-kept}
+use Rattle.working_back.proofs.laws.Places.{tried_other}
+use Rattle.working_back.proofs.laws.Numbers.{holds-legal}
+use Rattle.working_back.proofs.laws.BareLost.{bare-at, taking-can, goal-seated, bare-quiet, held-inside, knows-kept}
 use Rattle.working_back.proofs.bare.lose_one.Goals as goal
 
 pub still_number-n-requires : goal.still_number-n-requires

@@ -2,7 +2,7 @@
 use mathlib.Core.Path.{sym, ◌∙◌}
 use borrow.Author.Rules.{rules}
 use Rattle.retracting.specs.Retracting.{place_before}
-use Rattle.working_back.specs.laws.BareLost.{tried-taking}
+use Rattle.working_back.proofs.laws.BareLost.{tried-taking}
 use Rattle.working_back.proofs.bare.lose_taking.Goals as goal
 
 pub returns-then-refutes : goal.returns-then-refutes

@@ -1,6 +1,6 @@
 -- `working_back::struck` meets its contract.
 use mathlib.Core.Path.{refl}
-use Rattle.working_back.specs.laws.BareMoves.{struck-is}
+use Rattle.working_back.proofs.laws.BareMoves.{struck-is}
 use Rattle.working_back.proofs.bare.struck.Goals as goal
 
 pub returns : goal.returns

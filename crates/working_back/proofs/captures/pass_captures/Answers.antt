@@ -5,9 +5,9 @@ use native.Mathlib.Omega.{arith}
 use borrow.Author.Rules.{rules}
 use Rattle.rules.specs.Chess.{chess}
 use Rattle.working_back.specs.Admitted.{over}
-use Rattle.working_back.specs.laws.Admitted.{admitted-kept}
-use Rattle.working_back.specs.laws.Few.{alive-kept}
-use Rattle.working_back.specs.laws.Captures.{none-swept, all-swept, lent-second, lent-like, lent-unlike}
+use Rattle.working_back.proofs.laws.Admitted.{admitted-kept}
+use Rattle.working_back.proofs.laws.Few.{alive-kept}
+use Rattle.working_back.proofs.laws.Captures.{none-swept, all-swept, lent-second, lent-like, lent-unlike}
 use Rattle.working_back.proofs.captures.pass_captures.Goals as goal
 
 pub returns-then-m-ge4 : goal.returns-then-m-ge4

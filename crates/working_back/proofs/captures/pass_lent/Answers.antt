@@ -10,9 +10,9 @@ use Rattle.rules.specs.Chess.{chess}
 use Rattle.working_back.specs.Admitted.{over}
 use Rattle.working_back.specs.Trying.{Alive}
 use Rattle.working_back.specs.Back.{Sweeps}
-use Rattle.working_back.specs.laws.Few.{alive-kept}
-use Rattle.working_back.specs.laws.Admitted.{admitted-kept}
-use Rattle.working_back.specs.laws.Captures.{lent-small, sweep-start, sweep-turn, sweep-skip, sweeps-at}
+use Rattle.working_back.proofs.laws.Few.{alive-kept}
+use Rattle.working_back.proofs.laws.Admitted.{admitted-kept}
+use Rattle.working_back.proofs.laws.Captures.{lent-small, sweep-start, sweep-turn, sweep-skip, sweeps-at}
 use Rattle.working_back.proofs.captures.pass_lent.Goals as goal
 
 pub next_at-j-requires : goal.next_at-j-requires

@@ -3,9 +3,9 @@ use mathlib.Core.Path.{refl, subst⁻¹}
 use native.Mathlib.Omega.{arith}
 use borrow.Author.Rules.{rules}
 use Rattle.position.specs.declared.Place.{Place}
-use Rattle.successors.specs.laws.NumberLaws.{told-legal, told-nothing}
+use Rattle.successors.proofs.laws.NumberLaws.{told-legal, told-nothing}
 use Rattle.retracting.specs.Retracting.{LegalLeft, lone_of}
-use Rattle.working_back.specs.laws.Captures.{lone-in, lone-standing, lone-left, lone-tried, lone-nothing, into-at}
+use Rattle.working_back.proofs.laws.Captures.{lone-in, lone-standing, lone-left, lone-tried, lone-nothing, into-at}
 use Rattle.working_back.proofs.captures.try_lone.Goals as goal
 
 pub overflow_cast-j : goal.overflow_cast-j

@@ -3,7 +3,7 @@ use Prim.Native.Nat.{◌-◌}
 use native.Mathlib.Omega.{arith}
 use lib.ListN.{length}
 use Rattle.working_back.specs.Back.{Passes}
-use Rattle.working_back.specs.laws.Passing.{passes_none, passes_then}
+use Rattle.working_back.proofs.laws.Passing.{passes_none, passes_then}
 use Rattle.working_back.proofs.finding.next_at.Goals as goal
 
 pub loop-n-init : goal.loop-n-init

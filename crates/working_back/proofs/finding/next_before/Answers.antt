@@ -2,7 +2,7 @@
 use Prim.Native.Nat.{◌-◌, ◌≤◌}
 use native.Mathlib.Omega.{arith}
 use Rattle.working_back.specs.Back.{Passes}
-use Rattle.working_back.specs.laws.Passing.{passes_none, passes-one}
+use Rattle.working_back.proofs.laws.Passing.{passes_none, passes-one}
 use Rattle.working_back.proofs.finding.next_before.Goals as goal
 
 pub loop-n-init : goal.loop-n-init

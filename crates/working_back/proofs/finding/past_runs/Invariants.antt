@@ -3,7 +3,7 @@ use Prim.Native.Nat.{◌-◌}
 use native.Mathlib.Omega.{arith}
 use lib.ListN.{length}
 use Rattle.working_back.specs.Back.{Passes}
-use Rattle.working_back.specs.laws.Passing.{passes_none, passes-run}
+use Rattle.working_back.proofs.laws.Passing.{passes_none, passes-run}
 use Rattle.working_back.proofs.finding.past_runs.Given as goal
 
 abbrev pub invariant-loop-n : goal.invariant-loop-n

@@ -5,7 +5,7 @@ use Prim.Native.Nat.{◌+◌, ◌-◌, ◌≤◌}
 use native.Mathlib.Omega.{arith}
 use borrow.Author.Rules.{rules}
 use Rattle.working_back.specs.Back.{NoneFrom}
-use Rattle.working_back.specs.laws.Passing.{held_more, none-upto}
+use Rattle.working_back.proofs.laws.Passing.{held_more, none-upto}
 use Rattle.working_back.proofs.finding.run_holds.Given as goal
 
 abbrev pub invariant-loop-n : goal.invariant-loop-n

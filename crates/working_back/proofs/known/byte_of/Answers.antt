@@ -1,6 +1,6 @@
 -- `working_back::byte_of` meets its contract.
 use borrow.Author.Rules.{rules}
-use Rattle.successors.specs.laws.ByteLaws.{read-beyond}
+use Rattle.successors.proofs.laws.ByteLaws.{read-beyond}
 use Rattle.working_back.proofs.known.byte_of.Goals as goal
 
 pub returns-then-table-n : goal.returns-then-table-n

@@ -9,15 +9,15 @@ use borrow.Author.Rules.{rules}
 use Rattle.finite.specs.Truth.{or_right, true-not-false}
 use Rattle.theory.specs.Judge.{refutes}
 use Rattle.board.specs.Sets.{has, members}
-use Rattle.board.specs.laws.LowestLaws.{lowest-beyond}
+use Rattle.board.proofs.laws.LowestLaws.{lowest-beyond}
 use Rattle.numbering.specs.Kings.{separate}
 use Rattle.position.specs.declared.Men.{Men}
 use Rattle.index.specs.declared.Still.{Still}
 use Rattle.index.specs.Seats.{Seated}
 use Rattle.index.specs.Moving.{king_on, Stands}
 use Rattle.working_back.specs.Bare.{bare_on, byte_on, Knows}
-use Rattle.working_back.specs.laws.Sources.{lowest-in}
-use Rattle.working_back.specs.laws.Saved.{Unpassed, unpassed-start, unpassed-turn, unpassed-end, rest_in, known_more, common}
+use Rattle.working_back.proofs.laws.Sources.{lowest-in}
+use Rattle.working_back.proofs.laws.Saved.{Unpassed, unpassed-start, unpassed-turn, unpassed-end, rest_in, known_more, common}
 use Rattle.working_back.proofs.known.look.Given as goal
 
 -- what is given of the men

@@ -1,6 +1,6 @@
 -- `working_back::line_of` meets its contract.
 use mathlib.Core.Path.{refl, sym, ◌∙◌}
-use Rattle.working_back.specs.laws.Lines.{unexchanged, plain-lined}
+use Rattle.working_back.proofs.laws.Lines.{unexchanged, plain-lined}
 use Rattle.working_back.proofs.lines.line_of.Goals as goal
 
 pub returns-then-f-alike : goal.returns-then-f-alike

@@ -1,7 +1,7 @@
 -- `working_back::no_line` meets its contract.
 use mathlib.Core.Path.{refl}
 use native.Mathlib.Omega.{arith}
-use Rattle.working_back.specs.laws.Lines.{none-lined}
+use Rattle.working_back.proofs.laws.Lines.{none-lined}
 use Rattle.working_back.proofs.lines.no_line.Goals as goal
 
 pub returns : goal.returns

@@ -5,7 +5,7 @@ use Prim.Native.Nat.{ℕ}
 use lib.Dec.{eqb}
 use borrow.Author.Rules.{rules}
 use Rattle.retracting.specs.Retracting.{Seat}
-use Rattle.working_back.specs.laws.Into.{king-seat, tries-at}
+use Rattle.working_back.proofs.laws.Into.{king-seat, tries-at}
 use Rattle.working_back.proofs.losses.lose_king.Goals as goal
 
 pub lose_each-requires : goal.lose_each-requires

@@ -3,8 +3,8 @@ use mathlib.Core.Path.{ap, ◌∙◌}
 use Prim.Native.Nat.{ℕ}
 use borrow.Author.Rules.{rules}
 use Rattle.successors.specs.Framing.{frame_for}
-use Rattle.working_back.specs.laws.Sources.{taken_start, taken-end}
-use Rattle.working_back.specs.laws.Into.{man-seat, man-none, man-moved, tries-at}
+use Rattle.working_back.proofs.laws.Sources.{taken_start, taken-end}
+use Rattle.working_back.proofs.laws.Into.{man-seat, man-none, man-moved, tries-at}
 use Rattle.working_back.proofs.losses.lose_man.Goals as goal
 
 pub returns-then-owner-q : goal.returns-then-owner-q

@@ -8,11 +8,11 @@ use lib.ListN.{length}
 use borrow.Author.Rules.{rules}
 use Rattle.finite.specs.Truth.{or_right}
 use Rattle.board.specs.Sets.{has, members}
-use Rattle.board.specs.laws.LowestLaws.{lowest-of}
+use Rattle.board.proofs.laws.LowestLaws.{lowest-of}
 use Rattle.movegen.specs.Places.{place_after}
-use Rattle.working_back.specs.laws.Sources.{lowest-in}
-use Rattle.working_back.specs.laws.Saved.{rest_in}
-use Rattle.working_back.specs.laws.Spared.{sparing-of}
+use Rattle.working_back.proofs.laws.Sources.{lowest-in}
+use Rattle.working_back.proofs.laws.Saved.{rest_in}
+use Rattle.working_back.proofs.laws.Spared.{sparing-of}
 use Rattle.working_back.proofs.spared.find_saviour.Goals as goal
 
 pub loop-rest-init : goal.loop-rest-init

@@ -1,5 +1,5 @@
 -- `working_back::ground_of` meets its contract.
-use Rattle.working_back.specs.laws.Sparing.{grounds-man, grounds-king}
+use Rattle.working_back.proofs.laws.Sparing.{grounds-man, grounds-king}
 use Rattle.working_back.proofs.spared.ground_of.Goals as goal
 
 pub returns-then-kind-ne-KING : goal.returns-then-kind-ne-KING

@@ -3,7 +3,7 @@ use borrow.Author.Rules.{rules}
 use borrow.Author.Tests.{not-true, not-false}
 use mathlib.Core.Path.{◌∙◌}
 use Rattle.retracting.specs.Retracting.{place_before}
-use Rattle.working_back.specs.laws.Places.{tried-lost, tried-kept, told-required}
+use Rattle.working_back.proofs.laws.Places.{tried-lost, tried-kept, told-required}
 use Rattle.working_back.proofs.trying.confirm.Goals as goal
 
 pub returns-then-not-requires_depth : goal.returns-then-not-requires_depth

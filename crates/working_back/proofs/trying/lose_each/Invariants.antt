@@ -7,11 +7,11 @@ use lib.Dec.{T, eqb}
 use lib.ListN.{length}
 use Rattle.finite.specs.Truth.{or_right}
 use Rattle.board.specs.Sets.{has, members}
-use Rattle.board.specs.laws.LowestLaws.{lowest-of}
-use Rattle.retracting.specs.laws.Stepping.{leads_goes}
-use Rattle.working_back.specs.laws.Admitted.{admitted-kept}
-use Rattle.working_back.specs.laws.Sources.{Taken, taken_start, taken-turn, taken-spared, taken-end, fewer-left, lowest-in}
-use Rattle.working_back.specs.laws.Saved.{rest_in}
+use Rattle.board.proofs.laws.LowestLaws.{lowest-of}
+use Rattle.retracting.proofs.laws.Stepping.{leads_goes}
+use Rattle.working_back.proofs.laws.Admitted.{admitted-kept}
+use Rattle.working_back.proofs.laws.Sources.{Taken, taken_start, taken-turn, taken-spared, taken-end, fewer-left, lowest-in}
+use Rattle.working_back.proofs.laws.Saved.{rest_in}
 use Rattle.working_back.proofs.trying.lose_each.Given as goal
 
 abbrev pub invariant-loop-rest : goal.invariant-loop-rest

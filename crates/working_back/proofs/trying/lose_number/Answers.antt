@@ -1,8 +1,8 @@
 -- `working_back::lose_number` meets its contract.
 use borrow.Author.Rules.{rules}
 use Rattle.retracting.specs.Retracting.{place_before}
-use Rattle.working_back.specs.laws.Places.{tried-out, tried_other}
-use Rattle.working_back.specs.laws.Sparing.{found-spares, unsettled-none}
+use Rattle.working_back.proofs.laws.Places.{tried-out, tried_other}
+use Rattle.working_back.proofs.laws.Sparing.{found-spares, unsettled-none}
 use Rattle.working_back.proofs.trying.lose_number.Goals as goal
 
 pub returns-then-table-n : goal.returns-then-table-n

@@ -2,7 +2,7 @@
 use mathlib.Core.Path.{◌∙◌}
 use mathlib.Core.List.{[]}
 use borrow.Author.Rules.{rules}
-use Rattle.working_back.specs.laws.Sources.{number-of-source}
+use Rattle.working_back.proofs.laws.Sources.{number-of-source}
 use Rattle.working_back.proofs.trying.number_before.Goals as goal
 
 pub spot-requires : goal.spot-requires

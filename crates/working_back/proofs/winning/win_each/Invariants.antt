@@ -6,9 +6,9 @@ use lib.Dec.{T, eqb}
 use lib.ListN.{length}
 use Rattle.finite.specs.Truth.{or_right}
 use Rattle.board.specs.Sets.{has, members}
-use Rattle.board.specs.laws.LowestLaws.{lowest-beyond}
-use Rattle.working_back.specs.laws.Admitted.{admitted-kept}
-use Rattle.working_back.specs.laws.Sources.{Taken, taken_start, taken-turn, taken-end, lowest-in}
+use Rattle.board.proofs.laws.LowestLaws.{lowest-beyond}
+use Rattle.working_back.proofs.laws.Admitted.{admitted-kept}
+use Rattle.working_back.proofs.laws.Sources.{Taken, taken_start, taken-turn, taken-end, lowest-in}
 use Rattle.working_back.proofs.winning.win_each.Given as goal
 
 abbrev pub invariant-loop-rest : goal.invariant-loop-rest

@@ -7,14 +7,14 @@ use lib.Dec.{T, eqb}
 use lib.ListN.{length}
 use Rattle.finite.specs.Truth.{or_right}
 use Rattle.board.specs.Sets.{has, members}
-use Rattle.board.specs.laws.LowestLaws.{lowest-beyond}
+use Rattle.board.proofs.laws.LowestLaws.{lowest-beyond}
 use Rattle.index.specs.Moving.{king_on}
 use Rattle.retracting.specs.Retracting.{place_before}
-use Rattle.retracting.specs.laws.Sources.{free_of}
-use Rattle.working_back.specs.laws.Admitted.{admitted-kept}
-use Rattle.working_back.specs.laws.Numbers.{number-as}
-use Rattle.working_back.specs.laws.KingBack.{king-back}
-use Rattle.working_back.specs.laws.Sources.{Taken, taken_start, taken-turn, taken-end, lowest-in}
+use Rattle.retracting.proofs.laws.Sources.{free_of}
+use Rattle.working_back.proofs.laws.Admitted.{admitted-kept}
+use Rattle.working_back.proofs.laws.Numbers.{number-as}
+use Rattle.working_back.proofs.laws.KingBack.{king-back}
+use Rattle.working_back.proofs.laws.Sources.{Taken, taken_start, taken-turn, taken-end, lowest-in}
 use Rattle.working_back.proofs.winning.win_king.Goals as goal
 
 pub loop-rest-init : goal.loop-rest-init

@@ -1,8 +1,8 @@
 -- `working_back::win_number` meets its contract.
 use borrow.Author.Rules.{rules}
 use Rattle.retracting.specs.Retracting.{place_before}
-use Rattle.working_back.specs.laws.Numbers.{number-inside}
-use Rattle.working_back.specs.laws.Places.{tried_other, tried-odd}
+use Rattle.working_back.proofs.laws.Numbers.{number-inside}
+use Rattle.working_back.proofs.laws.Places.{tried_other, tried-odd}
 use Rattle.working_back.proofs.winning.win_number.Goals as goal
 
 pub bounds-table-n : goal.bounds-table-n

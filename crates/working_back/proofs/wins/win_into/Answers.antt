@@ -7,8 +7,8 @@ use lib.Dec.{eqb}
 use borrow.Author.Rules.{rules}
 use Rattle.successors.specs.Framing.{frame_for}
 use Rattle.retracting.specs.Retracting.{Seat}
-use Rattle.working_back.specs.laws.Admitted.{admitted-kept}
-use Rattle.working_back.specs.laws.Into.{king-seat, tries-at, into-all, into-king}
+use Rattle.working_back.proofs.laws.Admitted.{admitted-kept}
+use Rattle.working_back.proofs.laws.Into.{king-seat, tries-at, into-all, into-king}
 use Rattle.working_back.proofs.wins.win_into.Goals as goal
 
 pub win_king-a-requires : goal.win_king-a-requires

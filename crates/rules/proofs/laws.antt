@@ -1,0 +1,16 @@
+pub mod Legal
+pub mod MoveLists
+pub mod CanMove
+pub mod OnBoard
+pub mod PawnSteps
+pub mod Closed
+pub mod Promotion
+pub mod Taken
+pub mod PawnLaws
+pub mod Changed
+pub mod ChangedRules
+pub mod PromotionChanged
+pub mod ReorderedLaws
+pub mod Marks
+pub mod ChessLaws
+pub mod PawnCases
