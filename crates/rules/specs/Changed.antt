@@ -1,5 +1,5 @@
 -- The board under one of the eight maps, with the colours exchanged or not. Definitions only.
-use Rattle.std.specs.Prelude.{Bool, cond, not, ◌&&◌, map, ℕ, zero, suc}
+use Rattle.std.specs.Prelude.{Bool, false, cond, not, ◌&&◌, map, ℕ, zero, suc}
 use Rattle.std.specs.Bool.{beq}
 use Rattle.finite.specs.Truth.{implies}
 use Rattle.finite.specs.Members.{all}
