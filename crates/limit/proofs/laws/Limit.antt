@@ -20,7 +20,8 @@ use Rattle.rules.specs.Pawn.{pawn, outer}
 use Rattle.rules.specs.Rules.{Board, piece_of, pieces, occupied, stands, goes_to, goes, in_check, moved, can_move, promotes, promotions, move_on, moves_to, moves_onto, moves_from, all_moves}
 use Rattle.rules.proofs.laws.CanMove.{Can, can-facts, can-on, goes-squares, goes-piece}
 use Rattle.limit.proofs.laws.Sums.{total, total-add, total-none, total-filter, length-flat_map, only, total-only, weighed, weighed-none, weighed-fewer, weighed-any}
-use Rattle.limit.proofs.laws.Reaching.{one, most, reaches-most}
+use Rattle.limit.proofs.laws.Reaching.{one, reaches-most}
+use Rattle.limit.specs.Most.{most}
 use Rattle.limit.proofs.laws.Promoting.{heavy, near, wide, near-wide, king-near, piece-wide, pawn-near, near-one, near-heavy, wide-heavy}
 
 -- a pawn's way of going

@@ -9,6 +9,7 @@ use Rattle.board.specs.Square.{stays, shift}
 use Rattle.board.specs.Reach.{line, step_xs, step_ys, step_ranges, steps_of, line_of, reaches}
 use Rattle.board.proofs.laws.ReachLaws.{reaches-off, reaches-none}
 use Rattle.limit.proofs.laws.Sums.{total, weighed, weighed-one, weighed-none, weighed-fewer, weighed-or, weighed-any}
+use Rattle.limit.specs.Most.{most}
 
 -- where each square has a weight
 module _ (g : ℕ → ℕ) where
@@ -55,9 +56,6 @@ module _ (g : ℕ → ℕ) where
 
 abbrev pub one : ℕ → ℕ
 one t = 1
-
-abbrev pub most : ℕ → ℕ
-most kind = cond (eqb kind 5) 8 27
 
 within : ℕ → ℕ → Bool
 within kind s = leb (of_kind one kind s) (most kind)
