@@ -6,7 +6,6 @@ ghost use Rattle.position.specs.Keyed.{man_kind};
 ghost use Rattle.adjudication.specs.Reply.{Gives, look_up_reply, filled_reply};
 ghost use Rattle.adjudication.specs.TrueSlip.{LinePromise};
 
-use answers::{Answer, Filled};
 use filling::fill_one_back;
 use index::position_of;
 use lines::{Request, parse};
@@ -25,21 +24,17 @@ pub struct Reply {
 }
 
 // A position looked up in a table that filling just left.
-fn after_fill(p: Position, kind: u8, filled: Filled, table: &[u8]) -> Reply
+fn after_fill(p: Position, kind: u8, filled: Result<Option<u8>, u8>, table: &[u8]) -> Reply
     requires { kind ≡ man_kind p }
     ensures { Gives result (filled_reply p filled table.now) }
 {
     match filled {
-        Filled::Greatest(_) => Reply {
+        Ok(_) => Reply {
             slip: answer_slip(look_up(table, p)),
             held: kind,
         },
-        Filled::NoneDecided => Reply {
-            slip: answer_slip(look_up(table, p)),
-            held: kind,
-        },
-        Filled::Refused(n) => Reply {
-            slip: answer_slip(Answer::Refused(n)),
+        Err(n) => Reply {
+            slip: answer_slip(Err(n)),
             held: NONE,
         },
     }
@@ -61,7 +56,7 @@ fn look_up_line(p: Position, held: u8, table: &mut [u8]) -> Reply
     let refusal = standing_refusal(p);
     if refusal != 0 {
         return Reply {
-            slip: answer_slip(Answer::Refused(refusal)),
+            slip: answer_slip(Err(refusal)),
             held,
         };
     }
@@ -75,13 +70,13 @@ pub fn answer_line(line: &[u8], held: u8, table: &mut [u8]) -> Reply
 {
     let request = parse(line);
     match request {
-        Request::LookUp(p) => look_up_line(p, held, &mut *table),
-        Request::Back(man, n) => Reply {
+        Ok(Request::LookUp(p)) => look_up_line(p, held, &mut *table),
+        Ok(Request::Back(man, n)) => Reply {
             slip: placed_slip(position_of(man, n)),
             held,
         },
-        Request::Refused(n) => Reply {
-            slip: answer_slip(Answer::Refused(n)),
+        Err(n) => Reply {
+            slip: answer_slip(Err(n)),
             held,
         },
     }

@@ -10,20 +10,12 @@ use constants::{bishop_lines, king_steps, knight_steps, rook_lines};
 pub fn on_empty(kind: u8, from: u8) -> u64
     ensures { result ≡ set_of (reaches nothing kind from) }
 {
-    if kind == 0 {
-        return rook_lines(from) | bishop_lines(from);
+    match kind {
+        0 => rook_lines(from) | bishop_lines(from),
+        1 => rook_lines(from),
+        2 => bishop_lines(from),
+        3 => knight_steps(from),
+        5 => king_steps(from),
+        _ => 0,
     }
-    if kind == 1 {
-        return rook_lines(from);
-    }
-    if kind == 2 {
-        return bishop_lines(from);
-    }
-    if kind == 3 {
-        return knight_steps(from);
-    }
-    if kind == 5 {
-        return king_steps(from);
-    }
-    0
 }

@@ -4,17 +4,12 @@
 mod empty_board;
 mod lines;
 mod sets;
+mod squares;
 mod steps;
 mod walks;
 
 pub use lines::targets;
 pub use sets::{beyond_lowest, has, lowest, minus, one, size, with, without};
+pub use squares::{Squares, squares_of};
 pub use steps::step_to;
 pub use walks::{attacks, walk};
-
-// What a walk meets first: another piece, at a square, or the edge.
-#[derive(Clone, Copy)]
-pub enum Met {
-    At(u8),
-    Edge,
-}

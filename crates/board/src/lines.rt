@@ -5,8 +5,9 @@ ghost use Rattle.finite.specs.Numbers.{numbers};
 ghost use Rattle.board.specs.Reach.{line_of, reaches as reaches_of};
 ghost use Rattle.board.specs.Sets.{has as holds, set_of};
 
+use super::empty_board::on_empty;
 use super::steps::{ends_of, step_at, stepped};
-use constants::{bishop_lines, king_steps, knight_steps, rook_lines};
+use constants::{king_steps, knight_steps};
 
 // The squares of the lines in the directions `first` up to `end`: a line stops at the first piece it meets.
 fn lines(occ: u64, from: u8, first: u8, end: u8) -> u64
@@ -34,46 +35,29 @@ fn lines(occ: u64, from: u8, first: u8, end: u8) -> u64
     }
 }
 
-// The squares that a rook attacks. Its lines are walked only where a piece stands on them.
-fn rook_targets(occ: u64, from: u8) -> u64
-    ensures { result ≡ set_of (reaches_of (holds occ) 1 from) }
+// The squares that a rook (1) or a bishop (2) attacks. Its lines are walked only where a piece stands on them.
+fn line_targets(occ: u64, kind: u8, from: u8) -> u64
+    requires { (0 < kind) × (kind < 3) }
+    ensures { result ≡ set_of (reaches_of (holds occ) kind from) }
 {
-    let full = rook_lines(from);
+    let full = on_empty(kind, from);
     if full & occ == 0 {
         return full;
     }
-    lines(occ, from, 0, 4)
-}
-
-// The squares that a bishop attacks, in the same way.
-fn bishop_targets(occ: u64, from: u8) -> u64
-    ensures { result ≡ set_of (reaches_of (holds occ) 2 from) }
-{
-    let full = bishop_lines(from);
-    if full & occ == 0 {
-        return full;
-    }
-    lines(occ, from, 4, 8)
+    let first = (kind - 1) * 4;
+    lines(occ, from, first, first + 4)
 }
 
 // All the squares that a piece of this kind on `from` attacks: queen 0, rook 1, bishop 2, knight 3, king 5.
 pub fn targets(occ: u64, kind: u8, from: u8) -> u64
     ensures { result ≡ set_of (reaches_of (holds occ) kind from) }
 {
-    if kind == 0 {
-        return rook_targets(occ, from) | bishop_targets(occ, from);
+    match kind {
+        0 => line_targets(occ, 1, from) | line_targets(occ, 2, from),
+        1 => line_targets(occ, 1, from),
+        2 => line_targets(occ, 2, from),
+        3 => knight_steps(from),
+        5 => king_steps(from),
+        _ => 0,
     }
-    if kind == 1 {
-        return rook_targets(occ, from);
-    }
-    if kind == 2 {
-        return bishop_targets(occ, from);
-    }
-    if kind == 3 {
-        return knight_steps(from);
-    }
-    if kind == 5 {
-        return king_steps(from);
-    }
-    0
 }

@@ -46,16 +46,7 @@ pub fn stepped(b: u64, step: u8, ends: u64) -> u64
 fn on_board(x: u8, y: u8) -> u8
     ensures { result ≡ square_at x y }
 {
-    if x < 2 {
-        return 64;
-    }
-    if 9 < x {
-        return 64;
-    }
-    if y < 2 {
-        return 64;
-    }
-    if 9 < y {
+    if x < 2 || 9 < x || y < 2 || 9 < y {
         return 64;
     }
     (y - 2) * 8 + (x - 2)
@@ -65,13 +56,7 @@ fn on_board(x: u8, y: u8) -> u8
 pub fn step_to(s: u8, dx: u8, dy: u8) -> u8
     ensures { result ≡ shift s dx dy }
 {
-    if 64 <= s {
-        return 64;
-    }
-    if 9 < dx {
-        return 64;
-    }
-    if 9 < dy {
+    if 64 <= s || 9 < dx || 9 < dy {
         return 64;
     }
     on_board(s % 8 + dx, s / 8 + dy)

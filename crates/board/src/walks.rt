@@ -6,20 +6,19 @@ ghost use Rattle.board.specs.Reach.{reaches};
 ghost use Rattle.board.specs.Walk.{walk_of, meets_first};
 ghost use Rattle.board.specs.Sets.{has as holds};
 
-use super::Met;
 use super::empty_board::on_empty;
 use super::sets::{has, lowest, with};
 use super::steps::{ends_of, step_at, stepped};
 
-// The first occupied square after `from` in one direction, or the edge. The rook's directions are 0 to 3, the bishop's 4 to 7.
-pub fn walk(occ: u64, from: u8, direction: u8) -> Met
+// The first occupied square after `from` in one direction; none where the edge comes first. The rook's directions are 0 to 3, the bishop's 4 to 7.
+pub fn walk(occ: u64, from: u8, direction: u8) -> Option<u8>
     ensures { result ≡ walk_of (holds occ) from direction }
 {
     if 64 <= from {
-        return Met::Edge;
+        return None;
     }
     if 8 <= direction {
-        return Met::Edge;
+        return None;
     }
     let step = step_at(direction);
     let ends = ends_of(step);
@@ -27,10 +26,10 @@ pub fn walk(occ: u64, from: u8, direction: u8) -> Met
     loop {
         at = stepped(at, step, ends);
         if at == 0 {
-            break Met::Edge;
+            break None;
         }
         if at & occ != 0 {
-            break Met::At(lowest(at));
+            break Some(lowest(at));
         }
     }
 }
@@ -41,10 +40,8 @@ fn meets(occ: u64, from: u8, first: u8, end: u8, t: u8) -> bool
 {
     let standing = with(occ, t);
     for direction in first..end {
-        if let Met::At(u) = walk(standing, from, direction) {
-            if u == t {
-                return true;
-            }
+        if walk(standing, from, direction) == Some(t) {
+            return true;
         }
     }
     false
@@ -58,14 +55,10 @@ pub fn attacks(occ: u64, kind: u8, from: u8, t: u8) -> bool
     if !has(on_empty(kind, from), t) {
         return false;
     }
-    if kind == 0 {
-        return meets(occ, from, 0, 8, t);
+    match kind {
+        0 => meets(occ, from, 0, 8, t),
+        1 => meets(occ, from, 0, 4, t),
+        2 => meets(occ, from, 4, 8, t),
+        _ => true,
     }
-    if kind == 1 {
-        return meets(occ, from, 0, 4, t);
-    }
-    if kind == 2 {
-        return meets(occ, from, 4, 8, t);
-    }
-    true
 }

@@ -1,5 +1,5 @@
 -- What the laws of the same name speak of. Definitions only.
-use Rattle.std.specs.Prelude.{◌≡◌, false, cond, List, ℕ, ◌<◌, T, ltb}
+use Rattle.std.specs.Prelude.{◌≡◌, false, cond, List, ℕ, ◌<◌, T, ltb, Ok, Result}
 use Rattle.finite.specs.Lowest.{lowest}
 use Rattle.table_theory.specs.Tables.{wrong_at}
 use Rattle.rules.specs.Chess.{chess}
@@ -28,7 +28,7 @@ abbrev pub RightBelow : Material → Lent → List ℕ → ℕ → Type 0
 RightBelow m l t n = (k : ℕ) → k < n → wrong_at chess (numbered m l) t k ≡ false
 
 -- "It accepts, or names the lowest wrong number", no refusal applying
-unfoldable pub found : Material → Lent → List ℕ → Checked
+unfoldable pub found : Material → Lent → List ℕ → Result Checked ℕ
 found m l t =
     let low = lowest (wrong_at chess (numbered m l) t) (size_of m) in
-    cond (ltb low (size_of m)) (Checked.Wrong low) Checked.Accepted
+    cond (ltb low (size_of m)) (Ok (Checked.Wrong low)) (Ok Checked.Accepted)

@@ -17,43 +17,41 @@ use numbering::Material;
 use position::{BAD_MAN, Men, TABLE_LENGTH};
 
 // Accepted, or the lowest wrong number.
-fn lowest_wrong(m: Men, table: &[u8], first: &[u8], second: &[u8]) -> Checked
+fn lowest_wrong(m: Men, table: &[u8], first: &[u8], second: &[u8]) -> Result<Checked, u8>
     requires { Ended m (length table.now) }
     ensures { result ≡ found (material_for m) (lent first.now second.now) table.now }
 {
     let mut row = place_at(m, 0);
-    let mut n: usize = 0;
-    while n < table.len() {
+    for n in 0..table.len() {
         row = row_at(m, row, n as u32);
         if !is_right(m, row, n as u32, table[n], table, first, second) {
-            return Checked::Wrong(n as u32);
+            return Ok(Checked::Wrong(n as u32));
         }
-        n += 1;
     }
-    Checked::Accepted
+    Ok(Checked::Accepted)
 }
 
 // The table of one man's ending, which borrows none: accepted, the lowest wrong number, or a refusal, 1 or 7.
-pub fn check(kind: u8, table: &[u8]) -> Checked
+pub fn check(kind: u8, table: &[u8]) -> Result<Checked, u8>
     ensures { CheckPromise kind table.now result }
 {
     let m = Material::One(kind);
     if !is_given(m) {
-        return Checked::Refused(BAD_MAN);
+        return Err(BAD_MAN);
     }
     if !lengths_fit(m, table, table, table) {
-        return Checked::Refused(TABLE_LENGTH);
+        return Err(TABLE_LENGTH);
     }
     lowest_wrong(men_of(m), table, table, table)
 }
 
-fn is_accepted(c: Checked) -> bool
+fn is_accepted(c: Result<Checked, u8>) -> bool
     ensures { result ≡ accepts c }
 {
     match c {
-        Checked::Accepted => true,
-        Checked::Wrong(_) => false,
-        Checked::Refused(_) => false,
+        Ok(Checked::Accepted) => true,
+        Ok(Checked::Wrong(_)) => false,
+        Err(_) => false,
     }
 }
 
@@ -73,8 +71,7 @@ fn part_accepted(kind: u8, run: &[u8]) -> bool
 fn parts_accepted(run: &[u8]) -> bool
     ensures { result ≡ parts_accepted run.now }
 {
-    part_accepted(0, run)
-        & (part_accepted(1, run) & (part_accepted(2, run) & part_accepted(3, run)))
+    (0..4).all(|kind| part_accepted(kind, run))
 }
 
 // Whether the checker accepts each lent table: the first for the first man's kind, the second for the second's;
@@ -84,29 +81,24 @@ pub fn lent_accepted(m: Material, first: &[u8], second: &[u8]) -> bool
 {
     match m {
         Material::One(_) => true,
-        Material::Two(j, k, _) => {
-            if !is_accepted(check(j, first)) {
-                return false;
-            }
-            is_accepted(check(k, second))
-        },
+        Material::Two(j, k, _) => is_accepted(check(j, first)) && is_accepted(check(k, second)),
         Material::Pawn => parts_accepted(first),
     }
 }
 
 // The table of an ending with one man or two over the lent ones: accepted, the lowest wrong number, or a refusal, 1, 7
 // or 17.
-pub fn check_with(m: Material, table: &[u8], first: &[u8], second: &[u8]) -> Checked
+pub fn check_with(m: Material, table: &[u8], first: &[u8], second: &[u8]) -> Result<Checked, u8>
     ensures { CheckPromiseWith m (lent first.now second.now) table.now result }
 {
     if !is_given(m) {
-        return Checked::Refused(BAD_MAN);
+        return Err(BAD_MAN);
     }
     if !lengths_fit(m, table, first, second) {
-        return Checked::Refused(TABLE_LENGTH);
+        return Err(TABLE_LENGTH);
     }
     if !lent_accepted(m, first, second) {
-        return Checked::Refused(NOT_ACCEPTED);
+        return Err(NOT_ACCEPTED);
     }
     lowest_wrong(men_of(m), table, first, second)
 }

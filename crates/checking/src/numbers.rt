@@ -11,7 +11,6 @@ ghost use Rattle.checking.specs.Right.{Numbers};
 
 use deciding::{legal_in, requires_byte};
 use position::{Men, Place};
-use successors::Standing;
 
 // Whether the byte is the one required at the number; `row` is the place at its row's first number.
 pub fn is_right(
@@ -28,7 +27,7 @@ pub fn is_right(
 {
     let standing = legal_in(m, row, n);
     match standing {
-        Standing::Legal(q) => requires_byte(m, q, byte, table, first, second),
-        Standing::Nothing => byte == 0,
+        Some(q) => requires_byte(m, q, byte, table, first, second),
+        None => byte == 0,
     }
 }

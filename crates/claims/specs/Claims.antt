@@ -3,10 +3,10 @@
 -- is an ending, `t` its table, and `l` what is lent with it: the table of each of two men alone, or the four into which
 -- a pawn promotes. One man borrows none, whatever `l` is. For pieces `legal_in m` is `legal`, and `TrueAnswerIn` is
 -- `TrueAnswer`.
-use Rattle.std.specs.Prelude.{◌≡◌, Bool, false, ◌↔◌, List, ℕ, ◌<◌, T}
+use Rattle.std.specs.Prelude.{◌≡◌, Bool, false, ◌↔◌, List, ℕ, ◌<◌, T, Ok, Err, Result}
 use Rattle.std.proofs.Common.{sym, ap, ◌∙◌}
 use Rattle.theory.specs.Play.{LegalGame, Follows}
-use Rattle.table_theory.specs.Tables.{Result}
+use Rattle.table_theory.specs.Tables.{Result as FillEnd}
 use Rattle.table_theory.specs.Steps.{settled, ends, Stepped}
 use Rattle.rules.specs.declared.Move.{Move}
 use Rattle.rules.specs.Rules.{Board}
@@ -19,7 +19,6 @@ use Rattle.position.specs.Keyed.{board_of}
 use Rattle.position.specs.Maps.{changed_position}
 use Rattle.pawn_numbers.specs.PawnNumber.{Flip}
 use Rattle.position.specs.Refusals.{placing_with, standing_with}
-use Rattle.index.specs.declared.Placed.{Placed}
 use Rattle.index.specs.Answers.{number_with, placed_with}
 use Rattle.answers.specs.declared.Answer.{Answer}
 use Rattle.answers.specs.declared.Checked.{Checked}
@@ -53,16 +52,16 @@ pub same_number : (p q : Position) → placing_with p ≡ 0 → placing_with q �
 same_number = numbers.same-number-with
 
 -- 2. Each used number leads back to a position that bears it.
-pub number-back : (m : Material) (n : ℕ) (p : Position) → placed_with m n ≡ Placed.At p → BearsOf m n p
+pub number-back : (m : Material) (n : ℕ) (p : Position) → placed_with m n ≡ Ok p → BearsOf m n p
 number-back = numbers.number-back-with
 
 -- 3. Checking accepts a table exactly when there is such an ending, all lengths fit, each lent table is accepted and
 -- this one is true: that table and no other, whoever made it. It gives 17 exactly where a lent table is not accepted, 1
 -- and 7 not refusing.
 pub accepted-true : (m : Material) (l : Lent) (t : List ℕ)
-    → ((check_with m l t ≡ Checked.Accepted)
+    → ((check_with m l t ≡ Ok Checked.Accepted)
     ↔ (T (given m) × T (lengths_fit m l t) × T (lent_accepted m l) × TrueTableOf m t))
-    × ((check_with m l t ≡ Checked.Refused 17) ↔ (T (given m) × T (lengths_fit m l t) × (lent_accepted m l ≡ false)))
+    × ((check_with m l t ≡ Err 17) ↔ (T (given m) × T (lengths_fit m l t) × (lent_accepted m l ≡ false)))
 accepted-true m l t = (checking.accepts-true-with m l t, checking.checked-17 m l t)
 
 -- 4. Where 1, 7 and 17 do not refuse, filling leaves the true table and gives the greatest depth, or says that no
@@ -73,18 +72,18 @@ filled-true = filling.filled-true-with
 
 -- 5. With accepted tables look-up answers each legal position of the ending with its true value and depth and the truly
 -- best move that is first on the normal board.
-pub looked-up-true : (m : Material) (l : Lent) (t : List ℕ) → check_with m l t ≡ Checked.Accepted → (p : Position)
+pub looked-up-true : (m : Material) (l : Lent) (t : List ℕ) → check_with m l t ≡ Ok Checked.Accepted → (p : Position)
     → material_in (board_of p).men ≡ m → standing_with p ≡ 0 → TrueAnswerIn (board_of p) (look_up_with l t p)
 looked-up-true = looking_up.look-up-true-with
 
 -- 6. A board has one true answer: value, depth and move are pinned by the rules of chess alone.
-pub one_answer : (b : Board) (a c : Answer) → TrueAnswerIn b a → TrueAnswerIn b c → a ≡ c
+pub one_answer : (b : Board) (a c : Result Answer ℕ) → TrueAnswerIn b a → TrueAnswerIn b c → a ≡ c
 one_answer b a c = answers.one_answer b a c
 
 -- 7. The theorem about games: every list of legal moves from any legal board of the ending, the men White's or Black's,
 -- through captures and promotions until bare kings, in which a side plays the moves that look-up gives with tables that
 -- are accepted and stay as they are.
-pub games : (m : Material) (l : Lent) (t : List ℕ) → check_with m l t ≡ Checked.Accepted → (b : Board) → T (legal_in m b)
+pub games : (m : Material) (l : Lent) (t : List ℕ) → check_with m l t ≡ Ok Checked.Accepted → (b : Board) → T (legal_in m b)
     → OfMaterial m b → (side : Bool) (ms : List Move) → LegalGame chess b ms
     → Follows chess (desk_move_with m l t) side b ms → GamePromiseWith m l t side b ms
 games = playing.games-with
@@ -92,7 +91,7 @@ games = playing.games-with
 -- 8. The same at whatever count from 0 to 99 each look-up is given, with the fifty-move rule in it: from a marked
 -- position the winner who plays the desk's moves mates within the depth, and before that the loser may not claim (FIDE
 -- 9.3), whatever the replies and captures. With a pawn on the board no position is marked.
-pub fifty-games : (m : Material) (l : Lent) (t : List ℕ) → check_with m l t ≡ Checked.Accepted → (b : Board)
+pub fifty-games : (m : Material) (l : Lent) (t : List ℕ) → check_with m l t ≡ Ok Checked.Accepted → (b : Board)
     → T (legal_in m b) → OfMaterial m b → (side : Bool) (ms : List Move) → LegalGame chess b ms
     → PlaysCountedWith m l t side b ms → FiftyPromiseWith m l t side b ms
 fifty-games = fifty.fifty-games-with
@@ -111,7 +110,7 @@ move-turned l t p = (λ s n. turning.move-turned-with l t s p n, λ s e. pawns.m
 -- what that fill leaves: answer and every byte. After 255 steps every run has ended.
 pub steps-fill : (m : Material) (l : Lent) (t : List ℕ) → T (given m) → T (lengths_fit m l t) → T (lent_accepted m l)
     → LentBytes m l → (n : ℕ) (s : Stepped) → steps_with m l n (start_with m t) ≡ Call.made s
-    → ((r : Result) → s.said ≡ ends r → (result_of r ≡ (fill_with m l t).answer) × (s.bytes ≡ (fill_with m l t).bytes))
+    → ((r : FillEnd) → s.said ≡ ends r → (result_of r ≡ (fill_with m l t).answer) × (s.bytes ≡ (fill_with m l t).bytes))
     × ((k : ℕ) → 254 < n → s.said ≡ settled k → ⊥)
 steps-fill m l t w long ok small n s run =
     let same : runs.ran m l t w long n ≡ s = cc (sym (runs.run-with-is m l t w long n) ∙ run) in

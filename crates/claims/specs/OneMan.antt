@@ -1,6 +1,6 @@
 -- The theorems of Claims with one man besides the kings, where nothing is lent, in 01's own words. The man's kind names
 -- the ending.
-use Rattle.std.specs.Prelude.{◌≡◌, Bool, ◌↔◌, List, ℕ, ◌<◌, T, length}
+use Rattle.std.specs.Prelude.{◌≡◌, Bool, ◌↔◌, List, ℕ, ◌<◌, T, length, Ok}
 use Rattle.theory.specs.Play.{LegalGame, Follows}
 use Rattle.rules.specs.declared.Move.{Move}
 use Rattle.rules.specs.Rules.{Board, legal}
@@ -8,7 +8,6 @@ use Rattle.rules.specs.Chess.{chess}
 use Rattle.position.specs.declared.Position.{Position}
 use Rattle.position.specs.Keyed.{board_of, man_kind}
 use Rattle.position.specs.Refusals.{placing_refusal, standing_refusal}
-use Rattle.index.specs.declared.Placed.{Placed}
 use Rattle.index.specs.Answers.{number_answer, placed_at}
 use Rattle.index.specs.NumberLaws.{SameClass}
 use Rattle.index.proofs.laws.NumberLaws as numbers
@@ -34,12 +33,12 @@ pub same_number : (p q : Position) → placing_refusal p ≡ 0 → placing_refus
 same_number = numbers.same_number
 
 -- 2. Each used number leads back to a position that bears it.
-pub number-back : (kind n : ℕ) (p : Position) → placed_at kind n ≡ Placed.At p → Bears kind n p
+pub number-back : (kind n : ℕ) (p : Position) → placed_at kind n ≡ Ok p → Bears kind n p
 number-back = backs.number-back
 
 -- 3. Checking accepts a table exactly when it is as long as a table and the true one.
 pub accepted-true : (kind : ℕ) (t : List ℕ)
-    → (check_of kind t ≡ Checked.Accepted) ↔ ((kind < 4) × (length t ≡ table_size) × TrueTable kind t)
+    → (check_of kind t ≡ Ok Checked.Accepted) ↔ ((kind < 4) × (length t ≡ table_size) × TrueTable kind t)
 accepted-true = checking.accepts-true-only
 
 -- 4. Filling leaves the true table and gives the greatest depth, or none decided; or it gives 10, a depth exceeds 253
@@ -48,17 +47,17 @@ pub filled-true : (kind : ℕ) (t : List ℕ) → kind < 4 → length t ≡ tabl
 filled-true = filling.filled-true
 
 -- 5. With an accepted table look-up gives each legal position of the ending its true answer.
-pub looked-up-true : (kind : ℕ) (t : List ℕ) → check_of kind t ≡ Checked.Accepted
+pub looked-up-true : (kind : ℕ) (t : List ℕ) → check_of kind t ≡ Ok Checked.Accepted
     → (p : Position) → man_kind p ≡ kind → standing_refusal p ≡ 0 → TrueAnswer (board_of p) (look_up_of t p)
 looked-up-true = looking_up.look-up-true
 
 -- 7. The theorem about games, as the instance of the one for both sizes in which nothing is lent.
-pub games : (kind : ℕ) (t : List ℕ) → check_of kind t ≡ Checked.Accepted → (b : Board) → T (legal b) → Lone kind b
+pub games : (kind : ℕ) (t : List ℕ) → check_of kind t ≡ Ok Checked.Accepted → (b : Board) → T (legal b) → Lone kind b
     → (side : Bool) (ms : List Move) → LegalGame chess b ms → Follows chess (desk_move t) side b ms
     → GamePromise t side b ms
 games = playing.games-alone
 
 -- 8. The same at any counts from 0 to 99, with the fifty-move rule in it.
-pub fifty-games : (kind : ℕ) (t : List ℕ) → check_of kind t ≡ Checked.Accepted → (b : Board) → T (legal b) → Lone kind b
+pub fifty-games : (kind : ℕ) (t : List ℕ) → check_of kind t ≡ Ok Checked.Accepted → (b : Board) → T (legal b) → Lone kind b
     → (side : Bool) (ms : List Move) → LegalGame chess b ms → PlaysCounted t side b ms → FiftyPromise t side b ms
 fifty-games = fifty.fifty-games

@@ -14,17 +14,17 @@ use index::is_used;
 use movegen::checked;
 use pawn_moves::{is_pawn_legal, pawn_seat};
 use position::{Men, Place, other};
-use successors::{Standing, legal_at as legal_of_pieces};
+use successors::legal_at as legal_of_pieces;
 
 // King and pawn.
-fn legal_of_pawn(n: u32) -> Standing
+fn legal_of_pawn(n: u32) -> Option<Place>
     ensures { (m : Men) → material_for m ≡ Material.Pawn → StandingFor m n result }
 {
     let q = pawn_seat(n);
     if !is_pawn_legal(q) {
-        return Standing::Nothing;
+        return None;
     }
-    Standing::Legal(q)
+    Some(q)
 }
 
 // Whether the number is used and its position legal, by what stands there.
@@ -38,7 +38,7 @@ pub fn is_legal_on(m: Men, q: Place, n: u32) -> bool
 }
 
 // The place at the number, if the number is used and its position legal.
-pub fn legal_at(m: Men, n: u32) -> Standing
+pub fn legal_at(m: Men, n: u32) -> Option<Place>
     ensures { T (given (material_for m)) → m.colour < 2 → n < size_of (material_for m) → StandingFor m n result }
 {
     if m.first == PAWN {
@@ -48,7 +48,7 @@ pub fn legal_at(m: Men, n: u32) -> Standing
 }
 
 // The same as `legal_at`, of pieces by the place at the first number of the row.
-pub fn legal_in(m: Men, row: Place, n: u32) -> Standing
+pub fn legal_in(m: Men, row: Place, n: u32) -> Option<Place>
     ensures { T (given (material_for m)) → (T (known (material_for m)) → RowOf m n row) → StandingFor m n result }
 {
     if m.first == PAWN {
@@ -56,12 +56,12 @@ pub fn legal_in(m: Men, row: Place, n: u32) -> Standing
     }
     let q = in_row(m, row, n);
     if !is_used(m, q, n) {
-        return Standing::Nothing;
+        return None;
     }
     if checked(m, q, other(q.side)) {
-        return Standing::Nothing;
+        return None;
     }
-    Standing::Legal(q)
+    Some(q)
 }
 
 // Whether there is one.
@@ -70,7 +70,7 @@ pub fn is_legal_number(m: Men, n: u32) -> bool
 {
     let standing = legal_at(m, n);
     match standing {
-        Standing::Legal(_) => true,
-        Standing::Nothing => false,
+        Some(_) => true,
+        None => false,
     }
 }

@@ -6,7 +6,6 @@ ghost use Rattle.pawn_moves.specs.PawnMoves.{pawn_at, PawnOn, pawn_bytes};
 ghost use Rattle.successors.specs.Successors.{verdict_of};
 ghost use Rattle.deciding.specs.Deciding.{end_of};
 
-use answers::BestMove;
 use pawn_moves::{Weighed, end_byte, is_mated, is_stuck, weigh};
 use position::Place;
 use successors::Verdict;
@@ -19,7 +18,7 @@ fn pawn_over(q: Place, byte: u8) -> Verdict
         return Verdict::Wrong;
     }
     if byte == end_byte(q) {
-        return Verdict::Right(BestMove::NoMove);
+        return Verdict::Right(None);
     }
     Verdict::Wrong
 }
@@ -34,7 +33,7 @@ pub fn pawn_verdict(q: Place, byte: u8, table: &[u8], run: &[u8]) -> Verdict
     let outcome = weigh(q, byte as u16, table, run);
     match outcome {
         Weighed::Refuted => Verdict::Wrong,
-        Weighed::Met(v) => Verdict::Right(BestMove::Play(v)),
+        Weighed::Met(v) => Verdict::Right(Some(v)),
         Weighed::Unmet => pawn_over(q, byte),
     }
 }

@@ -46,13 +46,11 @@ fn legal_each(m: Men, row: Place, n: u32) -> u64
     ensures { RowOf m n row → LegalRow m n result }
 {
     let mut legal: u64 = 0;
-    let mut s: u8 = 0;
-    while s < 64 {
+    for s in 0..64 {
         let at = n / 64 * 64 + s as u32;
         if is_legal_on(m, in_row(m, row, at), at) {
             legal = with(legal, s);
         }
-        s += 1;
     }
     legal
 }

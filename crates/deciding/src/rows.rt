@@ -23,21 +23,9 @@ pub fn with_last(m: Men, row: Place, s: u8) -> Place
     ensures { result ≡ with_last m row s }
 {
     if 4 <= m.second {
-        return Place {
-            side: row.side,
-            white: row.white,
-            black: row.black,
-            first: s,
-            second: row.second,
-        };
+        return Place { first: s, ..row };
     }
-    Place {
-        side: row.side,
-        white: row.white,
-        black: row.black,
-        first: row.first,
-        second: s,
-    }
+    Place { second: s, ..row }
 }
 
 // What stands at a number of the row.

@@ -13,7 +13,7 @@ use super::verdicts::requires_depth;
 use index::{place_at, shares};
 use position::{Men, Place};
 use successors::{
-    Standing, is_legal_number as is_legal_of_pieces, requires_byte as pieces_require_byte,
+    is_legal_number as is_legal_of_pieces, requires_byte as pieces_require_byte,
     requires_depth as pieces_require,
 };
 
@@ -47,8 +47,8 @@ fn pawn_at(m: Men, n: u32, k: u8, table: &[u8], first: &[u8], second: &[u8]) -> 
 {
     let standing = legal_at(m, n);
     match standing {
-        Standing::Legal(q) => requires_depth(m, q, k, table, first, second),
-        Standing::Nothing => false,
+        Some(q) => requires_depth(m, q, k, table, first, second),
+        None => false,
     }
 }
 

@@ -11,53 +11,33 @@ const CHUNK: usize = 4096;
 
 const OUTPUT_SIZE: usize = 16 * CHUNK;
 
-// What the desk keeps from one read to the next, and whether there is more to do.
-#[derive(Clone, Copy)]
-struct Desk {
-    state: State,
-    is_open: bool,
-}
-
-// A desk that has just begun, or is done.
-fn fresh(is_open: bool) -> Desk {
-    Desk {
-        state: stream::start(),
-        is_open,
-    }
-}
-
 // Writes what waits. Where that fails nobody reads the desk, and it closes.
-fn flush(rt: &impl Print, state: State, output: &[u8]) -> Desk {
-    let waiting = state.waiting;
-    if waiting > output.len() {
-        return fresh(false);
-    }
-    let is_written = rt.write_all(&output[..waiting]).is_ok();
-    Desk {
-        state: stream::flushed(state),
-        is_open: is_written,
-    }
+fn flush(rt: &impl Print, state: State, output: &[u8]) -> Option<State> {
+    let written = output.get(..state.waiting)?;
+    rt.write_all(written).ok()?;
+    Some(stream::flushed(state))
 }
 
-// Answers the last line where it lacks its newline, and closes.
-fn close(rt: &impl Print, state: State, table: &mut [u8], output: &mut [u8]) -> Desk {
+// Answers the last line where it lacks its newline.
+fn close(rt: &impl Print, state: State, table: &mut [u8], output: &mut [u8]) {
     let last = stream::close(state, &mut *table, &mut *output);
-    flush(rt, last, &*output);
-    fresh(false)
+    let _ = flush(rt, last, &*output);
 }
 
-// Reads once and answers the lines that end in what came, so that a reply never waits for more input. A read that fails counts as the end.
+// Reads once and answers the lines that end in what came, so that a reply never waits for more input; none once the desk has closed. A read that
+// fails counts as the end.
 fn serve(
     rt: &impl Print,
     input: &mut impl Read,
     state: State,
     table: &mut [u8],
     output: &mut [u8],
-) -> Desk {
+) -> Option<State> {
     let mut chunk = [0u8; CHUNK];
     let n = input.read(&mut chunk).unwrap_or(0);
     if n == 0 {
-        return close(rt, state, &mut *table, &mut *output);
+        close(rt, state, &mut *table, &mut *output);
+        return None;
     }
     let taken = stream::take_all(&chunk[..n], state, &mut *table, &mut *output);
     flush(rt, taken, &*output)
@@ -68,12 +48,12 @@ fn main(rt: HostRuntime) -> io::Result<()> {
     let mut table = [0u8; TABLE_SIZE];
     let mut output = [0u8; OUTPUT_SIZE];
     let mut input = rt.reader();
-    let mut desk = fresh(true);
+    let mut state = stream::start();
     for _ in 0..u64::MAX {
-        if !desk.is_open {
+        let Some(next) = serve(&rt, &mut input, state, &mut table, &mut output) else {
             break;
-        }
-        desk = serve(&rt, &mut input, desk.state, &mut table, &mut output);
+        };
+        state = next;
     }
     Ok(())
 }

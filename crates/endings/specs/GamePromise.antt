@@ -1,5 +1,6 @@
 -- The desk's moves in a game, and what is promised of every game in which a side plays them (01, "Games"; demand 3). Definitions only.
-use Rattle.std.specs.Prelude.{◌≡◌, Bool, false, not, cond, List, [], ℕ, ◌≤◌, length}
+use Rattle.answers.specs.Advice.{BestMove}
+use Rattle.std.specs.Prelude.{◌≡◌, Bool, false, not, cond, List, [], ℕ, ◌≤◌, length, None, Some, Err, Ok, Result}
 use Rattle.std.proofs.Math.Option.{Option, none, some}
 use Rattle.theory.specs.Value.{Drawn}
 use Rattle.theory.specs.Play.{at_ply, Over, Mates, Unmated, Promised}
@@ -7,24 +8,21 @@ use Rattle.rules.specs.declared.Move.{Move}
 use Rattle.rules.specs.Rules.{Board, empty}
 use Rattle.rules.specs.Chess.{chess}
 use Rattle.position.specs.Keyed.{keyed}
-use Rattle.answers.specs.declared.BestMove.{BestMove}
-use Rattle.answers.specs.declared.BestMove.TheVariants.{Play, NoMove}
 use Rattle.answers.specs.declared.Answer.{Answer}
-use Rattle.answers.specs.declared.Answer.TheVariants.{Win, Loss, Draw, Refused}
 use Rattle.endings.specs.Ending.{byte_of}
 use Rattle.endings.specs.Truth.{TrueAnswer}
 use Rattle.endings.specs.Answers.{look_up_of}
 
 -- the move inside an answer
 abbrev pub given : BestMove → Option Move
-given (Play m) = some m
-given NoMove = none
+given (Some m) = some m
+given None = none
 
-abbrev pub move_of_answer : Answer → Option Move
-move_of_answer (Win n a) = given a
-move_of_answer (Loss n a) = given a
-move_of_answer (Draw a) = given a
-move_of_answer (Refused n) = none
+abbrev pub move_of_answer : Result Answer ℕ → Option Move
+move_of_answer (Ok (Answer.Win n a)) = given a
+move_of_answer (Ok (Answer.Loss n a)) = given a
+move_of_answer (Ok (Answer.Draw a)) = given a
+move_of_answer (Err n) = none
 
 -- "the one that look-up gives for the position then on the board"; "Bare kings are a draw and are not looked up"
 unfoldable pub desk_move : List ℕ → Board → Option Move
@@ -32,11 +30,11 @@ desk_move t b = cond (empty b.men) none (move_of_answer (look_up_of t (keyed b))
 
 -- What is promised to the side that plays the desk's moves, by what the first position is called: won in n, the side to move mates within n plies;
 -- lost in n, the other side does; whoever plays them is not mated in fewer than n plies, and from a draw never.
-abbrev pub Told : Answer → Bool → Board → List Move → Type 0
-Told (Win n a) side b ms = (chess.turn b ≡ side → Mates chess side b ms n) × Unmated chess side b ms n
-Told (Loss n a) side b ms = (chess.turn b ≡ not side → Mates chess side b ms n) × Unmated chess side b ms n
-Told (Draw a) side b ms = (n : ℕ) → Unmated chess side b ms n
-Told (Refused n) side b ms = ⊥
+abbrev pub Told : Result Answer ℕ → Bool → Board → List Move → Type 0
+Told (Ok (Answer.Win n a)) side b ms = (chess.turn b ≡ side → Mates chess side b ms n) × Unmated chess side b ms n
+Told (Ok (Answer.Loss n a)) side b ms = (chess.turn b ≡ not side → Mates chess side b ms n) × Unmated chess side b ms n
+Told (Ok (Answer.Draw a)) side b ms = (n : ℕ) → Unmated chess side b ms n
+Told (Err n) side b ms = ⊥
 
 -- What is promised of the game ms from the board b, in which `side` plays the desk's moves by the table t.
 pub record GamePromise (t : List ℕ) (side : Bool) (b : Board) (ms : List Move) : Type 0 where

@@ -1,5 +1,5 @@
 -- A true table and a true answer, by the rules of chess (demand 2). Definitions only.
-use Rattle.std.specs.Prelude.{◌≡◌, false, List, [], ◌∷◌, ◌++◌, ℕ, ◌-◌, ◌<◌, T, get_or}
+use Rattle.std.specs.Prelude.{◌≡◌, false, List, [], ◌∷◌, ◌++◌, ℕ, ◌-◌, ◌<◌, T, get_or, None, Some, Ok, Result}
 use Rattle.finite.specs.Members.{◌∈◌}
 use Rattle.theory.specs.Value.{WonIn, LostIn, Drawn, TrueByte}
 use Rattle.symmetry.specs.Symmetry.{Symmetry}
@@ -8,7 +8,6 @@ use Rattle.rules.specs.Rules.{Board, legal, moves}
 use Rattle.rules.specs.Changed.{mapped_move}
 use Rattle.rules.specs.Chess.{chess, played}
 use Rattle.numbering.specs.Number.{normal_by, normalised, number_of}
-use Rattle.answers.specs.declared.BestMove.{BestMove}
 use Rattle.answers.specs.declared.Answer.{Answer}
 use Rattle.endings.specs.Ending.{Lone, table_size, legal_number}
 
@@ -38,13 +37,13 @@ Chosen = ChosenBy normal_by normalised
 
 -- The answer is the board's true value and depth, with the chosen move "that leads to a loss in n - 1 (from a win), a win in n - 1 (from a
 -- loss), or a draw", or none for mate and stalemate. No table is spoken of.
-pub data TrueAnswerBy (by : Board → Symmetry) (normal : Board → Board) (b : Board) (a : Answer) : Type 0 where
-  won : (n : ℕ) (m : Move) → WonIn chess n b → ChosenBy by normal (LostIn chess (n - 1)) b m → a ≡ Answer.Win n (BestMove.Play m) → TrueAnswerBy by normal b a
-  lost : (n : ℕ) (m : Move) → LostIn chess n b → ChosenBy by normal (WonIn chess (n - 1)) b m → a ≡ Answer.Loss n (BestMove.Play m) → TrueAnswerBy by normal b a
-  mate : LostIn chess 0 b → moves b ≡ [] → a ≡ Answer.Loss 0 BestMove.NoMove → TrueAnswerBy by normal b a
-  drawn : (m : Move) → Drawn chess b → ChosenBy by normal (Drawn chess) b m → a ≡ Answer.Draw (BestMove.Play m) → TrueAnswerBy by normal b a
-  stalemate : Drawn chess b → moves b ≡ [] → a ≡ Answer.Draw BestMove.NoMove → TrueAnswerBy by normal b a
+pub data TrueAnswerBy (by : Board → Symmetry) (normal : Board → Board) (b : Board) (a : Result Answer ℕ) : Type 0 where
+  won : (n : ℕ) (m : Move) → WonIn chess n b → ChosenBy by normal (LostIn chess (n - 1)) b m → a ≡ Ok (Answer.Win n (Some m)) → TrueAnswerBy by normal b a
+  lost : (n : ℕ) (m : Move) → LostIn chess n b → ChosenBy by normal (WonIn chess (n - 1)) b m → a ≡ Ok (Answer.Loss n (Some m)) → TrueAnswerBy by normal b a
+  mate : LostIn chess 0 b → moves b ≡ [] → a ≡ Ok (Answer.Loss 0 None) → TrueAnswerBy by normal b a
+  drawn : (m : Move) → Drawn chess b → ChosenBy by normal (Drawn chess) b m → a ≡ Ok (Answer.Draw (Some m)) → TrueAnswerBy by normal b a
+  stalemate : Drawn chess b → moves b ≡ [] → a ≡ Ok (Answer.Draw None) → TrueAnswerBy by normal b a
 
 -- of pieces
-abbrev pub TrueAnswer : Board → Answer → Type 0
+abbrev pub TrueAnswer : Board → Result Answer ℕ → Type 0
 TrueAnswer = TrueAnswerBy normal_by normalised

@@ -1,6 +1,6 @@
 -- The desk's moves at any count, and what is promised of every game in which a side plays them (02, P13; demand 3).
 -- Definitions only.
-use Rattle.std.specs.Prelude.{◌≡◌, Bool, false, not, cond, ◌↔◌, List, [], ◌∷◌, ℕ, ◌+◌, ◌≤◌, T, length}
+use Rattle.std.specs.Prelude.{◌≡◌, Bool, false, not, cond, ◌↔◌, List, [], ◌∷◌, ℕ, ◌+◌, ◌≤◌, T, length, Err, Ok, Result}
 use Rattle.std.proofs.Math.Option.{Option, none, some}
 use Rattle.theory.specs.Value.{DepthIs}
 use Rattle.theory.specs.Play.{at_ply}
@@ -11,7 +11,6 @@ use Rattle.rules.specs.Pawn.{pawn}
 use Rattle.rules.specs.Rules.{Board, empty}
 use Rattle.rules.specs.Chess.{chess}
 use Rattle.answers.specs.declared.Answer.{Answer}
-use Rattle.answers.specs.declared.Answer.TheVariants.{Win, Loss, Draw, Refused}
 use Rattle.endings.specs.Truth.{TrueAnswer}
 use Rattle.four_men.specs.Truth.{TrueAnswerIn}
 use Rattle.position.specs.Keyed.{keyed}
@@ -59,11 +58,11 @@ PlaysCountedWith m l t side b ms = PlaysBy (counted_move_with m l t) side b ms
 
 -- What a mark promises, by what the position is called, to the winner who plays the desk's moves from the count c: he
 -- mates within the depth, and before that the loser may not claim. A draw and a refusal have no mark.
-abbrev pub ClearBy : Answer → Bool → Board → List Move → ℕ → Type 0
-ClearBy (Win n a) side b ms c = chess.turn b ≡ side → Clear chess zeroing side b ms n c
-ClearBy (Loss n a) side b ms c = chess.turn b ≡ not side → Clear chess zeroing side b ms n c
-ClearBy (Draw a) side b ms c = ⊥
-ClearBy (Refused k) side b ms c = ⊥
+abbrev pub ClearBy : Result Answer ℕ → Bool → Board → List Move → ℕ → Type 0
+ClearBy (Ok (Answer.Win n a)) side b ms c = chess.turn b ≡ side → Clear chess zeroing side b ms n c
+ClearBy (Ok (Answer.Loss n a)) side b ms c = chess.turn b ≡ not side → Clear chess zeroing side b ms n c
+ClearBy (Ok (Answer.Draw a)) side b ms c = ⊥
+ClearBy (Err k) side b ms c = ⊥
 
 -- no man is a pawn
 abbrev pub Pawnless : Board → Type 0
@@ -79,7 +78,7 @@ Within b c = Pawnless b × Timely b c
 
 -- What is promised of look-up's answers at any counts, in the game ms from the board b, in which `side` plays the
 -- desk's moves; `Truly` says when an answer is true of a board.
-pub record CountsPromise (Truly : Board → Answer → Type 0) (answer : Board → ℕ → Marked) (side : Bool) (b : Board)
+pub record CountsPromise (Truly : Board → Result Answer ℕ → Type 0) (answer : Board → ℕ → Marked) (side : Bool) (b : Board)
     (ms : List Move) : Type 0 where
   -- what the first position is called, at every count from 0 to 99, is its true value and depth
   pub called : (c : ℕ) → c ≤ 99 → Truly b (answer b c).answer

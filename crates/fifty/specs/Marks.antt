@@ -1,45 +1,43 @@
 -- What looking up answers with the plies since the last capture (02, P13). Definitions only.
-use Rattle.std.specs.Prelude.{Bool, true, false, cond, not, ◌&&◌, List, ℕ, ◌+◌, leb, ltb}
+use Rattle.rules.specs.declared.Piece.{Piece}
+use Rattle.std.specs.Prelude.{Bool, true, false, cond, not, ◌&&◌, List, ℕ, ◌+◌, leb, ltb, None, Option, Some, Err, Ok, Result}
 use Rattle.finite.specs.Members.{all}
 use Rattle.rules.specs.Pawn.{pawn}
-use Rattle.position.specs.declared.Slot.{Slot}
-use Rattle.position.specs.declared.Slot.TheVariants.{Absent, Present}
 use Rattle.position.specs.declared.Position.{Position}
 use Rattle.position.specs.Keyed.{board_of}
 use Rattle.answers.specs.declared.Answer.{Answer}
-use Rattle.answers.specs.declared.Answer.TheVariants.{Win, Loss, Draw, Refused}
 use Rattle.endings.specs.Answers.{look_up_of}
 use Rattle.four_men.specs.Lending.{Lent}
 use Rattle.four_men.specs.Answers.{look_up_with}
 use Rattle.fifty.specs.declared.Marked.{Marked}
 
 -- "Mark a win or a loss as 'within fifty' when that count plus the depth is at most 100"; "never on a draw"
-abbrev pub marks : ℕ → Answer → Bool
-marks c (Win n a) = leb (c + n) 100
-marks c (Loss n a) = leb (c + n) 100
-marks c (Draw a) = false
-marks c (Refused k) = false
+abbrev pub marks : ℕ → Result Answer ℕ → Bool
+marks c (Ok (Answer.Win n a)) = leb (c + n) 100
+marks c (Ok (Answer.Loss n a)) = leb (c + n) 100
+marks c (Ok (Answer.Draw a)) = false
+marks c (Err k) = false
 
-abbrev pub is_refused : Answer → Bool
-is_refused (Refused k) = true
-is_refused (Win n a) = false
-is_refused (Loss n a) = false
-is_refused (Draw a) = false
+abbrev pub is_refused : Result Answer ℕ → Bool
+is_refused (Err k) = true
+is_refused (Ok (Answer.Win n a)) = false
+is_refused (Ok (Answer.Loss n a)) = false
+is_refused (Ok (Answer.Draw a)) = false
 
 -- "0 to 99; more is refusal 19, asked after all others"
-unfoldable pub at_count : ℕ → Answer → Answer
-at_count c a = cond (is_refused a) a (cond (ltb 99 c) (Refused 19) a)
+unfoldable pub at_count : ℕ → Result Answer ℕ → Result Answer ℕ
+at_count c a = cond (is_refused a) a (cond (ltb 99 c) (Err 19) a)
 
 -- no man is a pawn; as code asks it, of each slot
 abbrev pub pawnless : Position → Bool
 pawnless p = all (λ a. not (pawn a)) (board_of p).men
 
-abbrev pub slot_free : Slot → Bool
-slot_free Absent = true
-slot_free (Present m) = not (pawn m)
+abbrev pub slot_free : Option Piece → Bool
+slot_free None = true
+slot_free (Some m) = not (pawn m)
 
 -- an answer and its mark, by whether there is no pawn
-abbrev pub marked_for : Bool → ℕ → Answer → Marked
+abbrev pub marked_for : Bool → ℕ → Result Answer ℕ → Marked
 marked_for free c a = record { answer = a; within_fifty = free && marks c a }
 
 -- of one man, who is no pawn

@@ -9,7 +9,8 @@ ghost use Rattle.fifty.specs.Marks.{look_up_at, look_up_at_with};
 
 use answers::Answer;
 use look_up::{look_up, look_up_with};
-use position::{Position, Slot};
+use position::Position;
+use rules::Piece;
 
 // Refusal 19: more plies than 99 since the last capture.
 pub const TOO_MANY_QUIET: u8 = 19;
@@ -17,7 +18,7 @@ pub const TOO_MANY_QUIET: u8 = 19;
 // Look-up's answer at a count, and whether it is marked "within fifty".
 #[derive(Clone, Copy)]
 pub struct Marked {
-    pub answer: Answer,
+    pub answer: Result<Answer, u8>,
     pub within_fifty: bool,
 }
 
@@ -28,48 +29,48 @@ fn adds_to_100(plies: u32, depth: u8) -> bool
 }
 
 // A win or a loss is marked where the count and the depth make at most 100; a draw never is.
-fn is_marked(plies: u32, a: Answer) -> bool
+fn is_marked(plies: u32, a: Result<Answer, u8>) -> bool
     ensures { result ≡ marks plies a }
 {
     match a {
-        Answer::Win(n, _) => adds_to_100(plies, n),
-        Answer::Loss(n, _) => adds_to_100(plies, n),
-        Answer::Draw(_) => false,
-        Answer::Refused(_) => false,
+        Ok(Answer::Win(n, _)) => adds_to_100(plies, n),
+        Ok(Answer::Loss(n, _)) => adds_to_100(plies, n),
+        Ok(Answer::Draw(_)) => false,
+        Err(_) => false,
     }
 }
 
-fn is_refused(a: Answer) -> bool
+fn is_refused(a: Result<Answer, u8>) -> bool
     ensures { result ≡ is_refused a }
 {
     match a {
-        Answer::Refused(_) => true,
-        Answer::Win(_, _) => false,
-        Answer::Loss(_, _) => false,
-        Answer::Draw(_) => false,
+        Err(_) => true,
+        Ok(Answer::Win(_, _)) => false,
+        Ok(Answer::Loss(_, _)) => false,
+        Ok(Answer::Draw(_)) => false,
     }
 }
 
 // Refusal 19 is asked after every other one.
-fn at_count(plies: u32, a: Answer) -> Answer
+fn at_count(plies: u32, a: Result<Answer, u8>) -> Result<Answer, u8>
     ensures { result ≡ at_count plies a }
 {
     if is_refused(a) {
         return a;
     }
     if plies > 99 {
-        return Answer::Refused(TOO_MANY_QUIET);
+        return Err(TOO_MANY_QUIET);
     }
     a
 }
 
 // Whether the man in a slot, if there is one, is no pawn.
-fn is_free(slot: Slot) -> bool
+fn is_free(slot: Option<Piece>) -> bool
     ensures { result ≡ slot_free slot }
 {
     match slot {
-        Slot::Absent => true,
-        Slot::Present(m) => m.kind != 4,
+        None => true,
+        Some(m) => m.kind != 4,
     }
 }
 
@@ -83,7 +84,7 @@ fn is_pawnless(p: Position) -> bool
 }
 
 // What look-up found, at a count, with its mark; with a pawn there is none.
-fn marked_at(free: bool, plies: u32, found: Answer) -> Marked
+fn marked_at(free: bool, plies: u32, found: Result<Answer, u8>) -> Marked
     ensures { result ≡ marked_for free plies (at_count plies found) }
 {
     let answer = at_count(plies, found);

@@ -1,10 +1,9 @@
 -- What a start and a step answer (02, P8), on any bytes and any progress. Definitions only.
-use Rattle.std.specs.Prelude.{◌≡◌, Bool, false, cond, not, List, ℕ, zero, suc, leb, eqb, length}
+use Rattle.std.specs.Prelude.{◌≡◌, Bool, false, cond, not, List, ℕ, zero, suc, leb, eqb, length, Err}
 use Rattle.table_theory.specs.declared.Progress.{Progress}
 use Rattle.table_theory.specs.Steps as over
 use Rattle.table_theory.specs.Steps.{going_on, Said, settled, ends, started, step_at, step_from}
 use Rattle.rules.specs.Chess.{chess}
-use Rattle.answers.specs.declared.Filled.{Filled}
 use Rattle.endings.specs.Ending.{table_size, ending}
 use Rattle.endings.specs.Answers.{result_of}
 use Rattle.filling.specs.declared.steps.Stepped.{Stepped}
@@ -29,7 +28,7 @@ taken_of s = record { step = record { said = said_of s.said; progress = s.progre
 
 -- refusals 1 and 7 leave the table and the progress as they were
 abbrev pub refusing : ℕ → Progress → Step
-refusing k p = record { said = Stepped.Says (Filled.Refused k); progress = p }
+refusing k p = record { said = Stepped.Says (Err k); progress = p }
 
 abbrev pub refused : ℕ → List ℕ → Progress → Taken
 refused k t p = record { step = refusing k p; bytes = t }

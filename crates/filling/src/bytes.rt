@@ -1,5 +1,5 @@
 // The table's bytes before the first pass, and where a depth is too great for a byte.
-ghost use Rattle.std.specs.Prelude.{◌≡◌, cond, ℕ, ◌<◌, length, T};
+ghost use Rattle.std.specs.Prelude.{◌≡◌, ℕ, ◌<◌, length, T};
 ghost use Rattle.finite.specs.Mapped.{map_from};
 ghost use Rattle.table_theory.specs.Tables.{start_byte};
 ghost use Rattle.rules.specs.Chess.{chess};
@@ -28,10 +28,8 @@ fn start_each(m: Men, table: &mut [u8])
     requires { T (given (material_for m)) × (m.colour < 2) × (length table.old ≡ size_of (material_for m)) }
     ensures { table.new ≡ map_from (start_byte chess (numbered (material_for m) nothing)) 0 table.old }
 {
-    let mut n: usize = 0;
-    while n < table.len() {
-        table[n] = first_byte(is_legal_number(m, n as u32));
-        n += 1;
+    for n in 0..table.len() {
+        table[n] = u8::from(is_legal_number(m, n as u32));
     }
 }
 
@@ -41,27 +39,15 @@ fn start_rows(m: Men, table: &mut [u8])
     ensures { table.new ≡ map_from (start_byte chess (numbered (material_for m) nothing)) 0 table.old }
 {
     let mut legal: u64 = 0;
-    let mut n: usize = 0;
-    while n < table.len() {
+    for n in 0..table.len() {
         legal = legal_row_at(m, legal, n as u32);
-        table[n] = first_byte(has(legal, (n % 64) as u8));
-        n += 1;
+        table[n] = u8::from(has(legal, (n % 64) as u8));
     }
-}
-
-fn first_byte(live: bool) -> u8
-    ensures { result ≡ cond live 1 0 }
-{
-    if live { 1 } else { 0 }
 }
 
 // All zero.
 pub fn clear(table: &mut [u8])
     ensures { table.new ≡ map_from (λ (n b : ℕ). 0) 0 table.old }
 {
-    let mut n: usize = 0;
-    while n < table.len() {
-        table[n] = 0;
-        n += 1;
-    }
+    table.fill(0);
 }

@@ -1,5 +1,5 @@
 // The greatest byte of the lent tables: a pass that settles none is no end while one of them holds as great a depth.
-ghost use Rattle.std.specs.Prelude.{◌≡◌, cond, T, ltb, length};
+ghost use Rattle.std.specs.Prelude.{◌≡◌, T, length};
 ghost use Rattle.numbering.specs.declared.Material.{Material};
 ghost use Rattle.numbering.specs.Material.{given};
 ghost use Rattle.position.specs.Posed.{material_for};
@@ -9,22 +9,10 @@ ghost use Rattle.filling.specs.Greatest.{Greatest};
 use deciding::PAWN;
 use position::Men;
 
-fn greater(a: u8, b: u8) -> u8
-    ensures { result ≡ cond (ltb a b) b a }
-{
-    if a < b { b } else { a }
-}
-
 fn greatest_byte(table: &[u8]) -> u8
     ensures { Greatest table.now result }
 {
-    let mut greatest: u8 = 0;
-    let mut n: usize = 0;
-    while n < table.len() {
-        greatest = greater(greatest, table[n]);
-        n += 1;
-    }
-    greatest
+    table.iter().copied().max().unwrap_or(0)
 }
 
 // 0 where nothing is lent. A pawn's four tables are one run.
@@ -38,5 +26,5 @@ pub fn deepest_lent(m: Men, first: &[u8], second: &[u8]) -> u8
     if 4 <= m.second {
         return 0;
     }
-    greater(greatest_byte(first), greatest_byte(second))
+    greatest_byte(first).max(greatest_byte(second))
 }

@@ -13,22 +13,28 @@ ghost use Rattle.filling.specs.FillPromise.{Fills, FillPromiseWith, FillBackProm
 use super::bytes::start;
 use super::deepest::deepest_lent;
 use super::steps::{Stepped, step_at};
-use super::ways::{BACK, EVERY, PASSES};
-use answers::Filled;
+use super::ways::Way;
 use checking::lent_accepted;
 use four_men::{NOT_ACCEPTED, lengths_fit};
 use index::{is_given, is_known, men_of};
 use numbering::Material;
 use position::{BAD_MAN, Men, TABLE_LENGTH};
 
-fn fill_men(way: u8, m: Men, first: &[u8], second: &[u8], table: &mut [u8]) -> Filled
-    requires { Admitted m first.now second.now table.old × (way ≡ 1 → T (known (material_for m))) }
+fn fill_men(
+    way: Way,
+    m: Men,
+    first: &[u8],
+    second: &[u8],
+    table: &mut [u8],
+) -> Result<Option<u8>, u8>
+    requires { Admitted m first.now second.now table.old × (way ≡ Way.Back → T (known (material_for m))) }
     ensures { Fills (filled_until chess (over m first.now second.now) (holds_depth (borrowed (material_for m) (lent first.now second.now))) table.old) result table.new }
 {
     let deepest = deepest_lent(m, first, second);
     start(m, &mut *table);
     let mut k: u8 = 0;
     let mut last: u8 = 0;
+    // No range of depths: the step for the last says how it ends.
     loop {
         let step = step_at(way, m, k, last, deepest, first, second, &mut *table);
         let said = step.said;
@@ -44,50 +50,71 @@ fn fill_men(way: u8, m: Men, first: &[u8], second: &[u8], table: &mut [u8]) -> F
 }
 
 // The fill by passes in the way chosen: back only for pieces.
-fn fill_by(way: u8, m: Material, first: &[u8], second: &[u8], table: &mut [u8]) -> Filled
-    requires { way ≡ 1 → T (known m) }
+fn fill_by(
+    way: Way,
+    m: Material,
+    first: &[u8],
+    second: &[u8],
+    table: &mut [u8],
+) -> Result<Option<u8>, u8>
+    requires { way ≡ Way.Back → T (known m) }
     ensures { FillPromiseWith m (lent first.now second.now) table.old result table.new }
 {
     if !is_given(m) {
-        return Filled::Refused(BAD_MAN);
+        return Err(BAD_MAN);
     }
     if !lengths_fit(m, &*table, first, second) {
-        return Filled::Refused(TABLE_LENGTH);
+        return Err(TABLE_LENGTH);
     }
     if !lent_accepted(m, first, second) {
-        return Filled::Refused(NOT_ACCEPTED);
+        return Err(NOT_ACCEPTED);
     }
     fill_men(way, men_of(m), first, second, &mut *table)
 }
 
 // Writes the true table and gives the greatest depth, or says that no position is decided. Captures are read in the lent tables, of the first man's kind
 // and of the second's. Refusals 1, 7 and 17 leave the table as it was, 10 all zero.
-pub fn fill_with(m: Material, first: &[u8], second: &[u8], table: &mut [u8]) -> Filled
+pub fn fill_with(
+    m: Material,
+    first: &[u8],
+    second: &[u8],
+    table: &mut [u8],
+) -> Result<Option<u8>, u8>
     ensures { FillPromiseWith m (lent first.now second.now) table.old result table.new }
 {
-    fill_by(PASSES, m, first, second, &mut *table)
+    fill_by(Way::Passes, m, first, second, &mut *table)
 }
 
 // The second fill, quicker: it works back from the positions just settled. Of pieces, table, greatest depth and refusals are the first fill's; king and
 // pawn is refused 1.
-pub fn fill_back(m: Material, first: &[u8], second: &[u8], table: &mut [u8]) -> Filled
+pub fn fill_back(
+    m: Material,
+    first: &[u8],
+    second: &[u8],
+    table: &mut [u8],
+) -> Result<Option<u8>, u8>
     ensures { FillBackPromise m (lent first.now second.now) table.old result table.new }
 {
     if !is_known(m) {
-        return Filled::Refused(BAD_MAN);
+        return Err(BAD_MAN);
     }
-    fill_by(BACK, m, first, second, &mut *table)
+    fill_by(Way::Back, m, first, second, &mut *table)
 }
 
 // For comparison: every number that holds 1 is tried at every depth, no half of the table left out.
-pub fn fill_every(m: Material, first: &[u8], second: &[u8], table: &mut [u8]) -> Filled
+pub fn fill_every(
+    m: Material,
+    first: &[u8],
+    second: &[u8],
+    table: &mut [u8],
+) -> Result<Option<u8>, u8>
     ensures { FillPromiseWith m (lent first.now second.now) table.old result table.new }
 {
-    fill_by(EVERY, m, first, second, &mut *table)
+    fill_by(Way::Every, m, first, second, &mut *table)
 }
 
 // With one man, who borrows nothing. Refusals 1 and 7 leave the table as it was, 10 all zero.
-pub fn fill(kind: u8, table: &mut [u8]) -> Filled
+pub fn fill(kind: u8, table: &mut [u8]) -> Result<Option<u8>, u8>
     ensures { FillPromise kind table.old result table.new }
 {
     let none: [u8; 0] = [];
@@ -95,7 +122,7 @@ pub fn fill(kind: u8, table: &mut [u8]) -> Filled
 }
 
 // The same, quicker: back from the positions just settled.
-pub fn fill_one_back(kind: u8, table: &mut [u8]) -> Filled
+pub fn fill_one_back(kind: u8, table: &mut [u8]) -> Result<Option<u8>, u8>
     ensures { FillPromise kind table.old result table.new }
 {
     let none: [u8; 0] = [];

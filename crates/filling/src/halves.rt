@@ -3,26 +3,11 @@ ghost use Rattle.std.specs.Prelude.{◌≡◌, false, cond, ◌<◌, ◌≤◌, 
 ghost use Rattle.position.specs.Posed.{material_for};
 ghost use Rattle.four_men.specs.Lending.{lent};
 ghost use Rattle.working_back.specs.Admitted.{Admitted};
-ghost use Rattle.filling.specs.Quiet.{Absent, Quiet, low_of, high_of};
+ghost use Rattle.filling.specs.Quiet.{Quiet, low_of, high_of};
 
 use deciding::PAWN;
 use index::{HALF, TABLE_SIZE};
 use position::Men;
-
-// Whether the byte stands from `from` on, below `to`.
-pub fn stands(byte: u8, from: usize, to: usize, table: &[u8]) -> bool
-    requires { to ≤ length table.now }
-    ensures { result ≡ false → Absent table.now byte from to }
-{
-    let mut n = from;
-    while n < to {
-        if table[n] == byte {
-            return true;
-        }
-        n += 1;
-    }
-    false
-}
 
 // Whether pass k may settle a number whose successors' numbers are from `from` on, below `to`, or in a lent table
 // from `low` on, below `high`: mates apart, depth k - 1 must stand at one. With a pawn no half is left out.
@@ -37,7 +22,7 @@ fn may_settle(
     second: &[u8],
     table: &[u8],
 ) -> bool
-    requires { (k < 254) × (to ≤ length table.now) × (high ≤ 59136) × Admitted m first.now second.now table.now }
+    requires { (k < 254) × (from ≤ to) × (to ≤ length table.now) × (low ≤ high) × (high ≤ 59136) × Admitted m first.now second.now table.now }
     ensures { result ≡ false → Quiet (material_for m) (lent first.now second.now) k table.now from to low high }
 {
     if m.first == PAWN {
@@ -47,16 +32,13 @@ fn may_settle(
         return true;
     }
     let byte = 1 + k;
-    if stands(byte, from, to, table) {
+    if table[from..to].contains(&byte) {
         return true;
     }
     if 4 <= m.second {
         return false;
     }
-    if stands(byte, low, high, first) {
-        return true;
-    }
-    stands(byte, low, high, second)
+    first[low..high].contains(&byte) || second[low..high].contains(&byte)
 }
 
 // Where the numbers of a man left alone begin, with White to move, and where they end, with Black to move.

@@ -44,11 +44,9 @@ fn mates_in_rows(m: Men, first: &[u8], second: &[u8], table: &mut [u8]) -> u32
 {
     let mut squares: u64 = 0;
     let mut settled: u32 = 0;
-    let mut n: usize = 0;
-    while n < table.len() {
+    for n in 0..table.len() {
         squares = checked_row_at(m, squares, n as u32);
         settled += settle_checked(m, squares, n, first, second, &mut *table);
-        n += 1;
     }
     settled
 }

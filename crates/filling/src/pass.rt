@@ -38,11 +38,9 @@ fn pass_over(
 {
     let mut row = place_at(m, (from / 64 * 64) as u32);
     let mut settled: u32 = 0;
-    let mut n = from;
-    while n < to {
+    for n in from..to {
         row = row_at(m, row, n as u32);
         settled += settle(m, row, k, n, first, second, &mut *table);
-        n += 1;
     }
     settled
 }
@@ -81,12 +79,10 @@ pub fn some_settles(m: Men, k: u8, first: &[u8], second: &[u8], table: &[u8]) ->
     requires { Admitted m first.now second.now table.now }
     ensures { result ≡ some_settles chess (over m first.now second.now) k table.now }
 {
-    let mut n: usize = 0;
-    while n < table.len() {
+    for n in 0..table.len() {
         if settles(m, k, n, first, second, table) {
             return true;
         }
-        n += 1;
     }
     false
 }

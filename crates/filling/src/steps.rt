@@ -9,8 +9,7 @@ ghost use Rattle.filling.specs.Stepping.{last_of, step_over};
 
 use super::bytes::clear;
 use super::pass::some_settles;
-use super::ways::pass_in;
-use answers::Filled;
+use super::ways::{Way, pass_in};
 use position::{Men, TOO_DEEP};
 use table_theory::Progress;
 
@@ -28,7 +27,7 @@ pub const GAVE_TEN: u8 = 2;
 #[derive(Clone, Copy)]
 pub enum Stepped {
     Settled(u32),
-    Says(Filled),
+    Says(Result<Option<u8>, u8>),
 }
 
 // What a call hands back.
@@ -39,13 +38,13 @@ pub struct Step {
 }
 
 // How filling ends where the last depth settled is `last` - 1.
-pub fn ended(last: u8) -> Filled
+pub fn ended(last: u8) -> Result<Option<u8>, u8>
     ensures { result ≡ result_of (ended_of last) }
 {
     if last == 0 {
-        return Filled::NoneDecided;
+        return Ok(None);
     }
-    Filled::Greatest(last - 1)
+    Ok(Some(last - 1))
 }
 
 // What counts as the last depth settled before the step for depth k: the one before it, unless something lent is as
@@ -75,7 +74,7 @@ pub fn progress_at(stage: u8, k: u8, last: u8) -> Progress
 
 // The step for a depth that a byte holds.
 fn step_below(
-    way: u8,
+    way: Way,
     m: Men,
     k: u8,
     last: u8,
@@ -84,7 +83,7 @@ fn step_below(
     second: &[u8],
     table: &mut [u8],
 ) -> Step
-    requires { (k < 254) × Admitted m first.now second.now table.old × (way ≡ 1 → Backwards m first.now second.now k table.old) }
+    requires { (k < 254) × Admitted m first.now second.now table.old × (way ≡ Way.Back → Backwards m first.now second.now k table.old) }
     ensures { Hands (step_over (over m first.now second.now) deepest k last table.old) result table.new }
 {
     let before = last_before(k, last, deepest);
@@ -121,7 +120,7 @@ fn last_step(m: Men, last: u8, deepest: u8, first: &[u8], second: &[u8], table: 
         clear(&mut *table);
         let over = progress_at(GAVE_TEN, DEPTHS, before);
         return Step {
-            said: Stepped::Says(Filled::Refused(TOO_DEEP)),
+            said: Stepped::Says(Err(TOO_DEEP)),
             progress: over,
         };
     }
@@ -135,7 +134,7 @@ fn last_step(m: Men, last: u8, deepest: u8, first: &[u8], second: &[u8], table: 
 
 // The step for depth k, on any bytes, its pass in the way chosen; `deepest` is the greatest byte lent.
 pub fn step_at(
-    way: u8,
+    way: Way,
     m: Men,
     k: u8,
     last: u8,
@@ -144,7 +143,7 @@ pub fn step_at(
     second: &[u8],
     table: &mut [u8],
 ) -> Step
-    requires { (k ≤ 254) × (deepest < 256) × Admitted m first.now second.now table.old × (way ≡ 1 → Backwards m first.now second.now k table.old) }
+    requires { (k ≤ 254) × (deepest < 256) × Admitted m first.now second.now table.old × (way ≡ Way.Back → Backwards m first.now second.now k table.old) }
     ensures { Hands (step_over (over m first.now second.now) deepest k last table.old) result table.new }
 {
     if k < DEPTHS {

@@ -13,8 +13,7 @@ ghost use Rattle.filling.specs.Handed.{handed};
 use super::bytes::start;
 use super::deepest::deepest_lent;
 use super::steps::{DEPTHS, DONE, GOING, Step, Stepped, ended, progress_at, step_at};
-use super::ways::PASSES;
-use answers::Filled;
+use super::ways::Way;
 use four_men::lengths_fit;
 use index::{is_given, men_of, size_of};
 use numbering::Material;
@@ -26,7 +25,7 @@ fn refuse(k: u8, progress: Progress) -> Step
     ensures { result ≡ refusing k progress }
 {
     Step {
-        said: Stepped::Says(Filled::Refused(k)),
+        said: Stepped::Says(Err(k)),
         progress,
     }
 }
@@ -53,7 +52,7 @@ pub fn start_with(m: Material, table: &mut [u8]) -> Step
 fn next_depth(next: u16) -> u8
     ensures { result ≡ min next 254 }
 {
-    if next < 254 { next as u8 } else { DEPTHS }
+    next.min(u16::from(DEPTHS)) as u8
 }
 
 // Once a step has said done, or has given 10 and cleared the table, later ones repeat it and write nothing.
@@ -61,29 +60,30 @@ fn step_from(m: Men, progress: Progress, first: &[u8], second: &[u8], table: &mu
     requires { Admitted m first.now second.now table.old }
     ensures { Hands (taken_of (step_from chess (over m first.now second.now) (holds_depth (borrowed (material_for m) (lent first.now second.now))) progress table.old)) result table.new }
 {
-    let stage = progress.stage;
-    if stage == GOING {
-        let k = next_depth(progress.next);
-        let deepest = deepest_lent(m, first, second);
-        return step_at(
-            PASSES,
-            m,
-            k,
-            progress.last,
-            deepest,
-            first,
-            second,
-            &mut *table,
-        );
+    match progress.stage {
+        GOING => {
+            let k = next_depth(progress.next);
+            let deepest = deepest_lent(m, first, second);
+            step_at(
+                Way::Passes,
+                m,
+                k,
+                progress.last,
+                deepest,
+                first,
+                second,
+                &mut *table,
+            )
+        },
+        DONE => {
+            let end = ended(progress.last);
+            Step {
+                said: Stepped::Says(end),
+                progress,
+            }
+        },
+        _ => refuse(TOO_DEEP, progress),
     }
-    if stage == DONE {
-        let end = ended(progress.last);
-        return Step {
-            said: Stepped::Says(end),
-            progress,
-        };
-    }
-    refuse(TOO_DEEP, progress)
 }
 
 // One step, on any bytes and any progress: it reads the lent tables' bytes as they stand, accepted or not, where the

@@ -11,26 +11,24 @@ use super::pass::{pass, pass_halves};
 use position::Men;
 use working_back::pass_back;
 
-pub const PASSES: u8 = 0;
-
-pub const BACK: u8 = 1;
-
-pub const EVERY: u8 = 2;
+// How a pass finds what it settles.
+#[derive(Clone, Copy)]
+pub enum Way {
+    Passes,
+    Back,
+    Every,
+}
 
 // Pass k in the way chosen; how many numbers it settled.
-pub fn pass_in(way: u8, m: Men, k: u8, first: &[u8], second: &[u8], table: &mut [u8]) -> u32
-    requires { (k < 254) × Admitted m first.now second.now table.old × (way ≡ 1 → Backwards m first.now second.now k table.old) }
+pub fn pass_in(way: Way, m: Men, k: u8, first: &[u8], second: &[u8], table: &mut [u8]) -> u32
+    requires { (k < 254) × Admitted m first.now second.now table.old × (way ≡ Way.Back → Backwards m first.now second.now k table.old) }
     ensures { (result ≡ settled_by chess (over m first.now second.now) k table.old) × (table.new ≡ passed chess (over m first.now second.now) k table.old) }
 {
-    if way == EVERY {
-        return pass_halves(true, true, m, k, first, second, &mut *table);
+    match way {
+        Way::Every => pass_halves(true, true, m, k, first, second, &mut *table),
+        // Mates have no depth before theirs.
+        _ if k == 0 => mates(m, first, second, &mut *table),
+        Way::Passes => pass(m, k, first, second, &mut *table),
+        Way::Back => pass_back(m, k, first, second, &mut *table),
     }
-    // Mates have no depth before theirs.
-    if k == 0 {
-        return mates(m, first, second, &mut *table);
-    }
-    if way != BACK {
-        return pass(m, k, first, second, &mut *table);
-    }
-    pass_back(m, k, first, second, &mut *table)
 }

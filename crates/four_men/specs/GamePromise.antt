@@ -1,6 +1,6 @@
 -- The desk's moves in a game from one man or two, through captures until bare kings, and what is promised of every game
 -- in which a side plays them (01, "Games"; 02, P10; demand 3). Definitions only.
-use Rattle.std.specs.Prelude.{◌≡◌, Bool, false, cond, List, [], ◌∷◌, ℕ, ◌≤◌, length}
+use Rattle.std.specs.Prelude.{◌≡◌, Bool, false, cond, List, [], ◌∷◌, ℕ, ◌≤◌, length, Result}
 use Rattle.std.proofs.Math.Option.{Option, none}
 use Rattle.theory.specs.Value.{Drawn}
 use Rattle.theory.specs.Play.{at_ply, Over, Promised}
@@ -29,7 +29,7 @@ table_then Material.Pawn l t [] = t
 table_then Material.Pawn l t (a ∷ men) = cond (pawn a) t (part_of a.kind l.first)
 
 -- look-up's answer for the board then on it
-unfoldable pub looked_up : Material → Lent → List ℕ → Board → Answer
+unfoldable pub looked_up : Material → Lent → List ℕ → Board → Result Answer ℕ
 looked_up m l t b = look_up_with l (table_then m l t b.men) (keyed b)
 
 -- "Bare kings are a draw and are not looked up"

@@ -1,11 +1,10 @@
 -- What a turn makes of a position's answer, with one man or two: one of the eight maps, the men in each other's slots,
 -- the colours exchanged where that is allowed, each or not (02, P5, P9 and P10). Definitions only.
-use Rattle.std.specs.Prelude.{◌≡◌, Bool, true, false, ◌&&◌, List, ℕ, T}
+use Rattle.rules.specs.declared.Piece.{Piece}
+use Rattle.std.specs.Prelude.{◌≡◌, Bool, true, false, ◌&&◌, List, ℕ, T, None, Option, Some}
 use Rattle.numbering.specs.Men.{exchangeable}
 use Rattle.numbering.specs.Change.{Change}
 use Rattle.numbering.specs.Fits.{two_fit, mirror}
-use Rattle.position.specs.declared.Slot.{Slot}
-use Rattle.position.specs.declared.Slot.TheVariants.{Absent, Present}
 use Rattle.position.specs.declared.Position.{Position}
 use Rattle.position.specs.Keyed.{board_of}
 use Rattle.position.specs.Maps.{changed_position}
@@ -14,17 +13,17 @@ use Rattle.four_men.specs.Lending.{Lent}
 use Rattle.four_men.specs.Answers.{look_up_with}
 
 -- two men in each other's slots; where there are not two, as it is
-abbrev pub first_slot : Bool → Slot → Slot → Slot
+abbrev pub first_slot : Bool → Option Piece → Option Piece → Option Piece
 first_slot false f s = f
-first_slot true Absent s = Absent
-first_slot true (Present a) Absent = Present a
-first_slot true (Present a) (Present c) = Present c
+first_slot true None s = None
+first_slot true (Some a) None = Some a
+first_slot true (Some a) (Some c) = Some c
 
-abbrev pub second_slot : Bool → Slot → Slot → Slot
+abbrev pub second_slot : Bool → Option Piece → Option Piece → Option Piece
 second_slot false f s = s
-second_slot true Absent s = s
-second_slot true (Present a) Absent = Absent
-second_slot true (Present a) (Present c) = Present a
+second_slot true None s = s
+second_slot true (Some a) None = None
+second_slot true (Some a) (Some c) = Some a
 
 unfoldable pub in_slots : Bool → Position → Position
 in_slots e p = record {

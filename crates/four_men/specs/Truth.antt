@@ -1,10 +1,9 @@
 -- A true table, and what filling promises, for one man and for two (demand 2). Definitions only.
-use Rattle.std.specs.Prelude.{◌≡◌, false, List, ℕ, ◌<◌, ◌≤◌, T, get_or}
+use Rattle.std.specs.Prelude.{◌≡◌, false, List, ℕ, ◌<◌, ◌≤◌, T, get_or, Err, None, Ok, Result, Some}
 use Rattle.finite.specs.Members.{◌∈◌}
 use Rattle.theory.specs.Value.{DepthIs, TrueByte}
 use Rattle.rules.specs.Rules.{Board}
 use Rattle.rules.specs.Chess.{chess}
-use Rattle.answers.specs.declared.Filled.{Filled}
 use Rattle.answers.specs.declared.Answer.{Answer}
 use Rattle.endings.specs.Answers.{Fill}
 use Rattle.endings.specs.Truth.{TrueAnswerBy}
@@ -20,7 +19,7 @@ pub record TrueTableOf (m : Material) (t : List ℕ) : Type 0 where
   pub others-zero : (n : ℕ) → n < size_of m → legal_number_of m n ≡ false → get_or t n 0 ≡ 0
 
 -- an answer true of a board, its move chosen on the normal board of the board's own ending
-abbrev pub TrueAnswerIn : Board → Answer → Type 0
+abbrev pub TrueAnswerIn : Board → Result Answer ℕ → Type 0
 TrueAnswerIn b = TrueAnswerBy (map_in (material_in b.men)) (normal_in (material_in b.men)) b
 
 -- a legal board of the ending is decided in depth n
@@ -30,9 +29,9 @@ DecidedOf m n = (b : Board) × T (legal_in m b) × OfMaterial m b × DepthIs che
 -- What filling promises where 1, 7 and 17 do not refuse: "the greatest depth is the greatest that its steps have
 -- settled, or none decided".
 pub data FillTrueOf (m : Material) (f : Fill) : Type 0 where
-  greatest : (n : ℕ) → f.answer ≡ Filled.Greatest n → TrueTableOf m f.bytes → DecidedOf m n → ((k : ℕ) → DecidedOf m k → k ≤ n) → n ≤ 253 → FillTrueOf m f
-  none-decided : f.answer ≡ Filled.NoneDecided → TrueTableOf m f.bytes → ((n : ℕ) → DecidedOf m n → ⊥) → FillTrueOf m f
-  too-deep : f.answer ≡ Filled.Refused 10 → ((n : ℕ) → get_or f.bytes n 0 ≡ 0) → (n : ℕ) → 253 < n → DecidedOf m n → FillTrueOf m f
+  greatest : (n : ℕ) → f.answer ≡ Ok (Some n) → TrueTableOf m f.bytes → DecidedOf m n → ((k : ℕ) → DecidedOf m k → k ≤ n) → n ≤ 253 → FillTrueOf m f
+  none-decided : f.answer ≡ Ok None → TrueTableOf m f.bytes → ((n : ℕ) → DecidedOf m n → ⊥) → FillTrueOf m f
+  too-deep : f.answer ≡ Err 10 → ((n : ℕ) → get_or f.bytes n 0 ≡ 0) → (n : ℕ) → 253 < n → DecidedOf m n → FillTrueOf m f
 
 -- what is lent is bytes
 abbrev pub LentBytes : Material → Lent → Type 0

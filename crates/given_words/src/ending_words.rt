@@ -6,9 +6,7 @@ ghost use Rattle.given_words.specs.Endings.{material_word, material_read, ending
 
 use super::men::man_read;
 use index::{is_given, size_of};
-use move_bytes::flag;
 use numbering::Material;
-use position::Slot;
 use rules::Piece;
 
 // Of no ending: the kind of no man, and the word.
@@ -29,30 +27,23 @@ fn one_of(kind: u8) -> Material
 pub fn material_read(word: u32) -> Material
     ensures { result ≡ material_read word }
 {
-    if word / 0x100 % 0x100_0000 == 0 {
-        return one_of((word % 0x100) as u8);
+    let [first, second, rivals, rest] = word.to_le_bytes();
+    if (second == 0) & (rivals == 0) & (rest == 0) {
+        return one_of(first);
     }
-    let second = word / 0x100 % 0x100;
-    if second == 0 {
+    if (second == 0) | (rivals > 1) | (rest != 0) {
         return Material::One(NO_KIND);
     }
-    if word / 0x2_0000 % 0x8000 != 0 {
-        return Material::One(NO_KIND);
-    }
-    Material::Two(
-        (word % 0x100) as u8,
-        (second - 1) as u8,
-        word / 0x1_0000 % 2 == 1,
-    )
+    Material::Two(first, second - 1, rivals == 1)
 }
 
 fn material_word(m: Material) -> u32
     ensures { result ≡ material_word m }
 {
     match m {
-        Material::One(kind) => kind as u32,
+        Material::One(kind) => u32::from(kind),
         Material::Two(first, second, rivals) => {
-            first as u32 + (second as u32 + 1) * 0x100 + flag(rivals) as u32 * 0x1_0000
+            u32::from(first) + (u32::from(second) + 1) * 0x100 + u32::from(rivals) * 0x1_0000
         },
         Material::Pawn => 4,
     }
@@ -69,30 +60,30 @@ fn pair(a: Piece, c: Piece) -> Material
     Material::Two(c.kind, a.kind, rivals)
 }
 
-fn joined(a: Piece, slot: Slot) -> Material
+fn joined(a: Piece, slot: Option<Piece>) -> Material
     ensures { result ≡ material_in (a ∷ slot_men slot) }
 {
     match slot {
-        Slot::Absent => one_of(a.kind),
-        Slot::Present(c) => pair(a, c),
+        None => one_of(a.kind),
+        Some(c) => pair(a, c),
     }
 }
 
-fn alone(slot: Slot) -> Material
+fn alone(slot: Option<Piece>) -> Material
     ensures { result ≡ material_in (slot_men slot) }
 {
     match slot {
-        Slot::Absent => Material::One(4),
-        Slot::Present(a) => one_of(a.kind),
+        None => Material::One(4),
+        Some(a) => one_of(a.kind),
     }
 }
 
-fn material_in(first: Slot, second: Slot) -> Material
+fn material_in(first: Option<Piece>, second: Option<Piece>) -> Material
     ensures { result ≡ material_in (slot_men first ++ slot_men second) }
 {
     match first {
-        Slot::Absent => alone(second),
-        Slot::Present(a) => joined(a, second),
+        None => alone(second),
+        Some(a) => joined(a, second),
     }
 }
 

@@ -1,21 +1,22 @@
 // Men as words, and the position that a host gives with two of them.
-ghost use Rattle.std.specs.Prelude.{◌≡◌, ◌^◌, ◌<◌};
+ghost use Rattle.std.specs.Prelude.{◌≡◌};
 ghost use Rattle.given_words.specs.Men.{man_read, position_read, short_man};
 
-use position::{Position, Slot};
+use position::Position;
 use rules::Piece;
 
 // The man of a word; none where its highest byte is 0.
-pub fn man_read(word: u32) -> Slot
+pub fn man_read(word: u32) -> Option<Piece>
     ensures { result ≡ man_read word }
 {
-    if word / 0x100_0000 % 0x100 == 0 {
-        return Slot::Absent;
+    let [kind, colour, square, present] = word.to_le_bytes();
+    if present == 0 {
+        return None;
     }
-    Slot::Present(Piece {
-        kind: (word % 0x100) as u8,
-        colour: (word / 0x100 % 0x100) as u8,
-        square: (word / 0x1_0000 % 0x100) as u8,
+    Some(Piece {
+        kind,
+        colour,
+        square,
     })
 }
 
@@ -33,14 +34,11 @@ pub fn position_read(side: u8, white: u8, black: u8, first: u32, second: u32) ->
 
 // A man in 16 bits. His kind and colour are cut to theirs, so that no other field is touched; those of every position
 // that is not refused fit.
-pub fn short_man(slot: Slot) -> u64
-    ensures { (result ≡ short_man slot) × (result < 2 ^ 16) }
+pub fn short_man(slot: Option<Piece>) -> u16
+    ensures { result ≡ short_man slot }
 {
     match slot {
-        Slot::Absent => 0,
-        Slot::Present(m) => (m.kind % 0x10) as u64
-            + (m.colour % 2) as u64 * 0x10
-            + 0x20
-            + m.square as u64 * 0x100,
+        None => 0,
+        Some(m) => u16::from_le_bytes([m.kind % 0x10 + m.colour % 2 * 0x10 + 0x20, m.square]),
     }
 }

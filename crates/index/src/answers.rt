@@ -12,7 +12,6 @@ use super::least::number_listed;
 use super::materials::{is_given, men_of, size_of};
 use super::pawns::pawn_found;
 use super::place::{is_used, place_at};
-use super::{NumberAnswer, Placed};
 use numbering::Material;
 use pawn_numbers::{pawn_key, pawn_normal};
 use position::{
@@ -34,18 +33,18 @@ pub fn placed_number(p: Position) -> u32
 }
 
 // The number of a position.
-pub fn number_with(p: Position) -> NumberAnswer
+pub fn number_with(p: Position) -> Result<u32, u8>
     ensures { result ≡ number_with p }
 {
     let refusal = placing_with(p);
     if refusal != 0 {
-        return NumberAnswer::Refused(refusal);
+        return Err(refusal);
     }
-    NumberAnswer::Number(placed_number(p))
+    Ok(placed_number(p))
 }
 
 // What stands at a number of an ending, if the number is used.
-fn found_at(men: Men, n: u32) -> Placed
+fn found_at(men: Men, n: u32) -> Result<Position, u8>
     ensures { T (given (material_for men)) → men.colour < 2 → n < size_of (material_for men) → result ≡ found_at (material_for men) n }
 {
     if men.first == 4 {
@@ -53,20 +52,20 @@ fn found_at(men: Men, n: u32) -> Placed
     }
     let q = place_at(men, n);
     if !is_used(men, q, n) {
-        return Placed::Refused(NUMBER_UNUSED);
+        return Err(NUMBER_UNUSED);
     }
-    Placed::At(posed(men, q))
+    Ok(posed(men, q))
 }
 
 // The position of a number.
-pub fn position_with(m: Material, n: u32) -> Placed
+pub fn position_with(m: Material, n: u32) -> Result<Position, u8>
     ensures { result ≡ placed_with m n }
 {
     if !is_given(m) {
-        return Placed::Refused(BAD_MAN);
+        return Err(BAD_MAN);
     }
     if size_of(m) <= n {
-        return Placed::Refused(NUMBER_TOO_HIGH);
+        return Err(NUMBER_TOO_HIGH);
     }
     found_at(men_of(m), n)
 }

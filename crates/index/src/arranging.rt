@@ -19,15 +19,8 @@ fn goes_after(a: Piece, c: Piece) -> bool
     c.kind < a.kind
 }
 
-// One of two men. Which is asked in one place, so that what follows is written out once.
-fn either_man(former: bool, a: Piece, c: Piece) -> Piece
-    ensures { result ≡ cond former a c }
-{
-    if former { a } else { c }
-}
-
-// One of two bytes.
-fn either(former: bool, a: u8, c: u8) -> u8
+// One of two men or bytes. Which is asked in one place, so that what follows is written out once.
+fn either<T: Copy>(former: bool, a: T, c: T) -> T
     ensures { result ≡ cond former a c }
 {
     if former { a } else { c }
@@ -63,7 +56,7 @@ pub fn arrange(p: Position) -> Arranged
     let a = man_in(first);
     let c = man_in(second);
     let after = goes_after(a, c);
-    white_first(either_man(after, c, a), either_man(after, a, c), p)
+    white_first(either(after, c, a), either(after, a, c), p)
 }
 
 // The normal place of an arranged position, by its key and the one with file and rank exchanged.
@@ -73,8 +66,8 @@ fn normal_by(men: Men, q: Place, s: u32, t: u32) -> NormalPlace
     let white = q.white;
     let place = place_from(64 <= q.second, q.side, lesser(s, t));
     NormalPlace {
-        men: men,
-        place: place,
+        men,
+        place,
         via: Map {
             files: 3 < white % 8,
             ranks: 3 < white / 8,

@@ -20,16 +20,7 @@ const FILES: u32 = 1864135;
 pub fn flip_of(white: u8) -> u8
     ensures { result ≡ flip_of white }
 {
-    if 3 < white % 8 {
-        if 3 < white / 8 {
-            return 63;
-        }
-        return 7;
-    }
-    if 3 < white / 8 {
-        return 56;
-    }
-    0
+    u8::from(3 < white % 8) * 7 + u8::from(3 < white / 8) * 56
 }
 
 // Four squares: the white king's, the black king's, the first man's, the second's.
@@ -73,10 +64,7 @@ pub fn rising_key(like: bool, k: u32) -> u32
 pub fn lesser(k: u32, t: u32) -> u32
     ensures { result ≡ cond (ltb t k) t k }
 {
-    if t < k {
-        return t;
-    }
-    k
+    k.min(t)
 }
 
 // File and rank exchanged where that is less.

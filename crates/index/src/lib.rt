@@ -3,7 +3,7 @@
 
 use numbering::Material;
 use pairs::PAIR_COUNT;
-use position::{Map, Men, Place, Position, Slot};
+use position::{Map, Men, Place, Position};
 
 mod answers;
 mod arranging;
@@ -29,6 +29,7 @@ pub use materials::{is_given, is_known, men_of, size_of};
 pub use moving::{still_black, still_king, still_number};
 pub use pawns::{pawn_men, pawn_normal_place, pawn_place};
 pub use place::{is_used, place_at, shares};
+use rules::Piece;
 
 // How many numbers one side to move has, and how many there are: a table's bytes.
 pub const HALF: usize = PAIR_COUNT as usize * 64;
@@ -63,28 +64,14 @@ pub struct NormalPlace {
     pub via: Map,
 }
 
-// A number, or the refusal.
-#[derive(Clone, Copy)]
-pub enum NumberAnswer {
-    Number(u32),
-    Refused(u8),
-}
-
-// The position of a number, or the refusal.
-#[derive(Clone, Copy)]
-pub enum Placed {
-    At(Position),
-    Refused(u8),
-}
-
 // A key with the digit of one man more.
-fn with_man(key: u32, slot: Slot) -> u32
+fn with_man(key: u32, slot: Option<Piece>) -> u32
     requires { key < 2 ^ 24 }
     ensures { (result ≡ key_from key (slot_men slot)) × (result ≤ key * 64 + 255) }
 {
     match slot {
-        Slot::Absent => key,
-        Slot::Present(m) => key * 64 + m.square as u32,
+        None => key,
+        Some(m) => key * 64 + m.square as u32,
     }
 }
 
@@ -101,18 +88,18 @@ pub fn key_of(p: Position, pair: u16) -> u32
 }
 
 // The number of a position with one man; two are refused.
-pub fn number(p: Position) -> NumberAnswer
+pub fn number(p: Position) -> Result<u32, u8>
     ensures { result ≡ number_answer p }
 {
     let refusal = position::placing_refusal(p);
     if refusal != 0 {
-        return NumberAnswer::Refused(refusal);
+        return Err(refusal);
     }
-    NumberAnswer::Number(placed_number(p))
+    Ok(placed_number(p))
 }
 
 // The position of a number of the ending with one man.
-pub fn position_of(kind: u8, n: u32) -> Placed
+pub fn position_of(kind: u8, n: u32) -> Result<Position, u8>
     ensures { result ≡ placed_at kind n }
 {
     position_with(Material::One(kind), n)

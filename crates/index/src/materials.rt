@@ -1,8 +1,9 @@
 // Materials: whether there is such an ending, how many numbers it has, and its men.
-ghost use Rattle.std.specs.Prelude.{◌≡◌, cond, ◌<◌, T};
+ghost use Rattle.std.specs.Prelude.{◌≡◌, ◌<◌, T};
 ghost use Rattle.numbering.specs.Material.{known, given, size_of};
 ghost use Rattle.position.specs.Posed.{material_for};
 
+use super::pawns::pawn_men;
 use numbering::Material;
 use position::Men;
 
@@ -39,16 +40,6 @@ pub fn size_of(m: Material) -> u32
     }
 }
 
-// The second man's colour, by whether the men are one each.
-fn second_colour(rivals: bool) -> u8
-    ensures { result ≡ cond rivals 1 0 }
-{
-    if rivals {
-        return 1;
-    }
-    0
-}
-
 // Its men.
 pub fn men_of(m: Material) -> Men
     ensures { T (given m) → (material_for result ≡ m) × (result.colour < 2) }
@@ -62,12 +53,8 @@ pub fn men_of(m: Material) -> Men
         Material::Two(first, second, rivals) => Men {
             first,
             second,
-            colour: second_colour(rivals),
+            colour: u8::from(rivals),
         },
-        Material::Pawn => Men {
-            first: 4,
-            second: 4,
-            colour: 0,
-        },
+        Material::Pawn => pawn_men(),
     }
 }

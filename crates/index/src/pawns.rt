@@ -4,7 +4,7 @@ ghost use Rattle.numbering.specs.declared.Material.{Material};
 ghost use Rattle.index.specs.Answers.{found_at};
 ghost use Rattle.index.specs.Arranging.{pawn_men, pawn_place, pawn_normal_as};
 
-use super::{NormalPlace, Placed};
+use super::NormalPlace;
 use pawn_numbers::{PawnPlace, is_pawn_used, pawn_normal, pawn_place_at};
 use position::{Map, Men, NUMBER_UNUSED, Place, Position, man_in, posed};
 
@@ -42,8 +42,8 @@ pub fn pawn_normal_place(p: Position) -> NormalPlace
     let men = pawn_men();
     let place = pawn_place(normal.place);
     NormalPlace {
-        men: men,
-        place: place,
+        men,
+        place,
         via: Map {
             files: normal.files,
             ranks: normal.colours,
@@ -53,12 +53,12 @@ pub fn pawn_normal_place(p: Position) -> NormalPlace
 }
 
 // What stands at a number, if it is used.
-pub fn pawn_found(n: u32) -> Placed
+pub fn pawn_found(n: u32) -> Result<Position, u8>
     ensures { result ≡ found_at Material.Pawn n }
 {
     let q = pawn_place_at(n);
     if !is_pawn_used(q) {
-        return Placed::Refused(NUMBER_UNUSED);
+        return Err(NUMBER_UNUSED);
     }
-    Placed::At(posed(pawn_men(), pawn_place(q)))
+    Ok(posed(pawn_men(), pawn_place(q)))
 }

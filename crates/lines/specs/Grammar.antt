@@ -1,5 +1,5 @@
 -- The request of one input line, for any list of bytes (01, "The desk program", "When the desk says no"; 02, P2). Definitions only.
-use Rattle.std.specs.Prelude.{Bool, true, false, cond, not, ◌&&◌, List, [], ◌∷◌, ℕ, ◌+◌, ◌-◌, ◌*◌, leb, eqb, get_or}
+use Rattle.std.specs.Prelude.{Bool, true, false, cond, not, ◌&&◌, List, [], ◌∷◌, ℕ, ◌+◌, ◌-◌, ◌*◌, leb, eqb, get_or, Err, Ok, Result}
 use Prim.Native.Char.{code}
 use Rattle.ascii.specs.Bytes.{bytes}
 use Rattle.check_digits.specs.Check.{right_number}
@@ -82,12 +82,12 @@ unfoldable pub seven_digits : List ℕ → ℕ
 seven_digits line = five_digits line * 100 + typed_check line
 
 -- a number line's man and number. "A wrong check is refusal 13, tested after the shape and before 1, 8 and 9"; 1 where the man's byte is wrong
-unfoldable pub number_request : List ℕ → Request
+unfoldable pub number_request : List ℕ → Result Request ℕ
 number_request line =
-    cond (not (right_number (seven_digits line))) (Request.Refused 13)
-    (cond (leb 4 (kind_named (get_or line 0 0))) (Request.Refused 1) (Request.Back (kind_named (get_or line 0 0)) (five_digits line)))
+    cond (not (right_number (seven_digits line))) (Err 13)
+    (cond (leb 4 (kind_named (get_or line 0 0))) (Err 1) (Ok (Request.Back (kind_named (get_or line 0 0)) (five_digits line))))
 
 -- "Another length, .. a space out of place or missing, or a non-digit in a digit's place is refusal 12"; "a line's shape comes first". "The old
 -- nine-byte line becomes refusal 12", as another length
-unfoldable pub request_of : List ℕ → Request
-request_of line = cond (has_shape position_shape line) (Request.LookUp (keyed_of line)) (cond (has_shape number_shape line) (number_request line) (Request.Refused 12))
+unfoldable pub request_of : List ℕ → Result Request ℕ
+request_of line = cond (has_shape position_shape line) (Ok (Request.LookUp (keyed_of line))) (cond (has_shape number_shape line) (number_request line) (Err 12))

@@ -3,16 +3,15 @@ ghost use Rattle.std.specs.Prelude.{◌≡◌};
 ghost use Rattle.lines.specs.Grammar.{fits_place, has_shape};
 
 // Whether a byte may stand in a place: `.` takes any byte but a space, `0` any digit, another place that byte itself.
+#[tactic(auto, unfolding(crate::specs::Grammar::fits_place))]
 fn fits_place(place: u8, byte: u8) -> bool
     ensures { result ≡ fits_place place byte }
 {
-    if place == b'.' {
-        return byte != b' ';
+    match place {
+        b'.' => byte != b' ',
+        b'0' => byte.is_ascii_digit(),
+        _ => byte == place,
     }
-    if place == b'0' {
-        return (b'0' <= byte) & (byte <= b'9');
-    }
-    byte == place
 }
 
 // Whether a line is as long as a shape and each byte fits its place.
@@ -22,12 +21,8 @@ pub fn shaped(shape: &[u8], line: &[u8]) -> bool
     if shape.len() != line.len() {
         return false;
     }
-    let mut i = 0;
-    while i < line.len() {
-        if !fits_place(shape[i], line[i]) {
-            return false;
-        }
-        i += 1;
-    }
-    true
+    shape
+        .iter()
+        .zip(line)
+        .all(|(place, byte)| fits_place(*place, *byte))
 }

@@ -12,90 +12,90 @@ ghost use Rattle.four_men.specs.Lending.{lent};
 ghost use Rattle.four_men.specs.Answers.{look_up_with};
 ghost use Rattle.look_up.specs.Told.{told_of};
 
-use answers::{Answer, BestMove};
+use answers::Answer;
 use deciding::{PAWN, pawn_verdict};
 use four_men::{lengths_fit, material_for};
 use index::{NormalPlace, normal_place, pawn_normal_place};
 use movegen::checked;
 use pawn_moves::pawn_byte;
 use position::{
-    BAD_MAN, INCONSISTENT, Map, OTHER_IN_CHECK, Position, Slot, TABLE_LENGTH, in_check, man_in,
-    other, placing_with,
+    BAD_MAN, INCONSISTENT, Map, OTHER_IN_CHECK, Position, TABLE_LENGTH, in_check, man_in, other,
+    placing_with,
 };
-use rules::promotion_of;
+use rules::{Move, promotion_of};
 use successors::{Verdict, byte_at, verdict_on};
 
 // What a byte that stands says of the side to move.
-fn answer(byte: u8, advice: BestMove) -> Answer
+fn answer(byte: u8, advice: Option<Move>) -> Result<Answer, u8>
     ensures { result ≡ answer_of byte advice }
 {
     if byte <= 1 {
-        return Answer::Draw(advice);
+        return Ok(Answer::Draw(advice));
     }
     if byte % 2 == 1 {
-        return Answer::Win(byte - 2, advice);
+        return Ok(Answer::Win(byte - 2, advice));
     }
-    Answer::Loss(byte - 2, advice)
+    Ok(Answer::Loss(byte - 2, advice))
 }
 
 // The move of the normal position, on the board as keyed.
-fn carried_back(via: Map, advice: BestMove) -> BestMove
+fn carried_back(via: Map, advice: Option<Move>) -> Option<Move>
     ensures { result ≡ mapped_advice (inverse (symmetry_of via)) advice }
 {
     match advice {
-        BestMove::NoMove => BestMove::NoMove,
-        BestMove::Play(m) => BestMove::Play(promotion_of(
-            via.back(m.from),
-            via.back(m.to),
-            m.takes,
-            m.becomes,
-        )),
+        None => None,
+        Some(m) => Some(promotion_of(via.back(m.from), via.back(m.to), m.takes, m.becomes)),
     }
 }
 
 // What a verdict on the normal position's byte says of the position as keyed.
-fn told(via: Map, byte: u8, verdict: Verdict) -> Answer
+fn told(via: Map, byte: u8, verdict: Verdict) -> Result<Answer, u8>
     ensures { result ≡ told_of via byte verdict }
 {
     match verdict {
-        Verdict::Wrong => Answer::Refused(INCONSISTENT),
+        Verdict::Wrong => Err(INCONSISTENT),
         Verdict::Right(advice) => answer(byte, carried_back(via, advice)),
     }
 }
 
 // A position with a pawn; the tables that it borrows are one run, the first.
-fn look_up_pawn(p: Position, table: &[u8], first: &[u8], second: &[u8]) -> Answer
+fn look_up_pawn(p: Position, table: &[u8], first: &[u8], second: &[u8]) -> Result<Answer, u8>
     ensures { man_kind p ≡ 4 → result ≡ look_up_with (lent first.now second.now) table.now p }
 {
     let refusal = placing_with(p);
     if refusal != 0 {
-        return Answer::Refused(refusal);
+        return Err(refusal);
     }
     if in_check(p, other(p.side)) {
-        return Answer::Refused(OTHER_IN_CHECK);
+        return Err(OTHER_IN_CHECK);
     }
     let normal = pawn_normal_place(p);
     let m = normal.men;
     let q = normal.place;
     if !lengths_fit(material_for(m), table, first, second) {
-        return Answer::Refused(TABLE_LENGTH);
+        return Err(TABLE_LENGTH);
     }
     let byte = pawn_byte(q, table);
     told(normal.via, byte, pawn_verdict(q, byte, table, first))
 }
 
 // One of pieces that only refusal 6 may meet, by its normal place: whether the side that does not move is in check is asked there too.
-fn look_up_normal(normal: NormalPlace, table: &[u8], first: &[u8], second: &[u8]) -> Answer
+fn look_up_normal(
+    normal: NormalPlace,
+    table: &[u8],
+    first: &[u8],
+    second: &[u8],
+) -> Result<Answer, u8>
     ensures { (p : Position) → placing_with p ≡ 0 → (man_kind p ≡ 4 → ⊥) → Normalises p normal → result ≡ look_up_with (lent first.now second.now) table.now p }
 {
     let m = normal.men;
     let q = normal.place;
     let via = normal.via;
     if checked(m, q, other(q.side)) {
-        return Answer::Refused(OTHER_IN_CHECK);
+        return Err(OTHER_IN_CHECK);
     }
     if !lengths_fit(material_for(m), table, first, second) {
-        return Answer::Refused(TABLE_LENGTH);
+        return Err(TABLE_LENGTH);
     }
     let byte = byte_at(m, q, table);
     let verdict = verdict_on(m, q, byte, table, first, second);
@@ -105,7 +105,7 @@ fn look_up_normal(normal: NormalPlace, table: &[u8], first: &[u8], second: &[u8]
 // The value, the depth and a move, by the table of the position's own ending and the lent ones; or a refusal, 1 to 7,
 // 11 or 18. It asks the normal position, so that one study has one move. The normal place is made before the refusals are
 // asked, from the bytes as they were handed over: a copy kept for later would be waited for.
-pub fn look_up_with(p: Position, table: &[u8], first: &[u8], second: &[u8]) -> Answer
+pub fn look_up_with(p: Position, table: &[u8], first: &[u8], second: &[u8]) -> Result<Answer, u8>
     ensures { result ≡ look_up_with (lent first.now second.now) table.now p }
 {
     let slot = p.first;
@@ -116,24 +116,24 @@ pub fn look_up_with(p: Position, table: &[u8], first: &[u8], second: &[u8]) -> A
     let normal = normal_place(p);
     let refusal = placing_with(p);
     if refusal != 0 {
-        return Answer::Refused(refusal);
+        return Err(refusal);
     }
     look_up_normal(normal, table, first, second)
 }
 
 // The same for the parts that keep to three men, whose tables borrow none: two men are refused 1, and so is a
 // pawn.
-pub fn look_up(table: &[u8], p: Position) -> Answer
+pub fn look_up(table: &[u8], p: Position) -> Result<Answer, u8>
     ensures { result ≡ look_up_of table.now p }
 {
     let first = p.first;
     let second = p.second;
     let man = man_in(first);
     if man.kind == PAWN {
-        return Answer::Refused(BAD_MAN);
+        return Err(BAD_MAN);
     }
     match second {
-        Slot::Present(_) => Answer::Refused(BAD_MAN),
-        Slot::Absent => look_up_with(p, table, table, table),
+        Some(_) => Err(BAD_MAN),
+        None => look_up_with(p, table, table, table),
     }
 }

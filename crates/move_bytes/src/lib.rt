@@ -13,7 +13,7 @@ ghost use Rattle.move_list.specs.ListLaws.{targets_moves};
 ghost use Rattle.move_bytes.specs.MoveBytes.{flag_of, move_bytes, list_size};
 ghost use Rattle.move_bytes.specs.Stored.{Stored};
 
-use board::{has, lowest, without};
+use board::{has, squares_of};
 use move_list::promoting_set;
 use position::Position;
 use position_moves::{Movers, taking_set, targets_from};
@@ -22,7 +22,7 @@ use position_moves::{Movers, taking_set, targets_from};
 pub fn flag(takes: bool) -> u8
     ensures { (result ≡ flag_of takes) × (result < 2) }
 {
-    if takes { 1 } else { 0 }
+    u8::from(takes)
 }
 
 // A move's from-square, to-square, whether it takes, and what a pawn becomes, at its place.
@@ -61,10 +61,7 @@ fn write_targets(
     ensures { Stored (targets_moves foes ends from (members targets)) first bytes.old result bytes.new }
 {
     let mut at = first;
-    let mut rest = targets;
-    while rest != 0 {
-        let to = lowest(rest);
-        rest = without(rest, to);
+    for to in squares_of(targets) {
         let takes = has(foes, to);
         if has(ends, to) {
             write_promotions(from, to, takes, at, &mut *bytes);
@@ -84,13 +81,10 @@ pub fn write_moves(p: Position, all: Movers, bytes: &mut [u8]) -> usize
 {
     let foes = taking_set(p);
     let mut count: usize = 0;
-    let mut rest = all.own;
-    while rest != 0 {
-        let from = lowest(rest);
+    for from in squares_of(all.own) {
         let ends = promoting_set(p, from);
         let targets = targets_from(p, all, from);
         count = write_targets(foes, ends, from, targets, count, &mut *bytes);
-        rest = without(rest, from);
     }
     count
 }

@@ -9,11 +9,12 @@ ghost use Rattle.move_list.specs.Counting.{man_count};
 
 use super::promoting::{OUTER_RANKS, is_pawn};
 use board::size;
-use position::{Position, Slot};
+use position::Position;
 use position_moves::Movers;
+use rules::Piece;
 
 // How many moves a man's targets make: where a pawn promotes there are four.
-fn man_count(slot: Slot, targets: u64) -> u32
+fn man_count(slot: Option<Piece>, targets: u64) -> u32
     requires { man_count slot targets ≤ room }
     ensures { result ≡ man_count slot targets }
 {

@@ -28,9 +28,3 @@ pub struct Listed {
     pub refusal: u8,
     pub list: MoveList,
 }
-
-#[derive(Clone, Copy)]
-pub enum Counted {
-    Count(u8),
-    Refused(u8),
-}

@@ -8,7 +8,7 @@ ghost use Rattle.move_list.specs.ListLaws.{appended, targets_moves};
 
 use super::promoting::promoting_set;
 use super::{MoveList, ROOM};
-use board::{has, lowest, without};
+use board::{has, squares_of};
 use position::{Position, own};
 use position_moves::{legal_targets, taking_set};
 use rules::{Move, ZERO_MOVE, move_of, promotion_of};
@@ -22,52 +22,42 @@ pub fn no_moves() -> MoveList
     }
 }
 
-// The list with one move added.
-fn with_move(list: MoveList, m: Move) -> MoveList
-    requires { list.count < room }
-    ensures { result ≡ appended list (m ∷ []) }
-{
-    let mut moves = list.moves;
-    let count = list.count;
-    moves[count as usize] = m;
-    MoveList {
-        moves,
-        count: count + 1,
+impl MoveList {
+    // One move added.
+    fn push(&mut self, m: Move)
+        requires { self.old.count < room }
+        ensures { self.new ≡ appended self.old (m ∷ []) }
+    {
+        self.moves[self.count as usize] = m;
+        self.count += 1;
     }
-}
 
-// The list with a pawn's four promotions added: queen, rook, bishop, knight.
-fn with_promotions(list: MoveList, from: u8, to: u8, takes: bool) -> MoveList
-    requires { list.count + 4 ≤ room }
-    ensures { result ≡ appended list (map (promotion_of from to takes) (1 ∷ 2 ∷ 3 ∷ 4 ∷ [])) }
-{
-    let queen = with_move(list, promotion_of(from, to, takes, 1));
-    let rook = with_move(queen, promotion_of(from, to, takes, 2));
-    let bishop = with_move(rook, promotion_of(from, to, takes, 3));
-    with_move(bishop, promotion_of(from, to, takes, 4))
-}
+    // A pawn's four promotions added: queen, rook, bishop, knight.
+    fn push_promotions(&mut self, from: u8, to: u8, takes: bool)
+        requires { self.old.count + 4 ≤ room }
+        ensures { self.new ≡ appended self.old (map (promotion_of from to takes) (1 ∷ 2 ∷ 3 ∷ 4 ∷ [])) }
+    {
+        self.push(promotion_of(from, to, takes, 1));
+        self.push(promotion_of(from, to, takes, 2));
+        self.push(promotion_of(from, to, takes, 3));
+        self.push(promotion_of(from, to, takes, 4));
+    }
 
-// The list with the moves from a square to each of the targets added, in rising order: those to a square of `foes`
-// take, and those to one of `ends` are promotions.
-fn add_moves(list: MoveList, foes: u64, ends: u64, from: u8, targets: u64) -> MoveList
-    requires { list.count + length (targets_moves foes ends from (members targets)) ≤ room }
-    ensures { result ≡ appended list (targets_moves foes ends from (members targets)) }
-{
-    let mut out = list;
-    let mut rest = targets;
-    while rest != 0 {
-        let to = lowest(rest);
-        rest = without(rest, to);
-        let takes = has(foes, to);
-        if has(ends, to) {
-            out = with_promotions(out, from, to, takes);
-            continue;
+    // The moves from a square to each of the targets added, in rising order: those to a square of `foes` take, and those
+    // to one of `ends` are promotions.
+    fn push_targets(&mut self, foes: u64, ends: u64, from: u8, targets: u64)
+        requires { self.old.count + length (targets_moves foes ends from (members targets)) ≤ room }
+        ensures { self.new ≡ appended self.old (targets_moves foes ends from (members targets)) }
+    {
+        for to in squares_of(targets) {
+            let takes = has(foes, to);
+            if has(ends, to) {
+                self.push_promotions(from, to, takes);
+            } else {
+                self.push(move_of(from, to, takes));
+            }
         }
-        let at = out.count;
-        out.moves[at as usize] = move_of(from, to, takes);
-        out.count = at + 1;
     }
-    out
 }
 
 // All moves of a position, bare kings or not.
@@ -76,17 +66,8 @@ pub fn moves_of(p: Position) -> MoveList
 {
     let foes = taking_set(p);
     let mut list = no_moves();
-    let mut rest = own(p, p.side);
-    while rest != 0 {
-        let from = lowest(rest);
-        list = add_moves(
-            list,
-            foes,
-            promoting_set(p, from),
-            from,
-            legal_targets(p, from),
-        );
-        rest = without(rest, from);
+    for from in squares_of(own(p, p.side)) {
+        list.push_targets(foes, promoting_set(p, from), from, legal_targets(p, from));
     }
     list
 }

@@ -7,7 +7,8 @@ ghost use Rattle.rules.specs.Rules.{promotes};
 ghost use Rattle.position.specs.Keyed.{slot_men, board_of};
 ghost use Rattle.move_list.specs.Counting.{slot_pawn};
 
-use position::{Position, Slot};
+use position::Position;
+use rules::Piece;
 
 const PAWN: u8 = 4;
 
@@ -15,22 +16,22 @@ const PAWN: u8 = 4;
 pub const OUTER_RANKS: u64 = 0xFF000000000000FF;
 
 // Whether the man in a slot is a pawn.
-pub fn is_pawn(slot: Slot) -> bool
+pub fn is_pawn(slot: Option<Piece>) -> bool
     ensures { result ≡ slot_pawn slot }
 {
     match slot {
-        Slot::Absent => false,
-        Slot::Present(m) => m.kind == PAWN,
+        None => false,
+        Some(m) => m.kind == PAWN,
     }
 }
 
 // Whether the man in a slot is a pawn on this square.
-fn pawn_in(slot: Slot, square: u8) -> bool
+fn pawn_in(slot: Option<Piece>, square: u8) -> bool
     ensures { result ≡ any (λ m. pawn m && eqb m.square square) (slot_men slot) }
 {
     match slot {
-        Slot::Absent => false,
-        Slot::Present(m) => (m.kind == PAWN) & (m.square == square),
+        None => false,
+        Some(m) => (m.kind == PAWN) & (m.square == square),
     }
 }
 

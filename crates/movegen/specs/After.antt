@@ -1,14 +1,13 @@
 -- A move made on a position. Definitions only.
-use Rattle.std.specs.Prelude.{cond, ℕ, ◌-◌, eqb}
+use Rattle.rules.specs.declared.Piece.{Piece}
+use Rattle.std.specs.Prelude.{cond, ℕ, ◌-◌, eqb, None, Option, Some}
 use Rattle.rules.specs.Rules.{carried, carried_piece}
-use Rattle.position.specs.declared.Slot.{Slot}
-use Rattle.position.specs.declared.Slot.TheVariants.{Absent, Present}
 use Rattle.position.specs.declared.Position.{Position}
 
 -- a man after a move: absent where he is taken
-abbrev pub slot_after : ℕ → ℕ → Slot → Slot
-slot_after from to Absent = Absent
-slot_after from to (Present m) = cond (eqb m.square to) Absent (Present (carried_piece from to m))
+abbrev pub slot_after : ℕ → ℕ → Option Piece → Option Piece
+slot_after from to None = None
+slot_after from to (Some m) = cond (eqb m.square to) None (Some (carried_piece from to m))
 
 unfoldable pub after : Position → ℕ → ℕ → Position
 after p from to = record {

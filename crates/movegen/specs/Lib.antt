@@ -1,3 +1,4 @@
 pub mod After
 pub mod Places
 pub mod Reach
+pub mod Passing

@@ -2,7 +2,7 @@
 use Rattle.std.specs.Prelude.{◌≡◌, Bool, true, false, not, ◌&&◌, ℕ, ◌-◌, ◌<◌, eqb}
 use Rattle.board.specs.Reach.{reaches}
 use Rattle.board.specs.Sets.{has, set_of}
-use Rattle.rules.specs.Rules.{piece_of, occupied, king, touching, stands, goes}
+use Rattle.rules.specs.Rules.{piece_of, occupied, king, touching, stands}
 use Rattle.position.specs.declared.Men.{Men}
 use Rattle.position.specs.declared.Place.{Place}
 use Rattle.position.specs.Over.{goes_over, lifted}

@@ -1,9 +1,11 @@
 // Moves on an ending's place: where a piece stands after one, and the legal targets of the side to move's pieces.
 #![tactic(auto)]
 
+mod passing;
 mod places;
 mod reaching;
 
+pub use passing::passing_of;
 pub use places::{
     carried, checked, king_at, men_strike, occupied_at, place_after, square_after, struck_by,
 };

@@ -6,28 +6,27 @@ ghost use Rattle.position.specs.Posed.{board_in, Complete};
 ghost use Rattle.movegen.specs.Reach.{Stays, View, Mover};
 
 use super::Reach;
+use super::passing::passing_of;
 use super::places::{
     king_at, king_set, men_check, occupied_at, own_at, place_after, strike_set, struck_by,
 };
-use board::{has as has_square, lowest, minus, targets, with, without};
+use board::{has as has_square, minus, targets, without};
 use position::{Men, Place, other};
 
 const KING: u8 = 5;
+
+// Whether a man's move leaves his king out of check, by making it.
+fn is_safe(m: Men, q: Place, from: u8, t: u8) -> bool
+    ensures { Stays m q from → t < 64 → result ≡ not (in_check (moved (board_in m q) from t) q.side) }
+{
+    !men_check(m, place_after(q, from, t), q.side)
+}
 
 // Those of a man's targets where a move leaves his king out of check, each by making the move.
 fn tested(m: Men, q: Place, from: u8, free: u64) -> u64
     ensures { Stays m q from → (t : ℕ) → t < 64 → has result t ≡ (has free t && not (in_check (moved (board_in m q) from t) q.side)) }
 {
-    let mut safe: u64 = 0;
-    let mut rest = free;
-    while rest != 0 {
-        let t = lowest(rest);
-        if !men_check(m, place_after(q, from, t), q.side) {
-            safe = with(safe, t);
-        }
-        rest = without(rest, t);
-    }
-    safe
+    passing_of(free, |t| is_safe(m, q, from, t))
 }
 
 // The targets of a man who may shield his king, of those that his own side leaves free: all, or those that may parry an

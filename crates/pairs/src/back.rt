@@ -15,14 +15,12 @@ const FIRSTS: [u16; 10] = [0, 33, 91, 149, 207, 237, 292, 347, 377, 432];
 fn row_of(pair: u16) -> usize
     ensures { result ≡ row_of pair }
 {
-    let mut i: usize = 0;
-    while i < 9 {
+    for i in 0..9 {
         if pair < FIRSTS[i + 1] {
             return i;
         }
-        i += 1;
     }
-    i
+    9
 }
 
 // The black square of a pair, from the packed words.

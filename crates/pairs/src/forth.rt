@@ -60,10 +60,7 @@ fn slot_of(white: u8) -> u8
 {
     let file = white % 8;
     let rank = white / 8;
-    if 3 < file {
-        return 10;
-    }
-    if file < rank {
+    if 3 < file || file < rank {
         return 10;
     }
     file + rank * (7 - rank) / 2
@@ -74,10 +71,7 @@ pub fn pair_in(list: &PairList, white: u8, black: u8) -> u16
     ensures { result ≡ pair_in list.now white black }
 {
     let slot = slot_of(white);
-    if 10 <= slot {
-        return 65535;
-    }
-    if 64 <= black {
+    if 10 <= slot || 64 <= black {
         return 65535;
     }
     list[slot as usize * 64 + black as usize]

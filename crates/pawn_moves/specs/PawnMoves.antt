@@ -73,7 +73,3 @@ weighed_on after c l found =
 
 abbrev pub weighed : (Board → ℕ) → ℕ → Board → Weighed
 weighed byte c b = weighed_on (λ v. byte (played b v)) c (all_moves b) none
-
--- what the loop has found
-abbrev pub found_by : Bool → Move → Option Move
-found_by met best = cond met (some best) none

@@ -6,21 +6,13 @@ ghost use Rattle.rules.specs.Changed.{keeping};
 ghost use Rattle.pawn_numbers.specs.Places.{flip_bits, place_by, normal_of};
 
 use crate::{PawnNormal, PawnPlace};
+use rules::opposite;
 
 // The bits of a square that a flip turns over.
 fn flip_bits(files: bool, colours: bool) -> u8
     ensures { result ≡ flip_bits files colours }
 {
-    if files {
-        if colours {
-            return 63;
-        }
-        return 7;
-    }
-    if colours {
-        return 56;
-    }
-    0
+    u8::from(files) * 7 + u8::from(colours) * 56
 }
 
 // The square that a flip brings this one to; what is off the board stays.
@@ -44,15 +36,7 @@ pub fn square_back(files: bool, colours: bool, s: u8) -> u8
 fn side_flipped(colours: bool, side: u8) -> u8
     ensures { result ≡ swapped colours side }
 {
-    if colours {
-        if side == 0 {
-            return 1;
-        }
-        if side == 1 {
-            return 0;
-        }
-    }
-    side
+    if colours { opposite(side) } else { side }
 }
 
 // The place under a flip; the king named first becomes White's.
@@ -72,18 +56,15 @@ pub fn pawn_normal(colour: u8, side: u8, white: u8, black: u8, square: u8) -> Pa
     ensures { result ≡ normal_of colour side white black square }
 {
     let files = 3 < square % 8;
-    if colour == 1 {
-        let exchanged = place_by(files, true, side, black, white, square);
-        return PawnNormal {
-            place: exchanged,
-            files,
-            colours: true,
-        };
-    }
-    let place = place_by(files, false, side, white, black, square);
+    let colours = colour == 1;
+    let place = if colours {
+        place_by(files, true, side, black, white, square)
+    } else {
+        place_by(files, false, side, white, black, square)
+    };
     PawnNormal {
         place,
         files,
-        colours: false,
+        colours,
     }
 }

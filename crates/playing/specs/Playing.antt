@@ -1,25 +1,22 @@
 -- A move played on a position as keyed: what is answered, and what is promised of it. Definitions only.
-use Rattle.std.specs.Prelude.{◌≡◌, Bool, cond, ◌&&◌, ℕ, zero, suc, T, eqb, ltb}
+use Rattle.rules.specs.declared.Piece.{Piece}
+use Rattle.std.specs.Prelude.{◌≡◌, Bool, cond, ◌&&◌, ℕ, zero, suc, T, eqb, ltb, None, Option, Some, Err, Ok, Result}
 use Rattle.finite.specs.Members.{◌∈◌}
 use Rattle.rules.specs.Rules.{Board, can_move, taking, promotion_of, promotes, becoming, played_as, moves}
 use Rattle.numbering.specs.Material.{material_in, legal_in}
-use Rattle.position.specs.declared.Slot.{Slot}
-use Rattle.position.specs.declared.Slot.TheVariants.{Absent, Present}
 use Rattle.position.specs.declared.Position.{Position}
 use Rattle.position.specs.Keyed.{board_of}
 use Rattle.position.specs.Refusals.{standing_with}
 use Rattle.movegen.specs.After.{after}
-use Rattle.playing.specs.declared.Played.{Played}
-use Rattle.playing.specs.declared.Played.TheVariants.{At, NotLegal, Refused}
 
 -- "a man left alone counts as the first" (02, P10): he stands in the first slot, and the second is empty
-abbrev pub first_of : Slot → Slot → Slot
-first_of Absent second = second
-first_of (Present m) second = Present m
+abbrev pub first_of : Option Piece → Option Piece → Option Piece
+first_of None second = second
+first_of (Some m) second = Some m
 
-abbrev pub second_of : Slot → Slot → Slot
-second_of Absent second = Absent
-second_of (Present m) second = second
+abbrev pub second_of : Option Piece → Option Piece → Option Piece
+second_of None second = None
+second_of (Some m) second = second
 
 unfoldable pub closed_up : Position → Position
 closed_up p = record {
@@ -34,9 +31,9 @@ closed_up p = record {
 abbrev pub named : Bool → ℕ → Bool
 named promoting becomes = cond promoting (ltb 0 becomes && ltb becomes 5) (eqb becomes 0)
 
-abbrev pub slot_becoming : ℕ → ℕ → ℕ → Slot → Slot
-slot_becoming side to kind Absent = Absent
-slot_becoming side to kind (Present m) = Present (becoming side to kind m)
+abbrev pub slot_becoming : ℕ → ℕ → ℕ → Option Piece → Option Piece
+slot_becoming side to kind None = None
+slot_becoming side to kind (Some m) = Some (becoming side to kind m)
 
 -- the man of this side on this square becomes a piece of this kind
 unfoldable pub promoted_to : ℕ → ℕ → ℕ → Position → Position
@@ -59,11 +56,11 @@ can_play b from to becomes = can_move b from to && named (promotes b from to) be
 
 -- "A move sets the moving man on its target, takes a man that stood there off the board and gives the other side the
 -- move" (01, "Games"), where the position is not refused and the move is legal in it
-unfoldable pub play_of : Position → ℕ → ℕ → ℕ → Played
+unfoldable pub play_of : Position → ℕ → ℕ → ℕ → Result (Option Position) ℕ
 play_of p from to becomes =
     cond (eqb (standing_with p) 0)
-    (cond (can_play (board_of p) from to becomes) (At (closed_up (after_as p from to becomes))) NotLegal)
-    (Refused (standing_with p))
+    (cond (can_play (board_of p) from to becomes) (Ok (Some (closed_up (after_as p from to becomes)))) (Ok None))
+    (Err (standing_with p))
 
 -- what is promised where the position q is given
 pub record Plays (p : Position) (from to becomes : ℕ) (q : Position) : Type 0 where

@@ -8,17 +8,9 @@ ghost use Rattle.playing.specs.Playing.{closed_up, play_of};
 
 use board::has;
 use move_list::promoting_set;
-use position::{Position, Slot, standing_with};
+use position::{Position, standing_with};
 use position_moves::legal_targets;
 use promoting::{is_named, make_as};
-
-// The position after the move; or the move is not legal; or a refusal from 1 to 6, or 18, of the position before it.
-#[derive(Clone, Copy)]
-pub enum Played {
-    At(Position),
-    NotLegal,
-    Refused(u8),
-}
 
 // A man left alone becomes the first.
 fn closed_up(p: Position) -> Position
@@ -27,30 +19,30 @@ fn closed_up(p: Position) -> Position
     let first = p.first;
     let second = p.second;
     match first {
-        Slot::Absent => Position {
+        None => Position {
             side: p.side,
             white_king: p.white_king,
             black_king: p.black_king,
             first: second,
-            second: Slot::Absent,
+            second: None,
         },
-        Slot::Present(_) => p,
+        Some(_) => p,
     }
 }
 
 // A promotion names the piece by 1 and its kind; any other move has 0.
-pub fn play(p: Position, from: u8, to: u8, becomes: u8) -> Played
+pub fn play(p: Position, from: u8, to: u8, becomes: u8) -> Result<Option<Position>, u8>
     ensures { result ≡ play_of p from to becomes }
 {
     let refusal = standing_with(p);
     if refusal != 0 {
-        return Played::Refused(refusal);
+        return Err(refusal);
     }
     if !has(legal_targets(p, from), to) {
-        return Played::NotLegal;
+        return Ok(None);
     }
     if !is_named(has(promoting_set(p, from), to), becomes) {
-        return Played::NotLegal;
+        return Ok(None);
     }
-    Played::At(closed_up(make_as(p, from, to, becomes)))
+    Ok(Some(closed_up(make_as(p, from, to, becomes))))
 }

@@ -2,7 +2,7 @@
 ghost use Rattle.std.specs.Prelude.{◌≡◌, cond, ◌&&◌, eqb};
 ghost use Rattle.playing.specs.Playing.{named, slot_becoming, promoted_to, after_as};
 
-use position::{Position, Slot};
+use position::Position;
 use position_moves::make;
 use rules::Piece;
 
@@ -26,12 +26,12 @@ fn kind_after(m: Piece, side: u8, to: u8, kind: u8) -> u8
     m.kind
 }
 
-fn slot_becoming(side: u8, to: u8, kind: u8, slot: Slot) -> Slot
+fn slot_becoming(side: u8, to: u8, kind: u8, slot: Option<Piece>) -> Option<Piece>
     ensures { result ≡ slot_becoming side to kind slot }
 {
     match slot {
-        Slot::Absent => Slot::Absent,
-        Slot::Present(m) => Slot::Present(Piece {
+        None => None,
+        Some(m) => Some(Piece {
             kind: kind_after(m, side, to, kind),
             colour: m.colour,
             square: m.square,

@@ -1,14 +1,12 @@
 -- The pocket edition of a table (02, P1): what packing and the pocket look-up answer. Definitions only.
-use Rattle.std.specs.Prelude.{cond, not, List, ℕ, ◌+◌, ◌*◌, ◌/◌, ◌%◌, ◌^◌, leb, eqb, length, get_or}
+use Rattle.std.specs.Prelude.{cond, not, List, ℕ, ◌+◌, ◌*◌, ◌/◌, ◌%◌, ◌^◌, leb, eqb, length, get_or, Err, Ok, Result}
 use Rattle.finite.specs.Mapped.{map_from}
 use Rattle.position.specs.declared.Position.{Position}
 use Rattle.position.specs.Keyed.{board_of}
 use Rattle.position.specs.Refusals.{standing_refusal}
 use Rattle.numbering.specs.Number.{number_of}
 use Rattle.answers.specs.declared.Answer.{Answer}
-use Rattle.answers.specs.declared.Answer.TheVariants.{Win, Loss, Draw, Refused}
 use Rattle.endings.specs.Ending.{table_size}
-use Rattle.pocket.specs.declared.Packed.{Packed}
 use Rattle.pocket.specs.declared.PocketAnswer.{PocketAnswer}
 
 -- "That is 14,784 bytes."
@@ -31,14 +29,14 @@ unfoldable pub packed_byte : List ℕ → ℕ → ℕ
 packed_byte t i = entry_of (get_or t (4 * i) 0) + 4 * entry_of (get_or t (4 * i + 1) 0) + 16 * entry_of (get_or t (4 * i + 2) 0) + 64 * entry_of (get_or t (4 * i + 3) 0)
 
 pub record Packing : Type 0 where
-  pub answer : Packed
+  pub answer : Result (Unit {0}) ℕ
   pub bytes : List ℕ
 
 unfoldable pub pack_of : List ℕ → List ℕ → Packing
 pack_of t pocket =
-    cond (not (eqb (length t) table_size)) (record { answer = Packed.Refused 7; bytes = pocket })
-    (cond (not (eqb (length pocket) pocket_size)) (record { answer = Packed.Refused 7; bytes = pocket })
-    (record { answer = Packed.Done; bytes = map_from (λ i b. packed_byte t i) 0 pocket }))
+    cond (not (eqb (length t) table_size)) (record { answer = Err 7; bytes = pocket })
+    (cond (not (eqb (length pocket) pocket_size)) (record { answer = Err 7; bytes = pocket })
+    (record { answer = Ok tt; bytes = map_from (λ i b. packed_byte t i) 0 pocket }))
 
 -- ---- what a look-up tells: 01's number of a refusal, and the value
 
@@ -60,18 +58,18 @@ abbrev pub refusing : ℕ → Told
 refusing n = record { refusal = n; value = 0 }
 
 -- each case of the pocket look-up's answer
-abbrev pub told_by : PocketAnswer → Told
-told_by PocketAnswer.Win = win
-told_by PocketAnswer.Loss = loss
-told_by PocketAnswer.Draw = draw
-told_by (PocketAnswer.Refused n) = refusing n
+abbrev pub told_by : Result PocketAnswer ℕ → Told
+told_by (Ok PocketAnswer.Win) = win
+told_by (Ok PocketAnswer.Loss) = loss
+told_by (Ok PocketAnswer.Draw) = draw
+told_by (Err n) = refusing n
 
 -- each case of the large look-up's answer, without its depth and move
-abbrev pub told_in : Answer → Told
-told_in (Win n a) = win
-told_in (Loss n a) = loss
-told_in (Draw a) = draw
-told_in (Refused n) = refusing n
+abbrev pub told_in : Result Answer ℕ → Told
+told_in (Ok (Answer.Win n a)) = win
+told_in (Ok (Answer.Loss n a)) = loss
+told_in (Ok (Answer.Draw a)) = draw
+told_in (Err n) = refusing n
 
 -- ---- looking up: "reads one entry, with refusals 1 to 7, and gives 11 exactly when a legal position's entry is 0"
 

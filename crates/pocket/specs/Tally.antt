@@ -1,8 +1,8 @@
 -- The pocket's four tallies (02, P1: "each the exact count of numbers with one of the four entries"). Definitions only.
-use Rattle.std.specs.Prelude.{◌≡◌, Bool, cond, not, List, ℕ, ◌+◌, ◌*◌, ◌^◌, ◌<◌, eqb, length}
+use Rattle.pocket.specs.declared.Tallies.{Tallies}
+use Rattle.std.specs.Prelude.{◌≡◌, Bool, cond, not, List, ℕ, ◌+◌, ◌*◌, ◌^◌, ◌<◌, eqb, length, Err, Ok, Result}
 use Rattle.finite.specs.Ranked.{rank}
 use Rattle.endings.specs.Ending.{table_size}
-use Rattle.pocket.specs.declared.Tallied.{Tallied}
 use Rattle.pocket.specs.Pocket.{pocket_size, entry_at}
 use Rattle.pocket.specs.Digits.{digits}
 
@@ -15,10 +15,10 @@ unfoldable pub count_of : List ℕ → ℕ → ℕ
 count_of pocket v = rank (holds pocket v) table_size
 
 -- 0 for byte 0, 1 for a draw, 2 for a win, 3 for a loss; refusal 7
-unfoldable pub tally_of : List ℕ → Tallied
+unfoldable pub tally_of : List ℕ → Result Tallies ℕ
 tally_of pocket =
-    cond (not (eqb (length pocket) pocket_size)) (Tallied.Refused 7)
-    (Tallied.Counted (record { none = count_of pocket 0; draws = count_of pocket 1; wins = count_of pocket 2; losses = count_of pocket 3 }))
+    cond (not (eqb (length pocket) pocket_size)) (Err 7)
+    (Ok (record { none = count_of pocket 0; draws = count_of pocket 1; wins = count_of pocket 2; losses = count_of pocket 3 }))
 
 -- ---- counting by words
 

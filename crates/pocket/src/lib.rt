@@ -10,12 +10,8 @@ pub use counter::tally;
 pub use packer::pack;
 pub use reader::look_up;
 
-// What packing says: done, or a refusal.
-#[derive(Clone, Copy)]
-pub enum Packed {
-    Done,
-    Refused(u8),
-}
+// A pocket's bytes.
+const POCKET_SIZE: usize = 14784;
 
 // What the pocket look-up says of the side to move, with no depth and no move.
 #[derive(Clone, Copy)]
@@ -23,7 +19,6 @@ pub enum PocketAnswer {
     Win,
     Loss,
     Draw,
-    Refused(u8),
 }
 
 // How many numbers have each of the four entries: byte 0, a draw, a win, a loss.
@@ -33,11 +28,4 @@ pub struct Tallies {
     pub draws: u16,
     pub wins: u16,
     pub losses: u16,
-}
-
-// What tallying says: the four tallies, or a refusal.
-#[derive(Clone, Copy)]
-pub enum Tallied {
-    Counted(Tallies),
-    Refused(u8),
 }

@@ -2,11 +2,8 @@
 ghost use Rattle.std.specs.Prelude.{◌≡◌, ◌+◌, ◌*◌, ◌<◌, ◌≤◌, length};
 ghost use Rattle.pocket.specs.Pocket.{entry_of, packed_byte, pack_of};
 
-use crate::Packed;
-
-const TABLE_SIZE: usize = 59136;
-
-const POCKET_SIZE: usize = 14784;
+use crate::POCKET_SIZE;
+use index::TABLE_SIZE;
 
 // The entry of a table's byte.
 fn entry(byte: u8) -> u8
@@ -35,19 +32,17 @@ fn packed_byte(table: &[u8], i: usize) -> u8
 }
 
 // Packs any bytes of a table's length. Refusal 7 leaves the pocket as it was.
-pub fn pack(table: &[u8], pocket: &mut [u8]) -> Packed
+pub fn pack(table: &[u8], pocket: &mut [u8]) -> Result<(), u8>
     ensures { (result ≡ (pack_of table.now pocket.old).answer) × (pocket.new ≡ (pack_of table.now pocket.old).bytes) }
 {
     if table.len() != TABLE_SIZE {
-        return Packed::Refused(7);
+        return Err(7);
     }
     if pocket.len() != POCKET_SIZE {
-        return Packed::Refused(7);
+        return Err(7);
     }
-    let mut i: usize = 0;
-    while i < pocket.len() {
+    for i in 0..pocket.len() {
         pocket[i] = packed_byte(table, i);
-        i += 1;
     }
-    Packed::Done
+    Ok(())
 }

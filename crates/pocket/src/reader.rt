@@ -3,10 +3,8 @@ ghost use Rattle.std.specs.Prelude.{◌≡◌};
 ghost use Rattle.pocket.specs.Pocket.{entry_at, told_by, entry_tells, pocket_look_up_of};
 
 use super::rows::number_by_rows;
-use crate::PocketAnswer;
+use crate::{POCKET_SIZE, PocketAnswer};
 use position::{INCONSISTENT, Position, TABLE_LENGTH, standing_refusal};
-
-const POCKET_SIZE: usize = 14784;
 
 // The entry of number k; 0 beyond the pocket's end.
 fn entry_at(pocket: &[u8], k: u32) -> u8
@@ -20,31 +18,27 @@ fn entry_at(pocket: &[u8], k: u32) -> u8
 }
 
 // What an entry says of the side to move.
-fn answer(entry: u8) -> PocketAnswer
+fn answer(entry: u8) -> Result<PocketAnswer, u8>
     ensures { told_by result ≡ entry_tells entry }
 {
-    if entry == 0 {
-        return PocketAnswer::Refused(INCONSISTENT);
+    match entry {
+        0 => Err(INCONSISTENT),
+        1 => Ok(PocketAnswer::Draw),
+        2 => Ok(PocketAnswer::Win),
+        _ => Ok(PocketAnswer::Loss),
     }
-    if entry == 1 {
-        return PocketAnswer::Draw;
-    }
-    if entry == 2 {
-        return PocketAnswer::Win;
-    }
-    PocketAnswer::Loss
 }
 
 // The value; or a refusal, 1 to 7 or 11. One entry is read.
-pub fn look_up(pocket: &[u8], p: Position) -> PocketAnswer
+pub fn look_up(pocket: &[u8], p: Position) -> Result<PocketAnswer, u8>
     ensures { told_by result ≡ pocket_look_up_of pocket.now p }
 {
     let refusal = standing_refusal(p);
     if refusal != 0 {
-        return PocketAnswer::Refused(refusal);
+        return Err(refusal);
     }
     if pocket.len() != POCKET_SIZE {
-        return PocketAnswer::Refused(TABLE_LENGTH);
+        return Err(TABLE_LENGTH);
     }
     answer(entry_at(pocket, number_by_rows(p)))
 }

@@ -1,15 +1,13 @@
 -- A position as keyed, and the board it stands for. Definitions only.
-use Rattle.std.specs.Prelude.{List, [], ◌∷◌, ◌++◌, ℕ}
+use Rattle.std.specs.Prelude.{List, [], ◌∷◌, ◌++◌, ℕ, None, Option, Some}
 use Rattle.rules.specs.declared.Piece.{Piece}
 use Rattle.rules.specs.Rules.{Board, piece_of}
-use Rattle.position.specs.declared.Slot.{Slot}
-use Rattle.position.specs.declared.Slot.TheVariants.{Absent, Present}
 use Rattle.position.specs.declared.Position.{Position}
 
 -- the men in a slot
-abbrev pub slot_men : Slot → List Piece
-slot_men Absent = []
-slot_men (Present m) = m ∷ []
+abbrev pub slot_men : Option Piece → List Piece
+slot_men None = []
+slot_men (Some m) = m ∷ []
 
 unfoldable pub board_of : Position → Board
 board_of p = record { side = p.side; white = p.white_king; black = p.black_king; men = slot_men p.first ++ slot_men p.second }
@@ -20,8 +18,8 @@ one_man kind colour side white square black = record {
   side = side;
   white_king = white;
   black_king = black;
-  first = Present (piece_of kind colour square);
-  second = Absent;
+  first = Some (piece_of kind colour square);
+  second = None;
 }
 
 -- the man White's
@@ -33,9 +31,9 @@ abbrev pub nobody : Piece
 nobody = piece_of 4 0 64
 
 -- the man in a slot
-abbrev pub man_in : Slot → Piece
-man_in Absent = nobody
-man_in (Present m) = m
+abbrev pub man_in : Option Piece → Piece
+man_in None = nobody
+man_in (Some m) = m
 
 -- the first man's kind, colour and square
 abbrev pub man_kind : Position → ℕ
@@ -48,9 +46,9 @@ abbrev pub man_square : Position → ℕ
 man_square p = (man_in p.first).square
 
 -- a board keyed, its first two men in the slots
-abbrev pub slot_of : List Piece → Slot
-slot_of [] = Absent
-slot_of (m ∷ ms) = Present m
+abbrev pub slot_of : List Piece → Option Piece
+slot_of [] = None
+slot_of (m ∷ ms) = Some m
 
 abbrev pub others : List Piece → List Piece
 others [] = []

@@ -1,20 +1,19 @@
 -- A position under one of the board's eight maps: "A map is a change of a position into a position" (01). Definitions
 -- only.
-use Rattle.std.specs.Prelude.{Bool, true, false}
+use Rattle.rules.specs.declared.Piece.{Piece}
+use Rattle.std.specs.Prelude.{Bool, true, false, None, Option, Some}
 use Rattle.symmetry.specs.Symmetry.{Symmetry, mapped}
 use Rattle.rules.specs.Rules.{piece_of}
 use Rattle.numbering.specs.Normal.{normal_map}
-use Rattle.position.specs.declared.Slot.{Slot}
-use Rattle.position.specs.declared.Slot.TheVariants.{Absent, Present}
 use Rattle.position.specs.declared.Position.{Position}
 use Rattle.position.specs.declared.Map.{Map}
 use Rattle.position.specs.declared.Normal.{Normal}
 use Rattle.position.specs.Keyed.{board_of}
 use Rattle.position.specs.Owned.{recoloured}
 
-abbrev pub mapped_slot : Symmetry → Slot → Slot
-mapped_slot m Absent = Absent
-mapped_slot m (Present a) = Present (piece_of a.kind a.colour (mapped m a.square))
+abbrev pub mapped_slot : Symmetry → Option Piece → Option Piece
+mapped_slot m None = None
+mapped_slot m (Some a) = Some (piece_of a.kind a.colour (mapped m a.square))
 
 unfoldable pub mapped_position : Symmetry → Position → Position
 mapped_position m p = record {

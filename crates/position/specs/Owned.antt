@@ -1,16 +1,15 @@
 -- A position with its man White's: "With one black man the desk exchanges the colours and the side to move" (02, P9).
 -- Definitions only.
-use Rattle.std.specs.Prelude.{Bool, cond, eqb}
+use Rattle.rules.specs.declared.Piece.{Piece}
+use Rattle.std.specs.Prelude.{Bool, cond, eqb, None, Option, Some}
 use Rattle.rules.specs.Rules.{piece_of}
 use Rattle.rules.specs.Changed.{other}
-use Rattle.position.specs.declared.Slot.{Slot}
-use Rattle.position.specs.declared.Slot.TheVariants.{Absent, Present}
 use Rattle.position.specs.declared.Position.{Position}
 use Rattle.position.specs.Keyed.{colour_of}
 
-abbrev pub recoloured_slot : Slot → Slot
-recoloured_slot Absent = Absent
-recoloured_slot (Present m) = Present (piece_of m.kind (other m.colour) m.square)
+abbrev pub recoloured_slot : Option Piece → Option Piece
+recoloured_slot None = None
+recoloured_slot (Some m) = Some (piece_of m.kind (other m.colour) m.square)
 
 -- colours, kings and side to move exchanged; every square stays
 unfoldable pub recoloured : Position → Position

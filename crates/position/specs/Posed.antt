@@ -1,10 +1,9 @@
 -- An ending's men and a place, as a position: how the loops over successors hold one. Definitions only.
-use Rattle.std.specs.Prelude.{◌≡◌, cond, ℕ, ◌<◌, T, leb, eqb}
+use Rattle.rules.specs.declared.Piece.{Piece}
+use Rattle.std.specs.Prelude.{◌≡◌, cond, ℕ, ◌<◌, T, leb, eqb, None, Option, Some}
 use Rattle.rules.specs.Rules.{Board, piece_of}
 use Rattle.numbering.specs.declared.Material.{Material}
 use Rattle.numbering.specs.Material.{known, one_of, OfMaterial}
-use Rattle.position.specs.declared.Slot.{Slot}
-use Rattle.position.specs.declared.Slot.TheVariants.{Absent, Present}
 use Rattle.position.specs.declared.Position.{Position}
 use Rattle.position.specs.declared.Men.{Men}
 use Rattle.position.specs.declared.Place.{Place}
@@ -12,8 +11,8 @@ use Rattle.position.specs.Keyed.{board_of}
 use Rattle.position.specs.Refusals.{placing_with}
 
 -- a man on a square; none where it is off the board
-abbrev pub slot_at : ℕ → ℕ → ℕ → Slot
-slot_at kind colour square = cond (leb 64 square) Absent (Present (piece_of kind colour square))
+abbrev pub slot_at : ℕ → ℕ → ℕ → Option Piece
+slot_at kind colour square = cond (leb 64 square) None (Some (piece_of kind colour square))
 
 unfoldable pub posed : Men → Place → Position
 posed m q = record {

@@ -1,22 +1,20 @@
 -- The refusals of a position as keyed (01, "When the desk says no"), each by itself, and their chains. Definitions
 -- only.
-use Rattle.std.specs.Prelude.{Bool, true, false, cond, not, ◌&&◌, ◌||◌, ℕ, ◌-◌, leb, ltb, eqb}
+use Rattle.std.specs.Prelude.{Bool, true, false, cond, not, ◌&&◌, ◌||◌, ℕ, ◌-◌, leb, ltb, eqb, None, Option, Some}
 use Rattle.finite.specs.Truth.{implies}
 use Rattle.finite.specs.Members.{all}
 use Rattle.rules.specs.declared.Piece.{Piece}
 use Rattle.rules.specs.Pawn.{pawn, inner, outer}
 use Rattle.rules.specs.Rules.{pieces, apart, touching, in_check}
-use Rattle.position.specs.declared.Slot.{Slot}
-use Rattle.position.specs.declared.Slot.TheVariants.{Absent, Present}
 use Rattle.position.specs.declared.Position.{Position}
 use Rattle.position.specs.Keyed.{board_of}
 
 -- 1: "material code above 3"; "no man at all, or an absent one before a present one"; "Two men .. until they have a
 -- table" (02, P9)
-abbrev pub bad_men : Slot → Slot → Bool
-bad_men Absent second = true
-bad_men (Present m) (Present n) = true
-bad_men (Present m) Absent = leb 4 m.kind
+abbrev pub bad_men : Option Piece → Option Piece → Bool
+bad_men None second = true
+bad_men (Some m) (Some n) = true
+bad_men (Some m) None = leb 4 m.kind
 
 abbrev pub bad_man : Position → Bool
 bad_man p = bad_men p.first p.second
@@ -69,34 +67,34 @@ standing_refusal p = or_in_check p (placing_refusal p)
 -- ---- slot by slot, as code asks them
 
 -- a man of neither side
-abbrev pub slot_foreign : Slot → Bool
-slot_foreign Absent = false
-slot_foreign (Present m) = leb 2 m.colour
+abbrev pub slot_foreign : Option Piece → Bool
+slot_foreign None = false
+slot_foreign (Some m) = leb 2 m.colour
 
 -- a man off the board
-abbrev pub slot_off : Slot → Bool
-slot_off Absent = false
-slot_off (Present m) = leb 64 m.square
+abbrev pub slot_off : Option Piece → Bool
+slot_off None = false
+slot_off (Some m) = leb 64 m.square
 
 -- a pawn on rank 1 or 8
-abbrev pub slot_astray : Slot → Bool
-slot_astray Absent = false
-slot_astray (Present m) = pawn m && outer m.square
+abbrev pub slot_astray : Option Piece → Bool
+slot_astray None = false
+slot_astray (Some m) = pawn m && outer m.square
 
 -- a man on s
-abbrev pub slot_on : ℕ → Slot → Bool
-slot_on s Absent = false
-slot_on s (Present m) = eqb s m.square
+abbrev pub slot_on : ℕ → Option Piece → Bool
+slot_on s None = false
+slot_on s (Some m) = eqb s m.square
 
 -- two men on one square
-abbrev pub slots_share : Slot → Slot → Bool
-slots_share Absent k = false
-slots_share (Present m) k = slot_on m.square k
+abbrev pub slots_share : Option Piece → Option Piece → Bool
+slots_share None k = false
+slots_share (Some m) k = slot_on m.square k
 
 -- a man whom one of 2 to 4 or 18 refuses, were he the only one
-abbrev pub slot_misplaced : ℕ → ℕ → Slot → Bool
-slot_misplaced white black Absent = false
-slot_misplaced white black (Present m) =
+abbrev pub slot_misplaced : ℕ → ℕ → Option Piece → Bool
+slot_misplaced white black None = false
+slot_misplaced white black (Some m) =
     leb 2 m.colour
     || (leb 64 m.square
     || ((pawn m && outer m.square) || (eqb white m.square || eqb black m.square)))
@@ -104,10 +102,10 @@ slot_misplaced white black (Present m) =
 -- ---- of one man or of two (02, P10): as of one man, but that two men have a table, and so has a lone pawn (P12)
 
 -- 1: no man at all, an absent one before a present one, a kind above 4, or a pawn beside another man
-abbrev pub bad_men_of : Slot → Slot → Bool
-bad_men_of Absent second = true
-bad_men_of (Present m) Absent = leb 5 m.kind
-bad_men_of (Present m) (Present n) = leb 4 m.kind || leb 4 n.kind
+abbrev pub bad_men_of : Option Piece → Option Piece → Bool
+bad_men_of None second = true
+bad_men_of (Some m) None = leb 5 m.kind
+bad_men_of (Some m) (Some n) = leb 4 m.kind || leb 4 n.kind
 
 -- 1 to 5 and 18: the first that applies, 0 where none does
 unfoldable pub placing_with : Position → ℕ

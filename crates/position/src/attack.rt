@@ -7,7 +7,7 @@ ghost use Rattle.position.specs.Keyed.{slot_men, board_of};
 ghost use Rattle.position.specs.Over.{strikes as strikes_over, attacked_over, men_over};
 
 use super::occupancy::{occupied, pieces_of};
-use super::{Position, Slot, other};
+use super::{Position, other};
 use board::{attacks, has as has_square, targets};
 use rules::{Piece, pawn_hits};
 
@@ -88,12 +88,12 @@ fn man_strikes(p: Position, kind: u8, colour: u8, square: u8, t: u8) -> bool
 }
 
 // Whether a slot holds a man of this colour who attacks t.
-fn slot_strikes(p: Position, slot: Slot, colour: u8, t: u8) -> bool
+fn slot_strikes(p: Position, slot: Option<Piece>, colour: u8, t: u8) -> bool
     ensures { result ≡ any (strikes_over (occupied_of (board_of p)) colour t) (slot_men slot) }
 {
     match slot {
-        Slot::Absent => false,
-        Slot::Present(m) => if m.colour == colour {
+        None => false,
+        Some(m) => if m.colour == colour {
             man_strikes(p, m.kind, m.colour, m.square, t)
         } else {
             false
@@ -116,12 +116,12 @@ pub fn men_check(p: Position, side: u8) -> bool
 }
 
 // The squares that the man in a slot attacks, if he is of this colour.
-fn slot_set(occ: u64, colour: u8, slot: Slot) -> u64
+fn slot_set(occ: u64, colour: u8, slot: Option<Piece>) -> u64
     ensures { (t : ℕ) → t < 64 → has result t ≡ any (strikes_over (has occ) colour t) (slot_men slot) }
 {
     match slot {
-        Slot::Absent => 0,
-        Slot::Present(m) => strike_set(occ, colour, m),
+        None => 0,
+        Some(m) => strike_set(occ, colour, m),
     }
 }
 

@@ -54,21 +54,14 @@ pub const TOO_MANY_PLIES: u8 = 16;
 
 pub const BAD_PAWN: u8 = 18;
 
-// Room for a piece besides the kings.
-#[derive(Clone, Copy)]
-pub enum Slot {
-    Absent,
-    Present(Piece),
-}
-
 // The side to move, the kings' squares, and up to two men. As keyed: any bytes may come in.
 #[derive(Clone, Copy)]
 pub struct Position {
     pub side: u8,
     pub white_king: u8,
     pub black_king: u8,
-    pub first: Slot,
-    pub second: Slot,
+    pub first: Option<Piece>,
+    pub second: Option<Piece>,
 }
 
 // The men of an ending, fixed for a table: the first's kind, who is White's; the second's kind, 4 where there is none,
@@ -122,12 +115,12 @@ pub fn one_man(kind: u8, colour: u8, side: u8, white: u8, square: u8, black: u8)
         side,
         white_king: white,
         black_king: black,
-        first: Slot::Present(Piece {
+        first: Some(Piece {
             kind,
             colour,
             square,
         }),
-        second: Slot::Absent,
+        second: None,
     }
 }
 
@@ -139,16 +132,16 @@ pub fn lone(kind: u8, side: u8, white: u8, square: u8, black: u8) -> Position
 }
 
 // The man in a slot; one that stands off the board where there is none.
-pub fn man_in(slot: Slot) -> Piece
+pub fn man_in(slot: Option<Piece>) -> Piece
     ensures { result ≡ man_in slot }
 {
     match slot {
-        Slot::Absent => Piece {
+        None => Piece {
             kind: 4,
             colour: 0,
             square: 64,
         },
-        Slot::Present(m) => m,
+        Some(m) => m,
     }
 }
 
@@ -156,5 +149,5 @@ pub fn man_in(slot: Slot) -> Piece
 pub fn other(side: u8) -> u8
     ensures { result ≡ 1 - side }
 {
-    if side == 0 { 1 } else { 0 }
+    u8::from(side == 0)
 }

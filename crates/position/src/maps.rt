@@ -5,7 +5,7 @@ ghost use Rattle.numbering.specs.Normal.{first_above, turn, swaps as swaps_of};
 ghost use Rattle.position.specs.Keyed.{slot_men, board_of};
 ghost use Rattle.position.specs.Maps.{mapped_slot, mapped_position, reversals, symmetry_of, normal_of};
 
-use crate::{Map, Normal, Position, Slot};
+use crate::{Map, Normal, Position};
 use pawn_numbers::square_flipped;
 use rules::Piece;
 
@@ -34,12 +34,12 @@ impl Map {
 }
 
 // The man in a slot, likewise.
-fn slot_reversed(files: bool, ranks: bool, slot: Slot) -> Slot
+fn slot_reversed(files: bool, ranks: bool, slot: Option<Piece>) -> Option<Piece>
     ensures { result ≡ mapped_slot (reversals files ranks) slot }
 {
     match slot {
-        Slot::Absent => Slot::Absent,
-        Slot::Present(m) => Slot::Present(Piece {
+        None => None,
+        Some(m) => Some(Piece {
             kind: m.kind,
             colour: m.colour,
             square: square_flipped(files, ranks, m.square),
@@ -47,12 +47,12 @@ fn slot_reversed(files: bool, ranks: bool, slot: Slot) -> Slot
     }
 }
 
-fn slot_transposed(slot: Slot) -> Slot
+fn slot_transposed(slot: Option<Piece>) -> Option<Piece>
     ensures { result ≡ mapped_slot exchange slot }
 {
     match slot {
-        Slot::Absent => Slot::Absent,
-        Slot::Present(m) => Slot::Present(Piece {
+        None => None,
+        Some(m) => Some(Piece {
             kind: m.kind,
             colour: m.colour,
             square: transposed(m.square),
@@ -61,22 +61,22 @@ fn slot_transposed(slot: Slot) -> Slot
 }
 
 // Whether the man in the slot stands above the diagonal.
-fn is_above(slot: Slot) -> bool
+fn is_above(slot: Option<Piece>) -> bool
     ensures { result ≡ first_above (slot_men slot) }
 {
     match slot {
-        Slot::Absent => false,
-        Slot::Present(m) => m.square % 8 < m.square / 8,
+        None => false,
+        Some(m) => m.square % 8 < m.square / 8,
     }
 }
 
 // Whether the first man off the diagonal does.
-fn men_above(first: Slot, second: Slot) -> bool
+fn men_above(first: Option<Piece>, second: Option<Piece>) -> bool
     ensures { result ≡ first_above (slot_men first ++ slot_men second) }
 {
     match first {
-        Slot::Absent => is_above(second),
-        Slot::Present(m) => {
+        None => is_above(second),
+        Some(m) => {
             if m.square % 8 == m.square / 8 {
                 return is_above(second);
             }
@@ -148,21 +148,14 @@ impl Position {
         let white = self.white_king;
         let p = self.turned();
         let swap = p.swaps();
-        let via = Map {
-            files: 3 < white % 8,
-            ranks: 3 < white / 8,
-            swap: swap,
-        };
-        if swap {
-            let q = p.exchanged();
-            return Normal {
-                position: q,
-                via: via,
-            };
-        }
+        let position = if swap { p.exchanged() } else { p };
         Normal {
-            position: p,
-            via: via,
+            position,
+            via: Map {
+                files: 3 < white % 8,
+                ranks: 3 < white / 8,
+                swap,
+            },
         }
     }
 }

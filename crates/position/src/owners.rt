@@ -1,28 +1,17 @@
 // A position with its man White's: colours, kings and side to move exchanged where he is Black's.
 ghost use Rattle.std.specs.Prelude.{◌≡◌};
-ghost use Rattle.rules.specs.Changed.{other as other_of};
 ghost use Rattle.position.specs.Owned.{recoloured_slot, recoloured as recoloured_of, white_owned};
 
-use crate::{Position, Slot, man_in};
-use rules::Piece;
-
-// Black for White and White for Black; another number stays.
-fn opposite(colour: u8) -> u8
-    ensures { result ≡ other_of colour }
-{
-    if 2 <= colour {
-        return colour;
-    }
-    1 - colour
-}
+use crate::{Position, man_in};
+use rules::{Piece, opposite};
 
 // The man in a slot, the other side's.
-fn slot_recoloured(slot: Slot) -> Slot
+fn slot_recoloured(slot: Option<Piece>) -> Option<Piece>
     ensures { result ≡ recoloured_slot slot }
 {
     match slot {
-        Slot::Absent => Slot::Absent,
-        Slot::Present(m) => Slot::Present(Piece {
+        None => None,
+        Some(m) => Some(Piece {
             kind: m.kind,
             colour: opposite(m.colour),
             square: m.square,

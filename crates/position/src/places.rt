@@ -2,17 +2,17 @@
 ghost use Rattle.std.specs.Prelude.{◌≡◌};
 ghost use Rattle.position.specs.Posed.{slot_at, posed as posed_of};
 
-use super::{Men, Place, Position, Slot};
+use super::{Men, Place, Position};
 use rules::Piece;
 
 // A man on a square; none where it is off the board.
-fn slot_at(kind: u8, colour: u8, square: u8) -> Slot
+fn slot_at(kind: u8, colour: u8, square: u8) -> Option<Piece>
     ensures { result ≡ slot_at kind colour square }
 {
     if 64 <= square {
-        return Slot::Absent;
+        return None;
     }
-    Slot::Present(Piece {
+    Some(Piece {
         kind,
         colour,
         square,

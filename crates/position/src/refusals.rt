@@ -1,47 +1,48 @@
 // The refusals of a position, the lowest that applies.
-ghost use Rattle.std.specs.Prelude.{◌≡◌, false};
+ghost use Rattle.std.specs.Prelude.{◌≡◌, cond, false};
 ghost use Rattle.position.specs.Refusals.{bad_men, bad_side, bad_square, bad_pawn, shared_square, slot_foreign, slot_off, slot_astray, slot_on, slots_share, slot_misplaced, kings_touch, later_refusal, placing_refusal, or_in_check, standing_refusal, bad_men_of, placing_with, standing_with};
 
 use super::attack::men_check;
 use super::{
     BAD_MAN, BAD_PAWN, BAD_SIDE, BAD_SQUARE, KINGS_TOUCH, OTHER_IN_CHECK, Position, SHARED_SQUARE,
-    Slot, other,
+    other,
 };
 use board::{has, targets};
+use rules::Piece;
 
 // Whether the men are none that have a table.
-fn bad_men(first: Slot, second: Slot) -> bool
+fn bad_men(first: Option<Piece>, second: Option<Piece>) -> bool
     ensures { result ≡ bad_men first second }
 {
     match first {
-        Slot::Absent => true,
-        Slot::Present(m) => match second {
-            Slot::Absent => 4 <= m.kind,
-            Slot::Present(_) => true,
+        None => true,
+        Some(m) => match second {
+            None => 4 <= m.kind,
+            Some(_) => true,
         },
     }
 }
 
 // The same, where two men may have one, and a lone pawn.
-fn bad_men_of(first: Slot, second: Slot) -> bool
+fn bad_men_of(first: Option<Piece>, second: Option<Piece>) -> bool
     ensures { result ≡ bad_men_of first second }
 {
     match first {
-        Slot::Absent => true,
-        Slot::Present(m) => match second {
-            Slot::Absent => 5 <= m.kind,
-            Slot::Present(n) => (4 <= m.kind) | (4 <= n.kind),
+        None => true,
+        Some(m) => match second {
+            None => 5 <= m.kind,
+            Some(n) => (4 <= m.kind) | (4 <= n.kind),
         },
     }
 }
 
 // Whether a man is of neither side.
-fn is_foreign(slot: Slot) -> bool
+fn is_foreign(slot: Option<Piece>) -> bool
     ensures { result ≡ slot_foreign slot }
 {
     match slot {
-        Slot::Absent => false,
-        Slot::Present(m) => 2 <= m.colour,
+        None => false,
+        Some(m) => 2 <= m.colour,
     }
 }
 
@@ -55,12 +56,12 @@ fn bad_side(p: Position) -> bool
 }
 
 // Whether a man stands off the board.
-fn is_off(slot: Slot) -> bool
+fn is_off(slot: Option<Piece>) -> bool
     ensures { result ≡ slot_off slot }
 {
     match slot {
-        Slot::Absent => false,
-        Slot::Present(m) => 64 <= m.square,
+        None => false,
+        Some(m) => 64 <= m.square,
     }
 }
 
@@ -74,12 +75,12 @@ fn bad_square(p: Position) -> bool
 }
 
 // Whether a man is a pawn on rank 1 or 8.
-fn is_astray(slot: Slot) -> bool
+fn is_astray(slot: Option<Piece>) -> bool
     ensures { result ≡ slot_astray slot }
 {
     match slot {
-        Slot::Absent => false,
-        Slot::Present(m) => (m.kind == 4) & ((m.square < 8) | (56 <= m.square)),
+        None => false,
+        Some(m) => (m.kind == 4) & ((m.square < 8) | (56 <= m.square)),
     }
 }
 
@@ -93,22 +94,22 @@ fn bad_pawn(p: Position) -> bool
 }
 
 // Whether a man stands on a square.
-fn is_on(square: u8, slot: Slot) -> bool
+fn is_on(square: u8, slot: Option<Piece>) -> bool
     ensures { result ≡ slot_on square slot }
 {
     match slot {
-        Slot::Absent => false,
-        Slot::Present(m) => square == m.square,
+        None => false,
+        Some(m) => square == m.square,
     }
 }
 
 // Whether two men stand on one square.
-fn men_share(first: Slot, second: Slot) -> bool
+fn men_share(first: Option<Piece>, second: Option<Piece>) -> bool
     ensures { result ≡ slots_share first second }
 {
     match first {
-        Slot::Absent => false,
-        Slot::Present(m) => is_on(m.square, second),
+        None => false,
+        Some(m) => is_on(m.square, second),
     }
 }
 
@@ -126,12 +127,12 @@ fn shared_square(p: Position) -> bool
 }
 
 // Whether a man is of neither side, off the board, a pawn on rank 1 or 8, or on a king's square.
-fn is_misplaced(white: u8, black: u8, slot: Slot) -> bool
+fn is_misplaced(white: u8, black: u8, slot: Option<Piece>) -> bool
     ensures { result ≡ slot_misplaced white black slot }
 {
     match slot {
-        Slot::Absent => false,
-        Slot::Present(m) => (2 <= m.colour)
+        None => false,
+        Some(m) => (2 <= m.colour)
             | ((64 <= m.square)
                 | (((m.kind == 4) & ((m.square < 8) | (56 <= m.square)))
                     | ((white == m.square) | (black == m.square)))),
@@ -183,13 +184,11 @@ fn later_refusal(p: Position) -> u8
     0
 }
 
-// Refusals 1 to 5, the lowest that applies; 0 where none does. Two men are refused, and a pawn.
-pub fn placing_refusal(p: Position) -> u8
-    ensures { result ≡ placing_refusal p }
+// Refusal 1 where the men are bad, or else 2 to 5 and 18, the first that applies; 0 where none does.
+fn refusal_of(p: Position, is_bad: bool) -> u8
+    ensures { result ≡ cond is_bad 1 (later_refusal p) }
 {
-    let first = p.first;
-    let second = p.second;
-    if bad_men(first, second) {
+    if is_bad {
         return BAD_MAN;
     }
     if !is_refused(p) {
@@ -198,19 +197,22 @@ pub fn placing_refusal(p: Position) -> u8
     later_refusal(p)
 }
 
+// Refusals 1 to 5, the lowest that applies; 0 where none does. Two men are refused, and a pawn.
+pub fn placing_refusal(p: Position) -> u8
+    ensures { result ≡ placing_refusal p }
+{
+    let first = p.first;
+    let second = p.second;
+    refusal_of(p, bad_men(first, second))
+}
+
 // The same for one man and for two, and for a lone pawn, with 18 after 3.
 pub fn placing_with(p: Position) -> u8
     ensures { result ≡ placing_with p }
 {
     let first = p.first;
     let second = p.second;
-    if bad_men_of(first, second) {
-        return BAD_MAN;
-    }
-    if !is_refused(p) {
-        return 0;
-    }
-    later_refusal(p)
+    refusal_of(p, bad_men_of(first, second))
 }
 
 // Such a refusal, or else 6 where it applies: once the kings do not touch, men alone give check.

@@ -1,11 +1,9 @@
 -- What the laws of the targets of a position's pieces, and the contracts of the code, speak of. Definitions only.
-use Rattle.std.specs.Prelude.{◌≡◌, Bool, true, false, ◌&&◌, ℕ, ◌-◌, ◌<◌, T, eqb}
+use Rattle.std.specs.Prelude.{◌≡◌, Bool, true, false, ◌&&◌, ℕ, ◌-◌, ◌<◌, T, eqb, Option, Some}
 use Rattle.finite.specs.Members.{◌∈◌}
 use Rattle.board.specs.Sets.{has, set_of}
 use Rattle.rules.specs.declared.Piece.{Piece}
 use Rattle.rules.specs.Rules.{Board, pieces, apart, touching, occupied, king, in_check, stands, goes_to, can_move}
-use Rattle.position.specs.declared.Slot.{Slot}
-use Rattle.position.specs.declared.Slot.TheVariants.{Present}
 use Rattle.position.specs.declared.Position.{Position}
 use Rattle.position.specs.Keyed.{board_of, man_in}
 use Rattle.position.specs.Over.{men_over, lifted}
@@ -32,8 +30,8 @@ pub record Sight (p : Position) (occ own struck : ℕ) : Type 0 where
       → men_over (lifted (has occ) (king (board_of p) p.side)) (board_of p) (1 - p.side) s ≡ false
 
 -- the man in a slot is one of the position's
-abbrev pub Held : Position → Slot → Type 0
-Held p slot = (m : Piece) → slot ≡ Present m → m ∈ (board_of p).men
+abbrev pub Held : Position → Option Piece → Type 0
+Held p slot = (m : Piece) → slot ≡ Some m → m ∈ (board_of p).men
 
 -- what is found of a position's movers
 pub record MoversOf (p : Position) (r : Movers) : Type 0 where

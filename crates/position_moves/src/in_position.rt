@@ -10,17 +10,18 @@ ghost use Rattle.position_moves.specs.InPosition.{goes_by, Sight, Held, MoversOf
 use super::Movers;
 use super::targets::{goes_to, legal_targets};
 use board::{has as has_square, minus, targets, without};
-use position::{Position, Slot, king_square, man_in, men_set, occupied, other, own};
+use position::{Position, king_square, man_in, men_set, occupied, other, own};
+use rules::Piece;
 
 const KING: u8 = 5;
 
 // The squares where the man in a slot may go, if he is of this side.
-fn slot_goes(occ: u64, side: u8, slot: Slot) -> u64
+fn slot_goes(occ: u64, side: u8, slot: Option<Piece>) -> u64
     ensures { (t : ℕ) → t < 64 → has result t ≡ any (goes_by (has occ) side t) (slot_men slot) }
 {
     match slot {
-        Slot::Absent => 0,
-        Slot::Present(m) => if m.colour == side {
+        None => 0,
+        Some(m) => if m.colour == side {
             goes_to(occ, m.kind, m.colour, m.square)
         } else {
             0
@@ -30,7 +31,7 @@ fn slot_goes(occ: u64, side: u8, slot: Slot) -> u64
 
 // Those of a man's squares that are legal targets. `struck` are the squares of his side that foes attack with his king
 // lifted off the board: where there are none, he is free to go.
-fn man_targets(p: Position, own: u64, struck: u64, goes: u64, slot: Slot) -> u64
+fn man_targets(p: Position, own: u64, struck: u64, goes: u64, slot: Option<Piece>) -> u64
     ensures { (occ : ℕ) → Sight p occ own struck → Held p slot → ((t : ℕ) → t < 64 → has goes t ≡ any (goes_by (has occ) p.side t) (slot_men slot)) → result ≡ set_of (can_move (board_of p) (man_in slot).square) }
 {
     if struck == 0 {

@@ -3,18 +3,18 @@ ghost use Rattle.std.specs.Prelude.{◌≡◌};
 ghost use Rattle.movegen.specs.After.{slot_after, after};
 
 use movegen::carried;
-use position::{Position, Slot, other};
+use position::{Position, other};
 use rules::Piece;
 
-fn slot_after(from: u8, to: u8, slot: Slot) -> Slot
+fn slot_after(from: u8, to: u8, slot: Option<Piece>) -> Option<Piece>
     ensures { result ≡ slot_after from to slot }
 {
     match slot {
-        Slot::Absent => Slot::Absent,
-        Slot::Present(m) => if m.square == to {
-            Slot::Absent
+        None => None,
+        Some(m) => if m.square == to {
+            None
         } else {
-            Slot::Present(Piece {
+            Some(Piece {
                 kind: m.kind,
                 colour: m.colour,
                 square: carried(from, to, m.square),

@@ -6,7 +6,8 @@ ghost use Rattle.position.specs.Keyed.{board_of};
 ghost use Rattle.position.specs.Over.{goes_from, goes_over};
 
 use super::making::make;
-use board::{has as has_square, lowest, minus, targets, with, without};
+use board::{has as has_square, minus, targets, without};
+use movegen::passing_of;
 use position::{
     Position, attack_set, attacked_over, in_check, king_square, occupied, other, own, pieces_of,
 };
@@ -48,20 +49,18 @@ fn goes_over(p: Position, occ: u64, from: u8) -> u64
             | (goes_set(occ, side, from, all.first) | goes_set(occ, side, from, all.second)))
 }
 
+// Whether a move leaves the mover's king out of check, by making it.
+fn is_safe(p: Position, from: u8, t: u8) -> bool
+    ensures { result ≡ not (in_check (moved (board_of p) from t) p.side) }
+{
+    !in_check(make(p, from, t), p.side)
+}
+
 // Those of some targets where a move leaves the mover's king out of check, each by making the move.
 fn tested(p: Position, from: u8, free: u64) -> u64
     ensures { (t : ℕ) → t < 64 → has result t ≡ (has free t && not (in_check (moved (board_of p) from t) p.side)) }
 {
-    let mut safe: u64 = 0;
-    let mut rest = free;
-    while rest != 0 {
-        let t = lowest(rest);
-        if !in_check(make(p, from, t), p.side) {
-            safe = with(safe, t);
-        }
-        rest = without(rest, t);
-    }
-    safe
+    passing_of(free, |t| is_safe(p, from, t))
 }
 
 // The legal targets of the piece on a square. A king's are tested by one set of attacked squares, another piece's by

@@ -6,8 +6,8 @@ ghost use Rattle.rules.specs.Rules.{legal};
 ghost use Rattle.position.specs.Posed.{board_in};
 ghost use Rattle.retracting.specs.Retracting.{Seat, LegalLeft, loser as loser_of, Retracts, place_before, CompleteApart, Steps, lone_of, left_place};
 
-use board::{attacks, lowest, minus, targets, with, without};
-use movegen::{checked, king_at, occupied_at, place_after};
+use board::{attacks, minus, targets, without};
+use movegen::{checked, king_at, occupied_at, passing_of, place_after};
 use position::{Men, Place, other};
 
 const KING: u8 = 5;
@@ -43,20 +43,18 @@ pub fn place_before(q: Place, taken: u8, s: u8, to: u8) -> Place
     }
 }
 
+// Whether a piece now on `to` left a legal position from s.
+fn was_legal(m: Men, q: Place, taken: u8, to: u8, s: u8) -> bool
+    ensures { CompleteApart m (place_before q taken s to) → result ≡ legal (board_in m (place_before q taken s to)) }
+{
+    is_legal(m, place_before(q, taken, s, to))
+}
+
 // Those of the squares that a piece now on `to` left a legal position from.
 fn legal_from(m: Men, q: Place, taken: u8, to: u8, squares: u64) -> u64
     ensures { ((s : ℕ) → s < 64 → T (has squares s) → CompleteApart m (place_before q taken s to)) → (s : ℕ) → s < 64 → has result s ≡ (has squares s && legal (board_in m (place_before q taken s to))) }
 {
-    let mut kept: u64 = 0;
-    let mut rest = squares;
-    while rest != 0 {
-        let s = lowest(rest);
-        if is_legal(m, place_before(q, taken, s, to)) {
-            kept = with(kept, s);
-        }
-        rest = without(rest, s);
-    }
-    kept
+    passing_of(squares, |s| was_legal(m, q, taken, to, s))
 }
 
 // The same, where a man of the mover's on `at` attacks the king: only from the squares between, since from any other he did so already.

@@ -1,18 +1,13 @@
 -- Chess as a game of `theory`, and a board's images.
-use Rattle.std.specs.Prelude.{◌≡◌, refl, Bool, true, false, cond, not, ◌&&◌, List, [], ◌∷◌, map, ℕ, zero, suc, ◌-◌, ◌<◌, T, eqb}
-use Rattle.std.proofs.Common.{sym, ap, ap₂, ◌∙◌, subst, arith, ne_eqb}
-use Rattle.std.proofs.Math.Path.{subst⁻¹}
-use mathlib.Core.List.Memᴰ
-use Rattle.finite.specs.Truth.{by-test, fails, and_right, same_test}
-use Rattle.finite.specs.Members.{◌∈◌, map-in, map-out}
-use Rattle.theory.specs.Game.{Game, next}
-use Rattle.theory.specs.Value.{won, lost, TrueByte}
-use Rattle.theory.specs.Alike.{Alike, Automorphism}
-use Rattle.symmetry.specs.Symmetry.{Symmetry, mapped, inverse}
+use Rattle.std.specs.Prelude.{◌≡◌, refl, Bool, not, List, [], ◌∷◌, ℕ, zero, suc, ◌-◌, T, eqb}
+use Rattle.std.proofs.Common.{ap, ◌∙◌, arith, ne_eqb}
+use Rattle.finite.specs.Truth.{and_right}
+use Rattle.theory.specs.Game.{Game}
+use Rattle.symmetry.specs.Symmetry.{Symmetry}
 use Rattle.rules.specs.declared.Move.{Move}
-use Rattle.rules.specs.Rules.{Board, empty, in_check, known_or_pawn, legal, legal_with_pawn, moved, can_move, taking, move_of, move_on, promotion_of, promotes, moves_to, all_moves, played_as, moves, mated}
+use Rattle.rules.specs.Rules.{Board, empty, in_check, legal, legal_with_pawn, played_as, moves, mated}
 use Rattle.rules.specs.Sides.{played-side}
-use Rattle.rules.specs.Changed.{changed, mapped_move, fits}
+use Rattle.rules.specs.Changed.{changed, fits}
 use Rattle.rules.specs.Sides.{played-side}
 
 empty-nil : {A : Type 0} (l : List A) → T (empty l) → l ≡ []

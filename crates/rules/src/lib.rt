@@ -4,6 +4,7 @@
 mod pawn;
 
 ghost use Rattle.std.specs.Prelude.{◌≡◌};
+ghost use Rattle.rules.specs.Changed.{other};
 ghost use Rattle.rules.specs.Rules.{move_of, promotion_of};
 
 pub use pawn::{pawn_goes, pawn_hits};
@@ -51,4 +52,15 @@ pub fn move_of(from: u8, to: u8, takes: bool) -> Move
     ensures { result ≡ move_of from to takes }
 {
     promotion_of(from, to, takes, 0)
+}
+
+// Black for White and White for Black; another number stays.
+pub fn opposite(colour: u8) -> u8
+    ensures { result ≡ other colour }
+{
+    match colour {
+        0 => 1,
+        1 => 0,
+        _ => colour,
+    }
 }

@@ -10,26 +10,22 @@ use board::{has, minus, one, step_to, with};
 fn forward(colour: u8) -> u8
     ensures { result ≡ forward_of colour }
 {
-    if colour == 0 {
-        return 3;
+    match colour {
+        0 => 3,
+        1 => 1,
+        _ => 2,
     }
-    if colour == 1 {
-        return 1;
-    }
-    2
 }
 
 // Whether the square is on the rank from which two steps are allowed.
 fn on_first_rank(colour: u8, s: u8) -> bool
     ensures { result ≡ eqb (s / 8) (first_rank colour) }
 {
-    if colour == 0 {
-        return s / 8 == 1;
+    match colour {
+        0 => s / 8 == 1,
+        1 => s / 8 == 6,
+        _ => false,
     }
-    if colour == 1 {
-        return s / 8 == 6;
-    }
-    false
 }
 
 // The squares straight on, over empty squares to an empty one.

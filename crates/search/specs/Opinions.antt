@@ -1,6 +1,6 @@
 -- The second opinion on a position as keyed (02, P7): "For k from 0 to 6 it answers the exact depth if at most k, else 'not within k'; a larger
 -- k is refusal 16, and 1 to 6 are asked too." Definitions only.
-use Rattle.std.specs.Prelude.{Bool, cond, ◌||◌, ℕ, suc, ◌%◌, eqb, leb}
+use Rattle.std.specs.Prelude.{Bool, cond, ◌||◌, ℕ, suc, ◌%◌, eqb, leb, Err, Ok, Result}
 use Rattle.finite.specs.Lowest.{lowest}
 use Rattle.theory.specs.Value.{won, lost}
 use Rattle.rules.specs.Rules.{Board}
@@ -27,16 +27,16 @@ unfoldable pub least_depth : Board → ℕ → ℕ
 least_depth b k = lowest (decided_in b) (suc k)
 
 -- the exact depth if at most k
-unfoldable pub searched : Board → ℕ → Opinion
+unfoldable pub searched : Board → ℕ → Result Opinion ℕ
 searched b k =
     let n = least_depth b k in
-    cond (leb n k) (cond (won chess n b) (Opinion.Win n) (Opinion.Loss n)) Opinion.NotWithin
+    cond (leb n k) (cond (won chess n b) (Ok (Opinion.Win n)) (Ok (Opinion.Loss n))) (Ok Opinion.NotWithin)
 
-unfoldable pub opinion_of : Position → ℕ → Opinion
+unfoldable pub opinion_of : Position → ℕ → Result Opinion ℕ
 opinion_of p k =
     cond (eqb (standing_refusal p) 0)
-    (cond (leb k most) (searched (board_of p) k) (Opinion.Refused 16))
-    (Opinion.Refused (standing_refusal p))
+    (cond (leb k most) (searched (board_of p) k) (Err 16))
+    (Err (standing_refusal p))
 
 -- The number and values of each case of the answer: the refusal's number, or 0; the value (win 1, loss 2, not within k 4), or 0 with a
 -- refusal; the depth in plies, or 0 where none is told.
@@ -45,8 +45,8 @@ pub record Values : Type 0 where
   pub value : ℕ
   pub depth : ℕ
 
-abbrev pub values_of : Opinion → Values
-values_of (Opinion.Win n) = record { refusal = 0; value = 1; depth = n }
-values_of (Opinion.Loss n) = record { refusal = 0; value = 2; depth = n }
-values_of Opinion.NotWithin = record { refusal = 0; value = 4; depth = 0 }
-values_of (Opinion.Refused r) = record { refusal = r; value = 0; depth = 0 }
+abbrev pub values_of : Result Opinion ℕ → Values
+values_of (Ok (Opinion.Win n)) = record { refusal = 0; value = 1; depth = n }
+values_of (Ok (Opinion.Loss n)) = record { refusal = 0; value = 2; depth = n }
+values_of (Ok Opinion.NotWithin) = record { refusal = 0; value = 4; depth = 0 }
+values_of (Err r) = record { refusal = r; value = 0; depth = 0 }

@@ -7,7 +7,7 @@ ghost use Rattle.position.specs.Keyed.{slot_men, board_of};
 ghost use Rattle.search.specs.Tried.{Pawnless, losing, aims, HoldsChecks};
 
 use board::{targets, without};
-use position::{Position, Slot, attacked_over, king_square, occupied, other};
+use position::{Position, attacked_over, king_square, occupied, other};
 use position_moves::legal_targets;
 use rules::Piece;
 
@@ -26,12 +26,12 @@ fn aimed(occ: u64, from: u8, at: u8, m: Piece) -> u64
 }
 
 // The same of a piece that may be absent.
-fn aimed_slot(occ: u64, from: u8, at: u8, slot: Slot) -> u64
+fn aimed_slot(occ: u64, from: u8, at: u8, slot: Option<Piece>) -> u64
     ensures { (t : ℕ) → t < 64 → has result t ≡ any (aims (has occ) from at t) (slot_men slot) }
 {
     match slot {
-        Slot::Absent => 0,
-        Slot::Present(m) => aimed(occ, from, at, m),
+        None => 0,
+        Some(m) => aimed(occ, from, at, m),
     }
 }
 

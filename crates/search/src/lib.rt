@@ -15,5 +15,4 @@ pub enum Opinion {
     Win(u8),
     Loss(u8),
     NotWithin,
-    Refused(u8),
 }

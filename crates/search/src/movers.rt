@@ -4,8 +4,8 @@ ghost use Rattle.rules.specs.Rules.{empty, moves};
 ghost use Rattle.position.specs.Keyed.{board_of};
 ghost use Rattle.search.specs.Tried.{movers_of};
 
-use board::{lowest, without};
-use position::{Position, Slot, own};
+use board::squares_of;
+use position::{Position, own};
 use position_moves::legal_targets;
 
 // Whether there are only the kings.
@@ -15,10 +15,10 @@ fn is_bare(s: Position) -> bool
     let first = s.first;
     let second = s.second;
     match first {
-        Slot::Present(_) => false,
-        Slot::Absent => match second {
-            Slot::Present(_) => false,
-            Slot::Absent => true,
+        Some(_) => false,
+        None => match second {
+            Some(_) => false,
+            None => true,
         },
     }
 }
@@ -37,13 +37,5 @@ pub fn movers(s: Position) -> u64
 pub fn can_move(s: Position) -> bool
     ensures { result ≡ not (empty (moves (board_of s))) }
 {
-    let mut rest = movers(s);
-    while rest != 0 {
-        let from = lowest(rest);
-        if legal_targets(s, from) != 0 {
-            return true;
-        }
-        rest = without(rest, from);
-    }
-    false
+    squares_of(movers(s)).any(|from| legal_targets(s, from) != 0)
 }

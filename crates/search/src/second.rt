@@ -22,25 +22,23 @@ fn is_decided(s: Position, n: u8) -> bool
 }
 
 // The exact depth if at most k, asked in rising order; or a refusal from 1 to 6, or 16.
-pub fn second_opinion(p: Position, k: u8) -> Opinion
+pub fn second_opinion(p: Position, k: u8) -> Result<Opinion, u8>
     ensures { result ≡ opinion_of p k }
 {
     let refusal = standing_refusal(p);
     if refusal != 0 {
-        return Opinion::Refused(refusal);
+        return Err(refusal);
     }
     if MOST < k {
-        return Opinion::Refused(TOO_MANY_PLIES);
+        return Err(TOO_MANY_PLIES);
     }
-    let mut n: u8 = 0;
-    while n <= k {
+    for n in 0..=k {
         if is_decided(p, n) {
             if n % 2 == 1 {
-                return Opinion::Win(n);
+                return Ok(Opinion::Win(n));
             }
-            return Opinion::Loss(n);
+            return Ok(Opinion::Loss(n));
         }
-        n += 1;
     }
-    Opinion::NotWithin
+    Ok(Opinion::NotWithin)
 }

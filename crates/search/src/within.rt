@@ -7,7 +7,7 @@ ghost use Rattle.search.specs.Tried.{Pawnless};
 
 use super::checks::tried;
 use super::movers::{can_move, movers};
-use board::{lowest, without};
+use board::squares_of;
 use position::{Position, in_check};
 use position_moves::{legal_targets, make};
 
@@ -19,17 +19,11 @@ pub fn won_within(s: Position, k: u8) -> bool
     if k == 0 {
         return false;
     }
-    let mut rest = movers(s);
-    while rest != 0 {
-        let from = lowest(rest);
-        rest = without(rest, from);
-        let mut targets = tried(s, from, k);
-        while targets != 0 {
-            let to = lowest(targets);
+    for from in squares_of(movers(s)) {
+        for to in squares_of(tried(s, from, k)) {
             if lost_within(make(s, from, to), k - 1) {
                 return true;
             }
-            targets = without(targets, to);
         }
     }
     false
@@ -49,17 +43,11 @@ pub fn lost_within(s: Position, k: u8) -> bool
     if k == 0 {
         return false;
     }
-    let mut rest = movers(s);
-    while rest != 0 {
-        let from = lowest(rest);
-        rest = without(rest, from);
-        let mut targets = legal_targets(s, from);
-        while targets != 0 {
-            let to = lowest(targets);
+    for from in squares_of(movers(s)) {
+        for to in squares_of(legal_targets(s, from)) {
             if !won_within(make(s, from, to), k - 1) {
                 return false; // this reply holds
             }
-            targets = without(targets, to);
         }
     }
     true // every reply loses

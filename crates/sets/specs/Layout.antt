@@ -1,8 +1,7 @@
 -- One file for all four endings (02, P4): how a set is laid out. Definitions only.
-use Rattle.std.specs.Prelude.{◌≡◌, Bool, true, false, cond, ◌&&◌, List, [], ◌∷◌, ◌++◌, ℕ, zero, suc, ◌+◌, ◌*◌, ◌/◌, ◌%◌, leb, ltb, eqb, length, get_or, drop}
+use Rattle.std.specs.Prelude.{◌≡◌, Bool, true, false, cond, ◌&&◌, List, [], ◌∷◌, ◌++◌, ℕ, zero, suc, ◌+◌, ◌*◌, ◌/◌, ◌%◌, leb, ltb, eqb, length, get_or, drop, Err, Ok, Result}
 use Rattle.endings.specs.Ending.{table_size}
 use Rattle.sets.specs.declared.Choice.{Choice}
-use Rattle.sets.specs.declared.Found.{Found}
 
 -- ---- "the choice of endings, a yes or no for each code"
 
@@ -56,6 +55,6 @@ pub record RightSet (s codes : List ℕ) : Type 0 where
   pub long : length s ≡ set_size (length codes)
 
 -- where the rules put a code's table, the first code's at the offset; 15 where it is not there
-unfoldable pub place_of : List ℕ → ℕ → ℕ → Found
-place_of [] offset code = Found.Refused 15
-place_of (c ∷ cs) offset code = cond (eqb c code) (Found.At offset) (place_of cs (offset + table_size) code)
+unfoldable pub place_of : List ℕ → ℕ → ℕ → Result ℕ ℕ
+place_of [] offset code = Err 15
+place_of (c ∷ cs) offset code = cond (eqb c code) (Ok offset) (place_of cs (offset + table_size) code)

@@ -9,17 +9,3 @@ pub struct Choice {
     pub bishop: bool,
     pub knight: bool,
 }
-
-// Where an ending's table starts in a set, or a refusal.
-#[derive(Clone, Copy)]
-pub enum Found {
-    At(u32),
-    Refused(u8),
-}
-
-// What writing a set says.
-#[derive(Clone, Copy)]
-pub enum Written {
-    Done,
-    Refused(u8),
-}

@@ -1,7 +1,6 @@
 -- The word of a progress and of a step's answer (include/sledgewren.h). Definitions only.
-use Rattle.std.specs.Prelude.{List, ℕ, ◌+◌, ◌*◌, ◌^◌, ◌/◌, ◌%◌}
+use Rattle.std.specs.Prelude.{List, ℕ, ◌+◌, ◌*◌, ◌^◌, ◌/◌, ◌%◌, Err, None, Ok, Option, Result, Some}
 use Rattle.table_theory.specs.declared.Progress.{Progress}
-use Rattle.answers.specs.declared.Filled.{Filled}
 use Rattle.filling.specs.declared.steps.Step.{Step}
 use Rattle.filling.specs.declared.steps.Stepped.{Stepped}
 use Rattle.filling.specs.Steps.{Taken}
@@ -20,10 +19,10 @@ abbrev pub progress_of : ℕ → Progress
 progress_of w = record { stage = w % 2 ^ 8; next = w / 2 ^ 8 % 2 ^ 16; last = w / 2 ^ 24 }
 
 -- the refusal; where there is none the progress tells how filling ends
-abbrev pub end_word : Filled → ℕ
-end_word (Filled.Refused k) = k
-end_word (Filled.Greatest n) = 0
-end_word Filled.NoneDecided = 0
+abbrev pub end_word : Result (Option ℕ) ℕ → ℕ
+end_word (Err k) = k
+end_word (Ok (Some n)) = 0
+end_word (Ok None) = 0
 
 -- bits 0-7 refusal, 8-31 how many numbers the call settled
 abbrev pub said_word : Stepped → ℕ

@@ -1,5 +1,4 @@
 // One line of the desk, answered on a lent slip.
-ghost use Rattle.std.specs.Prelude.{◌≡◌, length};
 ghost use Rattle.sledgewren.specs.Words.{WroteSlip, line_answer};
 
 use adjudication::answer_line;
@@ -8,17 +7,6 @@ const SLIP_BYTES: usize = 16;
 
 // The answer where another length is lent.
 const NO_SLIP: u32 = 65535;
-
-fn write_slip(bytes: [u8; 16], slip: &mut [u8])
-    requires { length slip.old ≡ 16 }
-    ensures { slip.new ≡ bytes }
-{
-    let mut i: usize = 0;
-    while i < 16 {
-        slip[i] = bytes[i];
-        i += 1;
-    }
-}
 
 // `held` is the man whose table the lent table is. With another slip than 16 bytes nothing is written.
 pub fn sledgewren_answer_line(held: u8, line: &[u8], table: &mut [u8], slip: &mut [u8]) -> u32
@@ -30,6 +18,6 @@ pub fn sledgewren_answer_line(held: u8, line: &[u8], table: &mut [u8], slip: &mu
     let reply = answer_line(line, held, &mut *table);
     let written = reply.slip;
     let bytes = written.bytes;
-    write_slip(bytes, &mut *slip);
+    slip.copy_from_slice(&bytes);
     written.len as u32 + reply.held as u32 * 0x100
 }

@@ -7,14 +7,14 @@ ghost use Rattle.sledgewren.specs.OpinionWord.{opinion_word};
 use given_words::position_read;
 use search::{Opinion, second_opinion};
 
-fn opinion_word(o: Opinion) -> u32
+fn opinion_word(o: Result<Opinion, u8>) -> u32
     ensures { result ≡ opinion_word o }
 {
     match o {
-        Opinion::Win(n) => 0x100 + n as u32 * 0x1_0000,
-        Opinion::Loss(n) => 0x200 + n as u32 * 0x1_0000,
-        Opinion::NotWithin => 0x400,
-        Opinion::Refused(k) => k as u32,
+        Ok(Opinion::Win(n)) => 0x100 + n as u32 * 0x1_0000,
+        Ok(Opinion::Loss(n)) => 0x200 + n as u32 * 0x1_0000,
+        Ok(Opinion::NotWithin) => 0x400,
+        Err(k) => k as u32,
     }
 }
 

@@ -4,7 +4,7 @@ ghost use Rattle.sets.specs.Answers.{write_of, start_of, fill_in_of, find_of};
 ghost use Rattle.sledgewren.specs.Words.{filled_word};
 ghost use Rattle.sledgewren.specs.SetWords.{choice_by, set_written_word, found_word};
 
-use sets::{Choice, Found, Written};
+use sets::Choice;
 use table_set::{fill_ending, find, start, write};
 use words::filled_word;
 
@@ -19,21 +19,21 @@ fn choice_by(queen: u8, rook: u8, bishop: u8, knight: u8) -> Choice
     }
 }
 
-fn written_word(w: Written) -> u32
+fn written_word(w: Result<(), u8>) -> u32
     ensures { result ≡ set_written_word w }
 {
     match w {
-        Written::Done => 0,
-        Written::Refused(k) => k as u32,
+        Ok(()) => 0,
+        Err(k) => k as u32,
     }
 }
 
-fn found_word(f: Found) -> u64
+fn found_word(f: Result<u32, u8>) -> u64
     ensures { result ≡ found_word f }
 {
     match f {
-        Found::At(offset) => 59136 * 0x100 + offset as u64 * 0x1_0000_0000,
-        Found::Refused(k) => k as u64,
+        Ok(offset) => 59136 * 0x100 + offset as u64 * 0x1_0000_0000,
+        Err(k) => k as u64,
     }
 }
 

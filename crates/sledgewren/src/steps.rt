@@ -5,7 +5,6 @@ ghost use Rattle.filling.specs.Steps.{settled_of};
 ghost use Rattle.given_words.specs.Endings.{material_read};
 ghost use Rattle.sledgewren.specs.StepWord.{progress_of, progress_word, end_word, said_word, step_word, start_for, step_for};
 
-use answers::Filled;
 use filling::{Step, Stepped, start_with, step_with};
 use given_words::material_read;
 use table_theory::Progress;
@@ -13,26 +12,29 @@ use table_theory::Progress;
 fn progress_of(word: u32) -> Progress
     ensures { result ≡ progress_of word }
 {
+    let [stage, low, high, last] = word.to_le_bytes();
     Progress {
-        stage: (word % 0x100) as u8,
-        next: (word / 0x100 % 0x1_0000) as u16,
-        last: (word / 0x100_0000) as u8,
+        stage,
+        next: u16::from_le_bytes([low, high]),
+        last,
     }
 }
 
-fn progress_word(p: Progress) -> u64
-    ensures { (result ≡ progress_word p) × (result < 2 ^ 32) }
+fn progress_word(p: Progress) -> u32
+    ensures { result ≡ progress_word p }
 {
-    p.stage as u64 + p.next as u64 * 0x100 + p.last as u64 * 0x100_0000
+    let next = p.next;
+    let [low, high] = next.to_le_bytes();
+    u32::from_le_bytes([p.stage, low, high, p.last])
 }
 
-fn end_word(f: Filled) -> u64
+fn end_word(f: Result<Option<u8>, u8>) -> u64
     ensures { (result ≡ end_word f) × (result < 2 ^ 8) }
 {
     match f {
-        Filled::Refused(k) => k as u64,
-        Filled::Greatest(_) => 0,
-        Filled::NoneDecided => 0,
+        Err(k) => k as u64,
+        Ok(Some(_)) => 0,
+        Ok(None) => 0,
     }
 }
 
@@ -52,7 +54,7 @@ fn step_word(s: Step) -> u64
 {
     let said = s.said;
     let progress = s.progress;
-    said_word(said) + progress_word(progress) * 0x1_0000_0000
+    said_word(said) + u64::from(progress_word(progress)) * 0x1_0000_0000
 }
 
 // Refusals 1 and 7 leave the table as it was.

@@ -1,11 +1,10 @@
 -- The bytes of an answer's slip (01, "The desk program"). Definitions only.
-use Rattle.std.specs.Prelude.{Bool, cond, List, [], ◌∷◌, ◌++◌, ℕ, ◌+◌, ◌-◌, ◌/◌, ◌%◌, ltb, eqb, length, replicate}
+use Rattle.position.specs.declared.Position.{Position}
+use Rattle.rules.specs.declared.Move.{Move}
+use Rattle.std.specs.Prelude.{Bool, cond, List, [], ◌∷◌, ◌++◌, ℕ, ◌+◌, ◌-◌, ◌/◌, ◌%◌, ltb, eqb, length, replicate, Err, None, Ok, Option, Result, Some}
 use Prim.Native.Char.{code}
 use Rattle.ascii.specs.Bytes.{bytes}
 use Rattle.position.specs.Keyed.{man_square}
-use Rattle.index.specs.declared.Placed.{Placed}
-use Rattle.answers.specs.declared.BestMove.{BestMove}
-use Rattle.answers.specs.declared.BestMove.TheVariants.{Play, NoMove}
 use Rattle.answers.specs.declared.Answer.{Answer}
 use Rattle.slips.specs.declared.Slip.{Slip}
 
@@ -40,31 +39,31 @@ unfoldable pub mark_text : Bool → List ℕ
 mark_text takes = cond takes (bytes "x") []
 
 -- an answer's move, from-square, mark and to-square, after a space; nothing where there is none
-unfoldable pub advice_text : BestMove → List ℕ
-advice_text (Play m) = gapped m.from ++ mark_text m.takes ++ square_name m.to
-advice_text NoMove = []
+unfoldable pub advice_text : Option Move → List ℕ
+advice_text (Some m) = gapped m.from ++ mark_text m.takes ++ square_name m.to
+advice_text None = []
 
 -- `win 1 h2a2`, `loss 0`, `draw`, `draw a1xb2`, `refused 6`
-unfoldable pub answer_text : Answer → List ℕ
-answer_text (Answer.Win n a) = word_and_number (bytes "win ") n ++ advice_text a
-answer_text (Answer.Loss n a) = word_and_number (bytes "loss ") n ++ advice_text a
-answer_text (Answer.Draw a) = bytes "draw" ++ advice_text a
-answer_text (Answer.Refused n) = word_and_number (bytes "refused ") n
+unfoldable pub answer_text : Result Answer ℕ → List ℕ
+answer_text (Ok (Answer.Win n a)) = word_and_number (bytes "win ") n ++ advice_text a
+answer_text (Ok (Answer.Loss n a)) = word_and_number (bytes "loss ") n ++ advice_text a
+answer_text (Ok (Answer.Draw a)) = bytes "draw" ++ advice_text a
+answer_text (Err n) = word_and_number (bytes "refused ") n
 
 -- `w a1 b1 h8`: side, white king, man's square, black king
-unfoldable pub placed_text : Placed → List ℕ
-placed_text (Placed.At p) = side_letter p.side ∷ gapped p.white_king ++ gapped (man_square p) ++ gapped p.black_king
-placed_text (Placed.Refused n) = word_and_number (bytes "refused ") n
+unfoldable pub placed_text : Result Position ℕ → List ℕ
+placed_text (Ok p) = side_letter p.side ∷ gapped p.white_king ++ gapped (man_square p) ++ gapped p.black_king
+placed_text (Err n) = word_and_number (bytes "refused ") n
 
 -- "a newline ends the line"
 abbrev pub with_newline : List ℕ → List ℕ
 with_newline text = text ++ bytes "\n"
 
 -- the slip of look-up's answer, of numbering back's, and of a refusal
-unfoldable pub slip_of : Answer → List ℕ
+unfoldable pub slip_of : Result Answer ℕ → List ℕ
 slip_of a = with_newline (answer_text a)
 
-unfoldable pub placed_slip : Placed → List ℕ
+unfoldable pub placed_slip : Result Position ℕ → List ℕ
 placed_slip p = with_newline (placed_text p)
 
 unfoldable pub refused_slip : ℕ → List ℕ

@@ -3,13 +3,13 @@
 
 mod writing;
 
-ghost use Rattle.std.specs.Prelude.{◌≡◌, []};
+ghost use Rattle.std.specs.Prelude.{◌≡◌, [], Ok};
 ghost use Rattle.slips.specs.Slip.{word_and_number, mark_text, advice_text, side_letter, gapped, padded, slip_of, placed_slip, refused_slip};
 ghost use Rattle.slips.specs.Appending.{appended};
 
-use answers::{Answer, BestMove};
-use index::Placed;
+use answers::Answer;
 use position::{Position, man_in};
+use rules::Move;
 use writing::{blank, with_byte, with_number, with_square, with_text};
 
 // The line is the first `len` bytes; the rest are zero.
@@ -19,31 +19,40 @@ pub struct Slip {
     pub len: u8,
 }
 
-// The slip of look-up's answer.
-pub fn answer_slip(a: Answer) -> Slip
-    ensures { result ≡ padded (slip_of a) }
+// The slip of a value and its move.
+fn value_slip(a: Answer) -> Slip
+    ensures { result ≡ padded (slip_of (Ok a)) }
 {
     match a {
         Answer::Win(n, advice) => with_byte(with_advice(number_slip(b"win ", n), advice), b'\n'),
         Answer::Loss(n, advice) => with_byte(with_advice(number_slip(b"loss ", n), advice), b'\n'),
         Answer::Draw(advice) => with_byte(with_advice(with_text(blank(), b"draw"), advice), b'\n'),
-        Answer::Refused(n) => refused_slip(n),
+    }
+}
+
+// The slip of look-up's answer.
+pub fn answer_slip(a: Result<Answer, u8>) -> Slip
+    ensures { result ≡ padded (slip_of a) }
+{
+    match a {
+        Ok(value) => value_slip(value),
+        Err(n) => refused_slip(n),
     }
 }
 
 // The slip of numbering back's answer.
-pub fn placed_slip(p: Placed) -> Slip
+pub fn placed_slip(p: Result<Position, u8>) -> Slip
     ensures { result ≡ padded (placed_slip p) }
 {
     match p {
-        Placed::At(at) => position_slip(at),
-        Placed::Refused(n) => refused_slip(n),
+        Ok(at) => position_slip(at),
+        Err(n) => refused_slip(n),
     }
 }
 
 // The slip of a number's position.
 fn position_slip(p: Position) -> Slip
-    ensures { result ≡ padded (placed_slip (Placed.At p)) }
+    ensures { result ≡ padded (placed_slip (Ok p)) }
 {
     let side = with_byte(blank(), side_letter(p.side));
     let first = p.first;
@@ -68,16 +77,17 @@ fn number_slip(word: &[u8], n: u8) -> Slip
 }
 
 // A space and the move, or nothing.
-fn with_advice(s: Slip, a: BestMove) -> Slip
+fn with_advice(s: Slip, a: Option<Move>) -> Slip
     ensures { result ≡ appended s (advice_text a) }
 {
     match a {
-        BestMove::Play(m) => with_square(with_mark(with_gap(s, m.from), m.takes), m.to),
-        BestMove::NoMove => s,
+        Some(m) => with_square(with_mark(with_gap(s, m.from), m.takes), m.to),
+        None => s,
     }
 }
 
 // An `x` where a move takes.
+#[tactic(auto, unfolding(crate::specs::Slip::mark_text, crate::specs::Appending::appended))]
 fn with_mark(s: Slip, takes: bool) -> Slip
     ensures { result ≡ appended s (mark_text takes) }
 {
@@ -85,6 +95,7 @@ fn with_mark(s: Slip, takes: bool) -> Slip
 }
 
 // A space and a square.
+#[tactic(auto, unfolding(crate::specs::Slip::gapped, crate::specs::Appending::appended))]
 fn with_gap(s: Slip, square: u8) -> Slip
     ensures { result ≡ appended s (gapped square) }
 {
@@ -92,6 +103,7 @@ fn with_gap(s: Slip, square: u8) -> Slip
 }
 
 // White is 0, and any other side Black.
+#[tactic(auto, unfolding(crate::specs::Slip::side_letter))]
 fn side_letter(side: u8) -> u8
     ensures { result ≡ side_letter side }
 {

@@ -5,6 +5,7 @@ ghost use Rattle.slips.specs.Appending.{pushed, appended};
 
 use crate::Slip;
 
+#[tactic(auto, unfolding(crate::specs::Slip::padded))]
 pub fn blank() -> Slip
     ensures { result ≡ padded [] }
 {
@@ -14,16 +15,15 @@ pub fn blank() -> Slip
     }
 }
 
+#[tactic(auto, unfolding(crate::specs::Appending::pushed))]
 pub fn with_byte(s: Slip, byte: u8) -> Slip
     ensures { result ≡ pushed s byte }
 {
-    let at = s.len;
-    if 16 <= at {
-        return s;
-    }
     let mut next = s;
-    next.bytes[at as usize] = byte;
-    next.len = at + 1;
+    if s.len < 16 {
+        next.bytes[usize::from(s.len)] = byte;
+        next.len += 1;
+    }
     next
 }
 
@@ -31,10 +31,8 @@ pub fn with_text(s: Slip, text: &[u8]) -> Slip
     ensures { result ≡ appended s text.now }
 {
     let mut out = s;
-    let mut i = 0;
-    while i < text.len() {
-        out = with_byte(out, text[i]);
-        i += 1;
+    for byte in text {
+        out = with_byte(out, *byte);
     }
     out
 }
@@ -47,6 +45,7 @@ fn digit(n: u8) -> u8
 }
 
 // A number in decimal.
+#[tactic(auto, unfolding(crate::specs::Slip::decimal, crate::specs::Appending::appended))]
 pub fn with_number(s: Slip, n: u8) -> Slip
     ensures { result ≡ appended s (decimal n) }
 {
@@ -63,6 +62,7 @@ pub fn with_number(s: Slip, n: u8) -> Slip
 }
 
 // A square's file and rank.
+#[tactic(auto, unfolding(crate::specs::Slip::square_name, crate::specs::Appending::appended))]
 pub fn with_square(s: Slip, square: u8) -> Slip
     ensures { result ≡ appended s (square_name square) }
 {

@@ -34,30 +34,27 @@ pub fn start() -> State
 pub fn flushed(state: State) -> State
     ensures { result ≡ emptied state }
 {
-    let line = state.line;
     State {
-        line,
-        len: state.len,
-        held: state.held,
         waiting: 0,
+        ..state
     }
 }
 
 // The state with one byte more of its line.
+#[tactic(auto, unfolding(crate::specs::Keeping::with_byte))]
 fn with_byte(state: State, b: u8) -> State
     ensures { result ≡ with_byte state b }
 {
-    let at = state.len;
-    if at >= 13 {
-        return state;
-    }
     let mut next = state;
-    next.line[at as usize] = b;
-    next.len = at + 1;
+    if state.len < 13 {
+        next.line[usize::from(state.len)] = b;
+        next.len += 1;
+    }
     next
 }
 
 // Writes a byte after what waits, and answers how much waits then. A full output stays as it is.
+#[tactic(auto, unfolding(crate::specs::Keeping::put))]
 fn write_byte(b: u8, waiting: usize, output: &mut [u8]) -> usize
     ensures { sheet output.new result ≡ put (sheet output.old waiting) b }
 {
@@ -73,35 +70,18 @@ fn write_text(text: &[u8], waiting: usize, output: &mut [u8]) -> usize
     ensures { sheet output.new result ≡ put_all (sheet output.old waiting) text.now }
 {
     let mut end = waiting;
-    let mut i = 0;
-    while i < text.len() {
-        end = write_byte(text[i], end, &mut *output);
-        i += 1;
+    for byte in text {
+        end = write_byte(*byte, end, &mut *output);
     }
     end
 }
 
-// Writes a slip after what waits.
-fn append(slip: Slip, waiting: usize, output: &mut [u8]) -> usize
-    ensures { sheet output.new result ≡ put_all (sheet output.old waiting) (take slip.len slip.bytes) }
+// The first `len` bytes, or all where there are fewer.
+fn first(bytes: &[u8], len: u8) -> &[u8]
+    ensures { result.now ≡ take len bytes.now }
 {
-    let bytes = slip.bytes;
-    let end = slip.len as usize;
-    if end > 16 {
-        return write_text(&bytes, waiting, &mut *output);
-    }
-    write_text(&bytes[..end], waiting, &mut *output)
-}
-
-// The reply to the line of which the first `len` bytes are kept.
-fn reply_to(line: &[u8], len: u8, held: u8, table: &mut [u8]) -> Reply
-    ensures { LinePromise (take len line.now) held table.old result table.new }
-{
-    let end = len as usize;
-    if end > line.len() {
-        return answer_line(line, held, &mut *table);
-    }
-    answer_line(&line[..end], held, &mut *table)
+    let end = bytes.len().min(usize::from(len));
+    &bytes[..end]
 }
 
 // Answers the line that ends here.
@@ -109,16 +89,20 @@ fn end_line(state: State, table: &mut [u8], output: &mut [u8]) -> State
     ensures { kept result table.new output.new ≡ line_answered (kept state table.old output.old) }
 {
     let line = state.line;
-    let reply = reply_to(&line, state.len, state.held, &mut *table);
-    let waiting = append(reply.slip, state.waiting, &mut *output);
-    let mut next = state;
-    next.len = 0;
-    next.held = reply.held;
-    next.waiting = waiting;
-    next
+    let reply = answer_line(first(&line, state.len), state.held, &mut *table);
+    let slip = reply.slip;
+    let bytes = slip.bytes;
+    let waiting = write_text(first(&bytes, slip.len), state.waiting, &mut *output);
+    State {
+        len: 0,
+        held: reply.held,
+        waiting,
+        ..state
+    }
 }
 
 // Takes one byte.
+#[tactic(auto, unfolding(crate::specs::Keeping::byte_taken))]
 fn take_byte(b: u8, state: State, table: &mut [u8], output: &mut [u8]) -> State
     ensures { kept result table.new output.new ≡ byte_taken (kept state table.old output.old) b }
 {
@@ -133,15 +117,14 @@ pub fn take_all(input: &[u8], start: State, table: &mut [u8], output: &mut [u8])
     ensures { kept result table.new output.new ≡ all_taken (kept start table.old output.old) input.now }
 {
     let mut state = start;
-    let mut i = 0;
-    while i < input.len() {
-        state = take_byte(input[i], state, &mut *table, &mut *output);
-        i += 1;
+    for byte in input {
+        state = take_byte(*byte, state, &mut *table, &mut *output);
     }
     state
 }
 
 // Answers the last line where it lacks its newline.
+#[tactic(auto, unfolding(crate::specs::Keeping::last_answered))]
 pub fn close(state: State, table: &mut [u8], output: &mut [u8]) -> State
     ensures { kept result table.new output.new ≡ last_answered (kept state table.old output.old) }
 {

@@ -1,7 +1,7 @@
 -- The byte of a board through an ending's table and the lent ones, and a byte compared with those of a board's
 -- successors, for one man and for two. Definitions only.
-use Rattle.std.specs.Prelude.{◌≡◌, Bool, true, false, cond, not, ◌&&◌, ◌||◌, List, ℕ, ◌≤◌, ◌<◌, T, eqb, leb, ltb}
-use Rattle.std.proofs.Math.Option.{Option}
+use Rattle.std.specs.Prelude.{◌≡◌, Bool, true, false, cond, not, ◌&&◌, ◌||◌, List, ℕ, ◌≤◌, ◌<◌, T, eqb, leb, ltb, Option, Some, None}
+use Rattle.std.proofs.Math.Option as maybe
 use Rattle.std.specs.Int.Bits.{bit_or}
 use Rattle.finite.specs.Members.{any, first}
 use Rattle.theory.specs.Required.{required_at}
@@ -18,12 +18,8 @@ use Rattle.position.specs.declared.Men.{Men}
 use Rattle.position.specs.declared.Place.{Place}
 use Rattle.position.specs.Posed.{board_in, material_for, Complete}
 use Rattle.movegen.specs.declared.Reach.{Reach}
-use Rattle.answers.specs.declared.BestMove.{BestMove}
 use Rattle.endings.specs.Answers.{advice_of}
 use Rattle.four_men.specs.Reading.{legal_number_of, numbered}
-use Rattle.successors.specs.declared.Standing.{Standing}
-use Rattle.successors.specs.declared.Sifted.{Sifted}
-use Rattle.successors.specs.declared.Judged.{Judged}
 use Rattle.successors.specs.declared.Seen.{Seen}
 use Rattle.successors.specs.declared.Verdict.{Verdict}
 use Rattle.successors.specs.declared.Weighed.{Weighed}
@@ -61,28 +57,28 @@ pub record Reaches (m : Men) (q : Place) (r : Reach) : Type 0 where
 -- ---- a byte compared with successors' bytes
 
 -- moves from a square to the targets that pass a test: those whose bytes suit byte c, unless one refutes it
-unfoldable pub sifted_by : (Board → ℕ) → ℕ → Board → ℕ → (ℕ → Bool) → Sifted
+unfoldable pub sifted_by : (Board → ℕ) → ℕ → Board → ℕ → (ℕ → Bool) → Option ℕ
 sifted_by byte c b from goes =
-    cond (any (λ t. refutes c (byte (moved b from t))) (members (set_of goes))) Sifted.Refuted
-    (Sifted.Suited (set_of (λ t. goes t && suits c (byte (moved b from t)))))
+    cond (any (λ t. refutes c (byte (moved b from t))) (members (set_of goes))) None
+    (Some (set_of (λ t. goes t && suits c (byte (moved b from t)))))
 
 -- all the legal ones
-abbrev pub sifted_from : (Board → ℕ) → ℕ → Board → ℕ → Sifted
+abbrev pub sifted_from : (Board → ℕ) → ℕ → Board → ℕ → Option ℕ
 sifted_from byte c b from = sifted_by byte c b from (can_move b from)
 
 -- what other moves of the piece tell, beside the targets already found
-abbrev pub alongside : ℕ → Sifted → Sifted
-alongside found Sifted.Refuted = Sifted.Refuted
-alongside found (Sifted.Suited more) = Sifted.Suited (bit_or found more)
+abbrev pub alongside : ℕ → Option ℕ → Option ℕ
+alongside found None = None
+alongside found (Some more) = Some (bit_or found more)
 
 -- those of three pieces together
-abbrev pub joined : Sifted → Sifted → Sifted → Judged
-joined Sifted.Refuted y z = Judged.Refuted
-joined (Sifted.Suited a) Sifted.Refuted z = Judged.Refuted
-joined (Sifted.Suited a) (Sifted.Suited b) Sifted.Refuted = Judged.Refuted
-joined (Sifted.Suited a) (Sifted.Suited b) (Sifted.Suited c) = Judged.Found (record { king = a; first = b; second = c })
+abbrev pub joined : Option ℕ → Option ℕ → Option ℕ → Option Reach
+joined None y z = None
+joined (Some a) None z = None
+joined (Some a) (Some b) None = None
+joined (Some a) (Some b) (Some c) = Some (record { king = a; first = b; second = c })
 
-unfoldable pub judged_from : (Board → ℕ) → ℕ → Board → ℕ → ℕ → ℕ → Judged
+unfoldable pub judged_from : (Board → ℕ) → ℕ → Board → ℕ → ℕ → ℕ → Option Reach
 judged_from byte c b king first second =
     joined (sifted_from byte c b king) (sifted_from byte c b first) (sifted_from byte c b second)
 
@@ -99,7 +95,7 @@ seen_in king first second sets =
     earlier (earlier (seen_from king sets.king) (seen_from first sets.first)) (seen_from second sets.second)
 
 -- the first move to a byte that suits byte c
-unfoldable pub suited_from : (Board → ℕ) → ℕ → Board → Option Move
+unfoldable pub suited_from : (Board → ℕ) → ℕ → Board → maybe.Option Move
 suited_from byte c b = first (λ m. suits c (byte (played b m))) (moves b)
 
 -- ---- the verdict
@@ -115,7 +111,7 @@ no_targets r = eqb r.king 0 && (eqb r.first 0 && eqb r.second 0)
 
 -- with no move left the byte is 2 in check, which is mate, and 1 otherwise, which is stalemate
 unfoldable pub end_verdict : ℕ → Board → Verdict
-end_verdict c b = cond (eqb c (cond (in_check b b.side) 2 1)) (Verdict.Right BestMove.NoMove) Verdict.Wrong
+end_verdict c b = cond (eqb c (cond (in_check b b.side) 2 1)) (Verdict.Right None) Verdict.Wrong
 
 unfoldable pub over_of : ℕ → Reach → Board → Verdict
 over_of c r b = cond (no_targets r) (end_verdict c b) Verdict.Wrong
@@ -125,7 +121,7 @@ over_of c r b = cond (no_targets r) (end_verdict c b) Verdict.Wrong
 -- no byte suits, and what the pieces' targets are
 pub record NoneSuits (m : Men) (q : Place) (byte : Board → ℕ) (c : ℕ) (stuck : Bool) : Type 0 where
   pub sets : Reach
-  pub found : judged_from byte c (board_in m q) (king_at q) q.first q.second ≡ Judged.Found sets
+  pub found : judged_from byte c (board_in m q) (king_at q) q.first q.second ≡ Some sets
   pub unseen : 64 ≤ (seen_in (king_at q) q.first q.second sets).from
   pub reach : Reach
   pub reaches : Reaches m q reach
@@ -134,20 +130,20 @@ pub record NoneSuits (m : Men) (q : Place) (byte : Board → ℕ) (c : ℕ) (stu
 -- the first of the moves whose bytes suit
 pub record OneSuits (m : Men) (q : Place) (byte : Board → ℕ) (c : ℕ) (s : Seen) : Type 0 where
   pub sets : Reach
-  pub found : judged_from byte c (board_in m q) (king_at q) q.first q.second ≡ Judged.Found sets
+  pub found : judged_from byte c (board_in m q) (king_at q) q.first q.second ≡ Some sets
   pub seen : s ≡ seen_in (king_at q) q.first q.second sets
   pub on : s.from < 64
 
 abbrev pub Weighs : Men → Place → (Board → ℕ) → ℕ → Weighed → Type 0
 Weighs m q byte c Weighed.Refuted =
-    judged_from byte c (board_in m q) (king_at q) q.first q.second ≡ Judged.Refuted
+    judged_from byte c (board_in m q) (king_at q) q.first q.second ≡ None
 Weighs m q byte c Weighed.Unmet = NoneSuits m q byte c false
 Weighs m q byte c Weighed.Stuck = NoneSuits m q byte c true
 Weighs m q byte c (Weighed.Met s) = OneSuits m q byte c s
 
 -- ---- what stands at a number
 
-abbrev pub StandingAt : Men → ℕ → Standing → Type 0
-StandingAt m n Standing.Nothing = legal_number_of (material_for m) n ≡ false
-StandingAt m n (Standing.Legal q) =
+abbrev pub StandingAt : Men → ℕ → Option Place → Type 0
+StandingAt m n None = legal_number_of (material_for m) n ≡ false
+StandingAt m n (Some q) =
     (legal_number_of (material_for m) n ≡ true) × Complete m q × (board_in m q ≡ board_at (men_of (material_for m)) n)

@@ -5,30 +5,20 @@ ghost use Rattle.position.specs.Posed.{board_in, Complete};
 ghost use Rattle.successors.specs.Successors.{bytes_in, sifted_by, king_at};
 ghost use Rattle.successors.specs.Quiet.{quiet_to};
 
-use super::Sifted;
 use super::after::read_at;
-use super::sifting::with_suited;
-use board::{lowest, without};
-use byte_rule::{refutes, suits};
+use super::sifting::sift;
 use index::{still_king, still_number};
 use position::{Men, Place, other};
 
 // The moves of the king of the side to move that take no man.
-pub fn sift_king(m: Men, q: Place, targets: u64, byte: u16, table: &[u8]) -> Sifted
+pub fn sift_king(m: Men, q: Place, targets: u64, byte: u16, table: &[u8]) -> Option<u64>
     ensures { Complete m q → targets ≡ set_of (quiet_to m q (king_at q)) → (first second : List ℕ) → result ≡ sifted_by (bytes_in m first second table.now) byte (board_in m q) (king_at q) (quiet_to m q (king_at q)) }
 {
     let side = other(q.side);
     let others = still_king(m, q.side, q.white, q.black, q.first, q.second);
-    let mut found: u64 = 0;
-    let mut rest = targets;
-    while rest != 0 {
-        let to = lowest(rest);
-        let c = read_at(table, still_number(others, side, to));
-        if refutes(byte, c) {
-            return Sifted::Refuted;
-        }
-        found = with_suited(found, suits(byte, c), to);
-        rest = without(rest, to);
-    }
-    Sifted::Suited(found)
+    sift(
+        targets,
+        byte,
+        |to| read_at(table, still_number(others, side, to)),
+    )
 }

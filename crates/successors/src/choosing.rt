@@ -4,7 +4,7 @@ ghost use Rattle.rules.specs.Rules.{Board, taking};
 ghost use Rattle.position.specs.Posed.{board_in};
 ghost use Rattle.successors.specs.Successors.{judged_from, seen_from, earlier as earlier_of, seen_in, no_targets, king_at, Reaches, Weighs};
 
-use super::{Judged, Seen, Weighed};
+use super::{Seen, Weighed};
 use board::lowest;
 use movegen::{Reach, king_at};
 use position::{Men, Place, other};
@@ -46,22 +46,20 @@ fn is_empty(sets: Reach) -> bool
 }
 
 // What is told of a byte that was compared with all successors.
-pub fn weighed_by(q: Place, reach: Reach, judged: Judged) -> Weighed
+pub fn weighed_by(q: Place, reach: Reach, judged: Option<Reach>) -> Weighed
     ensures { (m : Men) (bytes : Board → ℕ) (byte : ℕ) → Reaches m q reach → judged ≡ judged_from bytes byte (board_in m q) (king_at q) q.first q.second → Weighs m q bytes byte result }
 {
-    match judged {
-        Judged::Refuted => Weighed::Refuted,
-        Judged::Found(sets) => {
-            let seen = seen_in(q, sets);
-            if seen.from < 64 {
-                return Weighed::Met(seen);
-            }
-            if is_empty(reach) {
-                return Weighed::Stuck;
-            }
-            Weighed::Unmet
-        },
+    let Some(sets) = judged else {
+        return Weighed::Refuted;
+    };
+    let seen = seen_in(q, sets);
+    if seen.from < 64 {
+        return Weighed::Met(seen);
     }
+    if is_empty(reach) {
+        return Weighed::Stuck;
+    }
+    Weighed::Unmet
 }
 
 // Whether a piece of the other side stands on the target.

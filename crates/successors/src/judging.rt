@@ -4,7 +4,6 @@ ghost use Rattle.position.specs.Posed.{board_in, Complete};
 ghost use Rattle.successors.specs.Successors.{bytes_in, Reaches, judged_from, king_at};
 
 use super::quiet::{men_squares, sift_moves, sift_steps};
-use super::{Judged, Sifted};
 use movegen::Reach;
 use position::{Men, Place};
 
@@ -17,24 +16,18 @@ pub fn judge(
     table: &[u8],
     first: &[u8],
     second: &[u8],
-) -> Judged
+) -> Option<Reach>
     ensures { Complete m q → Reaches m q reach → result ≡ judged_from (bytes_in m first.now second.now table.now) byte (board_in m q) (king_at q) q.first q.second }
 {
     let men = men_squares(q);
-    let by_king = sift_steps(men, m, q, reach.king, byte, table, first, second);
-    let Sifted::Suited(a) = by_king else {
-        return Judged::Refuted;
-    };
+    let king = sift_steps(men, m, q, reach.king, byte, table, first, second)?;
     let by_first = if reach.first == 0 {
-        Sifted::Suited(0)
+        0
     } else {
-        sift_moves(men, m, q, q.first, reach.first, byte, table, first, second)
-    };
-    let Sifted::Suited(b) = by_first else {
-        return Judged::Refuted;
+        sift_moves(men, m, q, q.first, reach.first, byte, table, first, second)?
     };
     let by_second = if reach.second == 0 {
-        Sifted::Suited(0)
+        0
     } else {
         sift_moves(
             men,
@@ -46,14 +39,11 @@ pub fn judge(
             table,
             first,
             second,
-        )
+        )?
     };
-    let Sifted::Suited(c) = by_second else {
-        return Judged::Refuted;
-    };
-    Judged::Found(Reach {
-        king: a,
-        first: b,
-        second: c,
+    Some(Reach {
+        king,
+        first: by_first,
+        second: by_second,
     })
 }

@@ -2,8 +2,6 @@
 // required, and the move that it advises.
 #![tactic(auto)]
 
-use answers::BestMove;
-use movegen::Reach;
 use position::Place;
 
 mod after;
@@ -15,7 +13,6 @@ mod framing;
 mod judging;
 mod lone;
 mod lone_reach;
-mod lone_sifting;
 mod numbers;
 mod quiet;
 mod sifting;
@@ -25,28 +22,8 @@ pub use after::{byte_at, byte_made};
 pub use bases::{base_of_first, base_of_one, base_of_second, spot};
 pub use framing::frame_for;
 pub use numbers::{is_legal_number, legal_at};
+use rules::Move;
 pub use verdicts::{requires_byte, requires_depth, verdict_on};
-
-// What stands at a number: a legal position, or nothing that is one.
-#[derive(Clone, Copy)]
-pub enum Standing {
-    Legal(Place),
-    Nothing,
-}
-
-// A byte compared with the successors by one piece's moves: one refutes it, or the targets whose bytes suit.
-#[derive(Clone, Copy)]
-pub enum Sifted {
-    Refuted,
-    Suited(u64),
-}
-
-// A byte compared with all successors: one refutes it, or the suiting targets of each piece.
-#[derive(Clone, Copy)]
-pub enum Judged {
-    Refuted,
-    Found(Reach),
-}
 
 // What the kings and the side to move fix of a number, whatever squares the men stand on.
 #[derive(Clone, Copy)]
@@ -80,5 +57,5 @@ pub enum Weighed {
 #[derive(Clone, Copy)]
 pub enum Verdict {
     Wrong,
-    Right(BestMove),
+    Right(Option<Move>),
 }

@@ -1,8 +1,8 @@
 // A byte weighed against all successors where there is one man, White's, as in most look-ups: nothing asks for a second man, White takes nobody, and
 // Black may take only the one. The promise is that of `weigh`.
-ghost use Rattle.std.specs.Prelude.{◌≡◌, List, ℕ, ◌+◌, ◌*◌, ◌^◌, ◌≤◌, ◌<◌};
+ghost use Rattle.std.specs.Prelude.{◌≡◌, Bool, List, ℕ, ◌+◌, ◌*◌, ◌^◌, ◌≤◌, ◌<◌, T};
 ghost use Rattle.board.specs.Sets.{set_of};
-ghost use Rattle.rules.specs.Rules.{can_move};
+ghost use Rattle.rules.specs.Rules.{Board, moved, can_move};
 ghost use Rattle.numbering.specs.Kings.{pair_of};
 ghost use Rattle.position.specs.Posed.{board_in, Complete};
 ghost use Rattle.index.specs.Moving.{at_home};
@@ -10,15 +10,16 @@ ghost use Rattle.successors.specs.Successors.{bytes_in, sifted_by, sifted_from, 
 ghost use Rattle.successors.specs.Quiet.{quiet_to};
 ghost use Rattle.successors.specs.Lone.{settled};
 
+use super::Weighed;
+use super::after::{read, read_at};
 use super::choosing::weighed_by;
 use super::lone_reach::{black_reach, white_reach};
-use super::lone_sifting::{sift_bare, sift_black, sift_pairs, sift_row, sift_white};
-use super::quiet::found_alongside;
-use super::sifting::sift_each;
-use super::{Judged, Sifted, Weighed};
+use super::sifting::{sift, sift_each};
 use board::{minus, one};
+use byte_rule::{refutes, suits};
+use index::number_alone;
 use movegen::Reach;
-use pairs::{first_of, pair_by_row, partners_of};
+use pairs::{count_before, first_of, pair_by_row, partners_of};
 use position::{Men, Place};
 
 // Whether the white king stands in the triangle a1-d1-d4 and off its diagonal.
@@ -53,13 +54,23 @@ fn sift_lone(
     table: &[u8],
     first: &[u8],
     second: &[u8],
-) -> Sifted
+) -> Option<u64>
     ensures { Complete m q → 4 ≤ m.second → q.side ≡ 0 → targets ≡ set_of (can_move (board_in m q) q.first) → result ≡ sifted_from (bytes_in m first.now second.now table.now) byte (board_in m q) q.first }
 {
     if is_settled(q.white, q.black) {
-        return sift_row(base_of(q.white, q.black), targets, byte, table);
+        let base = base_of(q.white, q.black);
+        return sift(targets, byte, |to| read_at(table, base + to as usize));
     }
     sift_each(m, q, q.first, targets, byte, table, first, second)
+}
+
+// The steps of White's king.
+fn sift_white(q: Place, targets: u64, byte: u16, table: &[u8]) -> Option<u64>
+    ensures { (m : Men) → Complete m q → 4 ≤ m.second → q.side ≡ 0 → targets ≡ set_of (can_move (board_in m q) (king_at q)) → (first second : List ℕ) → result ≡ sifted_from (bytes_in m first second table.now) byte (board_in m q) (king_at q) }
+{
+    sift(targets, byte, |to| {
+        read(table, number_alone(0, 1, to, q.black, q.first))
+    })
 }
 
 // White to move.
@@ -71,58 +82,67 @@ fn judge_white(
     table: &[u8],
     first: &[u8],
     second: &[u8],
-) -> Judged
+) -> Option<Reach>
     ensures { Complete m q → 4 ≤ m.second → q.side ≡ 0 → Reaches m q reach → result ≡ judged_from (bytes_in m first.now second.now table.now) byte (board_in m q) (king_at q) q.first q.second }
 {
-    let by_king = sift_white(q.black, q.first, reach.king, byte, table);
-    let Sifted::Suited(a) = by_king else {
-        return Judged::Refuted;
-    };
-    let by_man = sift_lone(m, q, reach.first, byte, table, first, second);
-    let Sifted::Suited(b) = by_man else {
-        return Judged::Refuted;
-    };
-    Judged::Found(Reach {
-        king: a,
-        first: b,
+    let king = sift_white(q, reach.king, byte, table)?;
+    let man = sift_lone(m, q, reach.first, byte, table, first, second)?;
+    Some(Reach {
+        king,
+        first: man,
         second: 0,
     })
 }
 
 // The steps of Black's king that take no man.
-fn sift_quiet(q: Place, targets: u64, byte: u16, table: &[u8]) -> Sifted
+fn sift_quiet(q: Place, targets: u64, byte: u16, table: &[u8]) -> Option<u64>
     ensures { (m : Men) → Complete m q → 4 ≤ m.second → q.side ≡ 1 → targets ≡ set_of (quiet_to m q (king_at q)) → (first second : List ℕ) → result ≡ sifted_by (bytes_in m first second table.now) byte (board_in m q) (king_at q) (quiet_to m q (king_at q)) }
 {
     if is_at_home(q.white) {
         let base = first_of(q.white) as usize * 64 + q.first as usize;
-        return sift_pairs(partners_of(q.white), base, targets, byte, table);
+        let row = partners_of(q.white);
+        return sift(targets, byte, |to| {
+            read_at(table, base + count_before(row, to) as usize * 64)
+        });
     }
-    sift_black(q.white, q.first, targets, byte, table)
+    sift(targets, byte, |to| {
+        read(table, number_alone(0, 0, q.white, to, q.first))
+    })
+}
+
+// Moves that leave bare kings, a draw: nothing is read.
+fn sift_bare(targets: u64, byte: u16) -> Option<u64>
+    ensures { (bytes : Board → ℕ) (b : Board) (from : ℕ) (goes : ℕ → Bool) → targets ≡ set_of goes → ((t : ℕ) → T (goes t) → 1 ≡ bytes (moved b from t)) → result ≡ sifted_by bytes byte b from goes }
+{
+    if targets == 0 {
+        return Some(0);
+    }
+    if refutes(byte, 1) {
+        return None;
+    }
+    if suits(byte, 1) {
+        return Some(targets);
+    }
+    Some(0)
 }
 
 // All the steps of Black's king, who is alone.
-fn sift_king_alone(q: Place, targets: u64, byte: u16, table: &[u8]) -> Sifted
+fn sift_king_alone(q: Place, targets: u64, byte: u16, table: &[u8]) -> Option<u64>
     ensures { (m : Men) → Complete m q → 4 ≤ m.second → q.side ≡ 1 → targets ≡ set_of (can_move (board_in m q) (king_at q)) → (first second : List ℕ) → result ≡ sifted_from (bytes_in m first second table.now) byte (board_in m q) (king_at q) }
 {
     let man = one(q.first);
-    let taking = sift_bare(targets & man, byte);
-    let Sifted::Suited(found) = taking else {
-        return Sifted::Refuted;
-    };
-    let others = sift_quiet(q, minus(targets, man), byte, table);
-    found_alongside(found, others)
+    let taking = sift_bare(targets & man, byte)?;
+    let others = sift_quiet(q, minus(targets, man), byte, table)?;
+    Some(taking | others)
 }
 
 // Black to move.
-fn judge_black(q: Place, reach: Reach, byte: u16, table: &[u8]) -> Judged
+fn judge_black(q: Place, reach: Reach, byte: u16, table: &[u8]) -> Option<Reach>
     ensures { (m : Men) → Complete m q → 4 ≤ m.second → q.side ≡ 1 → Reaches m q reach → (first second : List ℕ) → result ≡ judged_from (bytes_in m first second table.now) byte (board_in m q) (king_at q) q.first q.second }
 {
-    let by_king = sift_king_alone(q, reach.king, byte, table);
-    let Sifted::Suited(a) = by_king else {
-        return Judged::Refuted;
-    };
-    Judged::Found(Reach {
-        king: a,
+    let king = sift_king_alone(q, reach.king, byte, table)?;
+    Some(Reach {
+        king,
         first: 0,
         second: 0,
     })

@@ -5,23 +5,22 @@ ghost use Rattle.position.specs.Posed.{material_for};
 ghost use Rattle.four_men.specs.Reading.{legal_number_of};
 ghost use Rattle.successors.specs.Successors.{StandingAt};
 
-use super::Standing;
 use index::{is_used, place_at};
 use movegen::checked;
-use position::{Men, other};
+use position::{Men, Place, other};
 
 // The place at the number, if the number is used and its position legal.
-pub fn legal_at(m: Men, n: u32) -> Standing
+pub fn legal_at(m: Men, n: u32) -> Option<Place>
     ensures { T (known (material_for m)) → m.colour < 2 → n < size_of (material_for m) → StandingAt m n result }
 {
     let q = place_at(m, n);
     if !is_used(m, q, n) {
-        return Standing::Nothing;
+        return None;
     }
     if checked(m, q, other(q.side)) {
-        return Standing::Nothing;
+        return None;
     }
-    Standing::Legal(q)
+    Some(q)
 }
 
 // Whether there is one.
@@ -30,7 +29,7 @@ pub fn is_legal_number(m: Men, n: u32) -> bool
 {
     let standing = legal_at(m, n);
     match standing {
-        Standing::Legal(_) => true,
-        Standing::Nothing => false,
+        Some(_) => true,
+        None => false,
     }
 }

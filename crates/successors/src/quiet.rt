@@ -3,10 +3,9 @@ ghost use Rattle.std.specs.Prelude.{◌≡◌, true, ℕ, ◌<◌};
 ghost use Rattle.board.specs.Sets.{has, set_of};
 ghost use Rattle.rules.specs.Rules.{can_move};
 ghost use Rattle.position.specs.Posed.{board_in, Complete};
-ghost use Rattle.successors.specs.Successors.{bytes_in, sifted_by, sifted_from, alongside, king_at};
+ghost use Rattle.successors.specs.Successors.{bytes_in, sifted_by, sifted_from, king_at};
 ghost use Rattle.successors.specs.Quiet.{of_man, taking_to};
 
-use super::Sifted;
 use super::along::sift_man;
 use super::by_king::sift_king;
 use super::sifting::sift_each;
@@ -31,23 +30,13 @@ fn sift_taking(
     table: &[u8],
     first: &[u8],
     second: &[u8],
-) -> Sifted
+) -> Option<u64>
     ensures { Complete m q → targets ≡ set_of (taking_to m q from) → result ≡ sifted_by (bytes_in m first.now second.now table.now) byte (board_in m q) from (taking_to m q from) }
 {
     if targets == 0 {
-        return Sifted::Suited(0);
+        return Some(0);
     }
     sift_each(m, q, from, targets, byte, table, first, second)
-}
-
-// What other moves of the piece tell, beside the targets already found.
-pub fn found_alongside(found: u64, others: Sifted) -> Sifted
-    ensures { result ≡ alongside found others }
-{
-    match others {
-        Sifted::Refuted => Sifted::Refuted,
-        Sifted::Suited(more) => Sifted::Suited(found | more),
-    }
 }
 
 // The moves of the king to move to all his legal targets.
@@ -60,16 +49,13 @@ pub fn sift_steps(
     table: &[u8],
     first: &[u8],
     second: &[u8],
-) -> Sifted
+) -> Option<u64>
     ensures { Complete m q → targets ≡ set_of (can_move (board_in m q) (king_at q)) → ((t : ℕ) → t < 64 → has men t ≡ of_man q t) → result ≡ sifted_from (bytes_in m first.now second.now table.now) byte (board_in m q) (king_at q) }
 {
     let king = king_at(q, q.side);
-    let taking = sift_taking(m, q, king, targets & men, byte, table, first, second);
-    let Sifted::Suited(found) = taking else {
-        return Sifted::Refuted;
-    };
-    let others = sift_king(m, q, minus(targets, men), byte, table);
-    found_alongside(found, others)
+    let taking = sift_taking(m, q, king, targets & men, byte, table, first, second)?;
+    let others = sift_king(m, q, minus(targets, men), byte, table)?;
+    Some(taking | others)
 }
 
 // The moves of the man on a square to all his legal targets.
@@ -83,13 +69,10 @@ pub fn sift_moves(
     table: &[u8],
     first: &[u8],
     second: &[u8],
-) -> Sifted
+) -> Option<u64>
     ensures { Complete m q → targets ≡ set_of (can_move (board_in m q) from) → ((t : ℕ) → t < 64 → has men t ≡ of_man q t) → of_man q from ≡ true → result ≡ sifted_from (bytes_in m first.now second.now table.now) byte (board_in m q) from }
 {
-    let taking = sift_taking(m, q, from, targets & men, byte, table, first, second);
-    let Sifted::Suited(found) = taking else {
-        return Sifted::Refuted;
-    };
-    let others = sift_man(m, q, from, minus(targets, men), byte, table, first, second);
-    found_alongside(found, others)
+    let taking = sift_taking(m, q, from, targets & men, byte, table, first, second)?;
+    let others = sift_man(m, q, from, minus(targets, men), byte, table, first, second)?;
+    Some(taking | others)
 }

@@ -10,7 +10,6 @@ use super::choosing::{is_taking, weighed_by};
 use super::judging::judge;
 use super::lone::weigh_lone;
 use super::{Verdict, Weighed};
-use answers::BestMove;
 use movegen::{checked, king_targets, reach_of};
 use position::{Men, Place};
 use rules::move_of;
@@ -35,7 +34,7 @@ fn verdict_over(m: Men, q: Place, byte: u8) -> Verdict
     ensures { Complete m q → result ≡ end_verdict byte (board_in m q) }
 {
     if byte == end_byte(m, q) {
-        return Verdict::Right(BestMove::NoMove);
+        return Verdict::Right(None);
     }
     Verdict::Wrong
 }
@@ -71,7 +70,7 @@ pub fn verdict_on(m: Men, q: Place, byte: u8, table: &[u8], first: &[u8], second
         Weighed::Stuck => verdict_over(m, q, byte),
         Weighed::Met(seen) => {
             let takes = is_taking(m, q, seen.to);
-            Verdict::Right(BestMove::Play(move_of(seen.from, seen.to, takes)))
+            Verdict::Right(Some(move_of(seen.from, seen.to, takes)))
         },
     }
 }

@@ -4,24 +4,16 @@ ghost use Rattle.sets.specs.Answers.{right_entry, right_set, find_of, part_of};
 
 use super::TABLE_SIZE;
 use super::words::word;
-use sets::Found;
 
 // Whether the entry at a place is the one that the rules give: a code of at least `least`, the offset, a table's length.
+#[tactic(auto, unfolding(sets::specs::Answers::right_entry))]
 fn is_entry(set: &[u8], at: usize, least: usize, offset: usize) -> bool
     requires { at + 12 ≤ length set.now }
     ensures { result ≡ right_entry set.now at least offset }
 {
     let code = word(set, at);
-    if code < least {
-        return false;
-    }
-    if 4 <= code {
-        return false;
-    }
-    if word(set, at + 4) != offset {
-        return false;
-    }
-    word(set, at + 8) == TABLE_SIZE
+    (least <= code)
+        & ((code < 4) & ((word(set, at + 4) == offset) & (word(set, at + 8) == TABLE_SIZE)))
 }
 
 // Whether the bytes are a set: the header that the rules give for its count and codes, and the length that it says.
@@ -32,49 +24,40 @@ pub fn is_set(set: &[u8]) -> bool
         return false;
     }
     let n = word(set, 0);
-    let mut offset = 4 + 12 * n;
-    if set.len() != offset + TABLE_SIZE * n {
+    let first = 4 + 12 * n;
+    if set.len() != first + TABLE_SIZE * n {
         return false;
     }
-    let mut at: usize = 4;
-    let mut least: usize = 0;
-    let mut left = n;
-    while 0 < left {
-        if !is_entry(set, at, least, offset) {
+    let mut least = 0;
+    for k in 0..n {
+        let at = 4 + 12 * k;
+        if !is_entry(set, at, least, first + TABLE_SIZE * k) {
             return false;
         }
         least = word(set, at) + 1;
-        at += 12;
-        offset += TABLE_SIZE;
-        left -= 1;
     }
     true
 }
 
 // Where the ending's table starts. Refusal 1 for a code above 3, 14 for bytes that are no set, 15 where the set lacks the ending.
-pub fn find(set: &[u8], code: u8) -> Found
+pub fn find(set: &[u8], code: u8) -> Result<u32, u8>
     ensures { result ≡ find_of set.now code }
 {
     if 3 < code {
-        return Found::Refused(1);
+        return Err(1);
     }
     if !is_set(set) {
-        return Found::Refused(14);
+        return Err(14);
     }
-    let wanted = code as usize;
+    let wanted = usize::from(code);
     let n = word(set, 0);
-    let mut offset = 4 + 12 * n;
-    let mut at: usize = 4;
-    let mut left = n;
-    while 0 < left {
-        if word(set, at) == wanted {
-            return Found::At(offset as u32);
+    let first = 4 + 12 * n;
+    for k in 0..n {
+        if word(set, 4 + 12 * k) == wanted {
+            return Ok((first + TABLE_SIZE * k) as u32);
         }
-        at += 12;
-        offset += TABLE_SIZE;
-        left -= 1;
     }
-    Found::Refused(15)
+    Err(15)
 }
 
 // The very part of the set that holds the ending's table; an empty part where `find` refuses.
@@ -83,11 +66,11 @@ pub fn part(set: &[u8], code: u8) -> &[u8]
 {
     let found = find(set, code);
     match found {
-        Found::At(offset) => {
+        Ok(offset) => {
             let at = offset as usize;
             let end = at + TABLE_SIZE;
             &set[at..end]
         },
-        Found::Refused(_) => &set[0..0],
+        Err(_) => &set[0..0],
     }
 }

@@ -6,21 +6,20 @@ ghost use Rattle.endings.specs.Answers.{fill_of};
 ghost use Rattle.sets.specs.Answers.{is_refusal, filled_at};
 
 use super::TABLE_SIZE;
-use answers::Filled;
 use filling::{clear, fill_one_back};
 
-pub fn is_refused(filled: Filled) -> bool
+pub fn is_refused(filled: Result<Option<u8>, u8>) -> bool
     ensures { result ≡ is_refusal filled }
 {
     match filled {
-        Filled::Greatest(_) => false,
-        Filled::NoneDecided => false,
-        Filled::Refused(_) => true,
+        Ok(Some(_)) => false,
+        Ok(None) => false,
+        Err(_) => true,
     }
 }
 
 // Lends the part at the ending's offset to the fill; the other parts stay as they are.
-fn fill_part(code: u8, at: usize, set: &mut [u8]) -> Filled
+fn fill_part(code: u8, at: usize, set: &mut [u8]) -> Result<Option<u8>, u8>
     requires { at + table_size ≤ length set.old }
     ensures { (result ≡ (fill_of code (take table_size (drop at set.old))).answer) × (set.new ≡ over set.old at (fill_of code (take table_size (drop at set.old))).bytes) }
 {
@@ -29,7 +28,7 @@ fn fill_part(code: u8, at: usize, set: &mut [u8]) -> Filled
 }
 
 // Fills the table at a place; where filling refuses, the whole set is zero.
-pub fn fill_at(code: u8, at: usize, set: &mut [u8]) -> Filled
+pub fn fill_at(code: u8, at: usize, set: &mut [u8]) -> Result<Option<u8>, u8>
     requires { at + table_size ≤ length set.old }
     ensures { (result ≡ (filled_at code at set.old).answer) × (set.new ≡ (filled_at code at set.old).bytes) }
 {

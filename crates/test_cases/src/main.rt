@@ -1,12 +1,12 @@
 // Runs the positions to keep by the bench, checks the four tables and altered ones, and answers as the second program does.
 #![tactic(auto)]
 
-use answers::{Answer, Checked, Filled};
+use answers::{Answer, Checked};
 use checking::check;
 use filling::fill;
-use index::{NumberAnswer, Placed, TABLE_SIZE, number, position_of};
+use index::{TABLE_SIZE, number, position_of};
 use look_up::look_up;
-use move_list::{Counted, move_count};
+use move_list::move_count;
 use position::{Position, lone, standing_refusal};
 use std::io;
 
@@ -28,22 +28,22 @@ fn say_number(rt: &impl Print, label: &str, answer: &str, n: u64) -> io::Result<
 
 fn numbering(rt: &impl Print, label: &str, p: Position) -> io::Result<()> {
     match number(p) {
-        NumberAnswer::Number(n) => say_number(rt, label, "number ", n as u64),
-        NumberAnswer::Refused(n) => say_number(rt, label, "refused ", n as u64),
+        Ok(n) => say_number(rt, label, "number ", n as u64),
+        Err(n) => say_number(rt, label, "refused ", n as u64),
     }
 }
 
 fn numbering_back(rt: &impl Print, label: &str, n: u32) -> io::Result<()> {
     match position_of(QUEEN, n) {
-        Placed::At(_) => say(rt, label, "used"),
-        Placed::Refused(refusal) => say_number(rt, label, "refused ", refusal as u64),
+        Ok(_) => say(rt, label, "used"),
+        Err(refusal) => say_number(rt, label, "refused ", refusal as u64),
     }
 }
 
 fn is_used(n: u32) -> bool {
     match position_of(QUEEN, n) {
-        Placed::At(_) => true,
-        Placed::Refused(_) => false,
+        Ok(_) => true,
+        Err(_) => false,
     }
 }
 
@@ -60,17 +60,17 @@ fn highest_used() -> u32 {
 // The value, with the depth where there is one; a move too has no place in this list.
 fn value(rt: &impl Print, label: &str, table: &[u8], p: Position) -> io::Result<()> {
     match look_up(table, p) {
-        Answer::Win(n, _) => say_number(rt, label, "win ", n as u64),
-        Answer::Loss(n, _) => say_number(rt, label, "loss ", n as u64),
-        Answer::Draw(_) => say(rt, label, "draw"),
-        Answer::Refused(n) => say_number(rt, label, "refused ", n as u64),
+        Ok(Answer::Win(n, _)) => say_number(rt, label, "win ", n as u64),
+        Ok(Answer::Loss(n, _)) => say_number(rt, label, "loss ", n as u64),
+        Ok(Answer::Draw(_)) => say(rt, label, "draw"),
+        Err(n) => say_number(rt, label, "refused ", n as u64),
     }
 }
 
 fn counting(rt: &impl Print, label: &str, p: Position) -> io::Result<()> {
     match move_count(p) {
-        Counted::Count(n) => println!(rt; "{label}{n} moves"),
-        Counted::Refused(n) => say_number(rt, label, "refused ", n as u64),
+        Ok(n) => println!(rt; "{label}{n} moves"),
+        Err(n) => say_number(rt, label, "refused ", n as u64),
     }
 }
 
@@ -85,26 +85,26 @@ fn legality(rt: &impl Print, label: &str, p: Position) -> io::Result<()> {
 
 fn fill_refusal(table: &mut [u8]) -> u8 {
     match fill(QUEEN, &mut *table) {
-        Filled::Greatest(_) => 0,
-        Filled::NoneDecided => 0,
-        Filled::Refused(n) => n,
+        Ok(Some(_)) => 0,
+        Ok(None) => 0,
+        Err(n) => n,
     }
 }
 
 fn check_refusal(table: &[u8]) -> u8 {
     match check(QUEEN, table) {
-        Checked::Accepted => 0,
-        Checked::Wrong(_) => 0,
-        Checked::Refused(n) => n,
+        Ok(Checked::Accepted) => 0,
+        Ok(Checked::Wrong(_)) => 0,
+        Err(n) => n,
     }
 }
 
 fn look_up_refusal(table: &[u8]) -> u8 {
     match look_up(table, lone(QUEEN, 0, 0, 1, 63)) {
-        Answer::Win(_, _) => 0,
-        Answer::Loss(_, _) => 0,
-        Answer::Draw(_) => 0,
-        Answer::Refused(n) => n,
+        Ok(Answer::Win(_, _)) => 0,
+        Ok(Answer::Loss(_, _)) => 0,
+        Ok(Answer::Draw(_)) => 0,
+        Err(n) => n,
     }
 }
 
@@ -157,14 +157,14 @@ fn numbers(rt: &impl Print) -> io::Result<()> {
 
 fn values(rt: &impl Print) -> io::Result<()> {
     let mut table = [0u8; TABLE_SIZE];
-    fill(ROOK, &mut table);
+    let _ = fill(ROOK, &mut table);
     value(
         rt,
         "Ka3 Rh1 against Ka1, Black to move: ",
         &table,
         lone(ROOK, 1, 16, 7, 0),
     )?;
-    fill(QUEEN, &mut table);
+    let _ = fill(QUEEN, &mut table);
     value(
         rt,
         "Kb3 Qb2 against Ka1, Black to move: ",
@@ -188,16 +188,16 @@ fn lengths(rt: &impl Print) -> io::Result<()> {
 
 fn checking(rt: &impl Print, label: &str, kind: u8, table: &[u8]) -> io::Result<()> {
     match check(kind, table) {
-        Checked::Accepted => say(rt, label, "accepted"),
-        Checked::Wrong(n) => say_number(rt, label, "wrong at ", n as u64),
-        Checked::Refused(n) => say_number(rt, label, "refused ", n as u64),
+        Ok(Checked::Accepted) => say(rt, label, "accepted"),
+        Ok(Checked::Wrong(n)) => say_number(rt, label, "wrong at ", n as u64),
+        Err(n) => say_number(rt, label, "refused ", n as u64),
     }
 }
 
 // A table as it is filled, and altered ones: the lowest wrong number.
 fn queens_table(rt: &impl Print) -> io::Result<()> {
     let mut table = [0u8; TABLE_SIZE];
-    fill(QUEEN, &mut table);
+    let _ = fill(QUEEN, &mut table);
     checking(rt, "Queen's table: ", QUEEN, &table)?;
     checking(rt, "Queen's table, checked for a rook: ", ROOK, &table)?;
     table[59135] = 1;
@@ -208,7 +208,7 @@ fn queens_table(rt: &impl Print) -> io::Result<()> {
 
 fn rooks_table(rt: &impl Print) -> io::Result<()> {
     let mut table = [0u8; TABLE_SIZE];
-    fill(ROOK, &mut table);
+    let _ = fill(ROOK, &mut table);
     checking(rt, "Rook's table: ", ROOK, &table)?;
     table[31617] = 255;
     checking(rt, "Rook's table, 255 at 31,617: ", ROOK, &table)
@@ -216,7 +216,7 @@ fn rooks_table(rt: &impl Print) -> io::Result<()> {
 
 fn bishops_table(rt: &impl Print) -> io::Result<()> {
     let mut table = [0u8; TABLE_SIZE];
-    fill(BISHOP, &mut table);
+    let _ = fill(BISHOP, &mut table);
     checking(rt, "Bishop's table: ", BISHOP, &table)?;
     table[31617] = 2;
     checking(rt, "Bishop's table, 2 at 31,617: ", BISHOP, &table)
@@ -224,7 +224,7 @@ fn bishops_table(rt: &impl Print) -> io::Result<()> {
 
 fn knights_table(rt: &impl Print) -> io::Result<()> {
     let mut table = [0u8; TABLE_SIZE];
-    fill(KNIGHT, &mut table);
+    let _ = fill(KNIGHT, &mut table);
     checking(rt, "Knight's table: ", KNIGHT, &table)?;
     table[2049] = 0;
     checking(rt, "Knight's table, 0 at 2,049: ", KNIGHT, &table)

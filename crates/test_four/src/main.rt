@@ -2,9 +2,8 @@
 // number, the count of moves, and the first and the last of them, as the second program does.
 #![tactic(auto)]
 
-use index::NumberAnswer;
-use move_list::{Counted, MoveList};
-use position::{Position, Slot};
+use move_list::MoveList;
+use position::Position;
 use rules::{Move, Piece};
 use std::io;
 use std::io::Read;
@@ -12,38 +11,32 @@ use std::io::Read;
 // How much of the input is read.
 const INPUT_ROOM: u64 = 65536;
 
-// The numbers of a line so far, and which of them comes next.
+// The numbers of a line so far, and which of them comes next. Each of the programs that read numbers has its own: they
+// would share it only through a crate of its own.
 #[derive(Clone, Copy)]
 struct Line {
     numbers: [u8; 9],
-    at: u8,
+    at: usize,
 }
 
-fn new_line() -> Line {
-    Line {
-        numbers: [0; 9],
-        at: 0,
+impl Line {
+    fn new() -> Line {
+        Line {
+            numbers: [0; 9],
+            at: 0,
+        }
     }
-}
 
-// A number with one decimal digit more.
-fn with_digit(number: u8, digit: u8) -> u8 {
-    ((number as u32 * 10 + (digit % 16) as u32) % 256) as u8
-}
-
-// The line with one byte more: a digit of the current number, or a blank behind it.
-fn with_byte(line: Line, b: u8) -> Line {
-    let mut numbers = line.numbers;
-    let at = line.at % 9;
-    if b == b' ' {
-        return Line {
-            numbers,
-            at: at + 1,
-        };
+    // One byte more: a blank behind a number, or a decimal digit of it, as whose last four bits any other byte counts.
+    fn push(&mut self, b: u8) {
+        self.at %= 9;
+        if b == b' ' {
+            self.at += 1;
+            return;
+        }
+        let number = &mut self.numbers[self.at];
+        *number = number.wrapping_mul(10).wrapping_add(b % 16);
     }
-    let i = at as usize;
-    numbers[i] = with_digit(numbers[i], b);
-    Line { numbers, at }
 }
 
 fn show_square(rt: &impl Print, s: u8) -> io::Result<()> {
@@ -78,8 +71,8 @@ fn show_ends(rt: &impl Print, list: MoveList) -> io::Result<()> {
 
 fn show_moves(rt: &impl Print, p: Position) -> io::Result<()> {
     match move_list::move_count(p) {
-        Counted::Refused(number) => refused(rt, number),
-        Counted::Count(count) => {
+        Err(number) => refused(rt, number),
+        Ok(count) => {
             print!(rt; "moves {count}")?;
             show_ends(rt, move_list::legal_moves(p).list)
         }
@@ -88,8 +81,8 @@ fn show_moves(rt: &impl Print, p: Position) -> io::Result<()> {
 
 fn answer(rt: &impl Print, p: Position) -> io::Result<()> {
     match index::number_with(p) {
-        NumberAnswer::Refused(number) => refused(rt, number)?,
-        NumberAnswer::Number(number) => {
+        Err(number) => refused(rt, number)?,
+        Ok(number) => {
             print!(rt; "number {number} ")?;
             show_moves(rt, p)?;
         }
@@ -113,20 +106,20 @@ fn answer_line(rt: &impl Print, line: Line) -> io::Result<()> {
         side: numbers[1],
         white_king: numbers[2],
         black_king: numbers[4],
-        first: Slot::Present(first),
-        second: Slot::Present(second),
+        first: Some(first),
+        second: Some(second),
     };
     answer(rt, p)
 }
 
 fn answer_all(rt: &impl Print, input: &[u8]) -> io::Result<()> {
-    let mut line = new_line();
+    let mut line = Line::new();
     for b in input {
         if *b == b'\n' {
             answer_line(rt, line)?;
-            line = new_line();
+            line = Line::new();
         } else {
-            line = with_byte(line, *b);
+            line.push(*b);
         }
     }
     Ok(())

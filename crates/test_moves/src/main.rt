@@ -1,7 +1,7 @@
 // Answers lines of six numbers (man, side, white king, man's square, black king, man's colour) with the legal moves, as the second program does.
 #![tactic(auto)]
 
-use move_list::{Counted, MoveList};
+use move_list::MoveList;
 use position::{Position, one_man};
 use rules::Move;
 use std::io;
@@ -10,38 +10,32 @@ use std::io::Read;
 // How much of the input is read.
 const INPUT_ROOM: u64 = 65536;
 
-// The numbers of a line so far, and which of them comes next.
+// The numbers of a line so far, and which of them comes next. Each of the programs that read numbers has its own: they
+// would share it only through a crate of its own.
 #[derive(Clone, Copy)]
 struct Line {
     numbers: [u8; 6],
-    at: u8,
+    at: usize,
 }
 
-fn new_line() -> Line {
-    Line {
-        numbers: [0; 6],
-        at: 0,
+impl Line {
+    fn new() -> Line {
+        Line {
+            numbers: [0; 6],
+            at: 0,
+        }
     }
-}
 
-// A number with one decimal digit more.
-fn with_digit(number: u8, digit: u8) -> u8 {
-    ((number as u32 * 10 + (digit % 16) as u32) % 256) as u8
-}
-
-// The line with one byte more: a digit of the current number, or a blank behind it.
-fn with_byte(line: Line, b: u8) -> Line {
-    let mut numbers = line.numbers;
-    let at = line.at % 6;
-    if b == b' ' {
-        return Line {
-            numbers,
-            at: at + 1,
-        };
+    // One byte more: a blank behind a number, or a decimal digit of it, as whose last four bits any other byte counts.
+    fn push(&mut self, b: u8) {
+        self.at %= 6;
+        if b == b' ' {
+            self.at += 1;
+            return;
+        }
+        let number = &mut self.numbers[self.at];
+        *number = number.wrapping_mul(10).wrapping_add(b % 16);
     }
-    let i = at as usize;
-    numbers[i] = with_digit(numbers[i], b);
-    Line { numbers, at }
 }
 
 fn show_square(rt: &impl Print, s: u8) -> io::Result<()> {
@@ -68,8 +62,8 @@ fn show_list(rt: &impl Print, list: MoveList) -> io::Result<()> {
 
 fn answer(rt: &impl Print, p: Position) -> io::Result<()> {
     match move_list::move_count(p) {
-        Counted::Refused(number) => print!(rt; "refused {number}")?,
-        Counted::Count(count) => {
+        Err(number) => print!(rt; "refused {number}")?,
+        Ok(count) => {
             print!(rt; "{count}")?;
             show_list(rt, move_list::legal_moves(p).list)?;
         }
@@ -78,21 +72,21 @@ fn answer(rt: &impl Print, p: Position) -> io::Result<()> {
 }
 
 fn answer_line(rt: &impl Print, line: Line) -> io::Result<()> {
-    let numbers = line.numbers;
-    let p = one_man(
-        numbers[0], numbers[5], numbers[1], numbers[2], numbers[3], numbers[4],
-    );
-    answer(rt, p)
+    let [man, side, white_king, square, black_king, colour] = line.numbers;
+    answer(
+        rt,
+        one_man(man, colour, side, white_king, square, black_king),
+    )
 }
 
 fn answer_all(rt: &impl Print, input: &[u8]) -> io::Result<()> {
-    let mut line = new_line();
+    let mut line = Line::new();
     for b in input {
         if *b == b'\n' {
             answer_line(rt, line)?;
-            line = new_line();
+            line = Line::new();
         } else {
-            line = with_byte(line, *b);
+            line.push(*b);
         }
     }
     Ok(())

@@ -1,7 +1,7 @@
 // Goes over all numbers of each man, and back, and prints counts and checksums as the second program does.
 #![tactic(auto)]
 
-use index::{NumberAnswer, Placed, TABLE_SIZE};
+use index::TABLE_SIZE;
 use position::{Position, man_in};
 use std::io;
 
@@ -31,8 +31,8 @@ fn with_position(sum: u64, p: Position) -> u64 {
 // The position's number; a refusal shows as a number that none has.
 fn number_shown(p: Position) -> u32 {
     match index::number(p) {
-        NumberAnswer::Number(n) => n,
-        NumberAnswer::Refused(refusal) => 60000 + refusal as u32,
+        Ok(n) => n,
+        Err(refusal) => 60000 + refusal as u32,
     }
 }
 
@@ -60,8 +60,8 @@ fn with_used(t: Tally, p: Position) -> Tally {
 
 fn with_number(t: Tally, kind: u8, n: u32) -> Tally {
     match index::position_of(kind, n) {
-        Placed::At(p) => with_used(t, p),
-        Placed::Refused(_) => Tally {
+        Ok(p) => with_used(t, p),
+        Err(_) => Tally {
             white: t.white,
             black: t.black,
             refused: t.refused.wrapping_add(1),

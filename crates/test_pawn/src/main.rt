@@ -2,57 +2,51 @@
 // with his colour and square), with the number, the moves and the slip, as the second program does.
 #![tactic(auto)]
 
-use answers::{Answer, BestMove};
+use answers::Answer;
 use filling::{fill, fill_with};
-use index::{NumberAnswer, TABLE_SIZE};
+use index::TABLE_SIZE;
 use look_up::look_up_with;
-use move_list::{Counted, MoveList};
+use move_list::MoveList;
 use numbering::Material;
-use position::{Position, Slot};
+use position::Position;
 use rules::{Move, Piece};
 use std::io;
 use std::io::Read;
 
 // The four small tables one after the other, and the pawn's own.
-const RUN: usize = 236544;
+const RUN: usize = 4 * TABLE_SIZE;
 
 const PAWN_TABLE: usize = 196608;
 
 // How much of the input is read.
 const INPUT_ROOM: u64 = 65536;
 
-// The numbers of a line so far, and which of them comes next.
+// The numbers of a line so far, and which of them comes next. Each of the programs that read numbers has its own: they
+// would share it only through a crate of its own.
 #[derive(Clone, Copy)]
 struct Line {
     numbers: [u8; 9],
-    at: u8,
+    at: usize,
 }
 
-fn new_line() -> Line {
-    Line {
-        numbers: [0; 9],
-        at: 0,
+impl Line {
+    fn new() -> Line {
+        Line {
+            numbers: [0; 9],
+            at: 0,
+        }
     }
-}
 
-// A number with one decimal digit more.
-fn with_digit(number: u8, digit: u8) -> u8 {
-    ((number as u32 * 10 + (digit % 16) as u32) % 256) as u8
-}
-
-// The line with one byte more: a digit of the current number, or a blank behind it.
-fn with_byte(line: Line, b: u8) -> Line {
-    let mut numbers = line.numbers;
-    let at = line.at % 9;
-    if b == b' ' {
-        return Line {
-            numbers,
-            at: at + 1,
-        };
+    // One byte more: a blank behind a number, or a decimal digit of it, as whose last four bits any other byte counts.
+    fn push(&mut self, b: u8) {
+        self.at %= 9;
+        if b == b' ' {
+            self.at += 1;
+            return;
+        }
+        let number = &mut self.numbers[self.at];
+        *number = number.wrapping_mul(10).wrapping_add(b % 16);
     }
-    let i = at as usize;
-    numbers[i] = with_digit(numbers[i], b);
-    Line { numbers, at }
 }
 
 fn show_square(rt: &impl Print, s: u8) -> io::Result<()> {
@@ -86,28 +80,28 @@ fn show_number(rt: &impl Print, label: &str, number: u64) -> io::Result<()> {
     print!(rt; "{label}{number}")
 }
 
-fn show_best(rt: &impl Print, best: BestMove) -> io::Result<()> {
+fn show_best(rt: &impl Print, best: Option<Move>) -> io::Result<()> {
     match best {
-        BestMove::Play(m) => show_move(rt, m),
-        BestMove::NoMove => Ok(()),
+        Some(m) => show_move(rt, m),
+        None => Ok(()),
     }
 }
 
-fn show_slip(rt: &impl Print, answer: Answer) -> io::Result<()> {
+fn show_slip(rt: &impl Print, answer: Result<Answer, u8>) -> io::Result<()> {
     match answer {
-        Answer::Win(depth, best) => {
+        Ok(Answer::Win(depth, best)) => {
             show_number(rt, " slip win ", depth as u64)?;
             show_best(rt, best)
         },
-        Answer::Loss(depth, best) => {
+        Ok(Answer::Loss(depth, best)) => {
             show_number(rt, " slip loss ", depth as u64)?;
             show_best(rt, best)
         },
-        Answer::Draw(best) => {
+        Ok(Answer::Draw(best)) => {
             print!(rt; " slip draw")?;
             show_best(rt, best)
         },
-        Answer::Refused(number) => show_number(rt, " slip refused ", number as u64),
+        Err(number) => show_number(rt, " slip refused ", number as u64),
     }
 }
 
@@ -121,8 +115,8 @@ fn show_list(rt: &impl Print, list: MoveList) -> io::Result<()> {
 // The moves and the slip.
 fn show_moves(rt: &impl Print, p: Position, table: &[u8], run: &[u8]) -> io::Result<()> {
     match move_list::move_count(p) {
-        Counted::Refused(number) => show_number(rt, " refused ", number as u64),
-        Counted::Count(count) => {
+        Err(number) => show_number(rt, " refused ", number as u64),
+        Ok(count) => {
             show_number(rt, " moves ", count as u64)?;
             show_list(rt, move_list::legal_moves(p).list)?;
             show_slip(rt, look_up_with(p, table, run, &[]))
@@ -132,8 +126,8 @@ fn show_moves(rt: &impl Print, p: Position, table: &[u8], run: &[u8]) -> io::Res
 
 fn answer(rt: &impl Print, p: Position, table: &[u8], run: &[u8]) -> io::Result<()> {
     match index::number_with(p) {
-        NumberAnswer::Refused(number) => show_number(rt, "refused ", number as u64)?,
-        NumberAnswer::Number(number) => {
+        Err(number) => show_number(rt, "refused ", number as u64)?,
+        Ok(number) => {
             show_number(rt, "number ", number as u64)?;
             show_moves(rt, p, table, run)?;
         }
@@ -142,17 +136,17 @@ fn answer(rt: &impl Print, p: Position, table: &[u8], run: &[u8]) -> io::Result<
 }
 
 // The second man of a line that has come to his numbers.
-fn second_man(line: Line) -> Slot {
+fn second_man(line: Line) -> Option<Piece> {
     let numbers = line.numbers;
     if line.at < 6 {
-        return Slot::Absent;
+        return None;
     }
     let second = Piece {
         kind: numbers[6],
         colour: numbers[7],
         square: numbers[8],
     };
-    Slot::Present(second)
+    Some(second)
 }
 
 fn answer_line(rt: &impl Print, line: Line, table: &[u8], run: &[u8]) -> io::Result<()> {
@@ -166,40 +160,32 @@ fn answer_line(rt: &impl Print, line: Line, table: &[u8], run: &[u8]) -> io::Res
         side: numbers[1],
         white_king: numbers[2],
         black_king: numbers[4],
-        first: Slot::Present(first),
+        first: Some(first),
         second: second_man(line),
     };
     answer(rt, p, table, run)
 }
 
 fn answer_all(rt: &impl Print, input: &[u8], table: &[u8], run: &[u8]) -> io::Result<()> {
-    let mut line = new_line();
+    let mut line = Line::new();
     for b in input {
         if *b == b'\n' {
             answer_line(rt, line, table, run)?;
-            line = new_line();
+            line = Line::new();
         } else {
-            line = with_byte(line, *b);
+            line.push(*b);
         }
     }
     Ok(())
 }
 
-// One man's table in its part of the run.
-fn fill_part(kind: u8, at: usize, end: usize, run: &mut [u8]) {
-    if at <= end && end <= run.len() {
-        fill(kind, &mut run[at..end]);
-    }
-}
-
 fn main(rt: HostRuntime) -> io::Result<()> {
     let mut run = [0u8; RUN];
-    fill_part(0, 0, TABLE_SIZE, &mut run);
-    fill_part(1, TABLE_SIZE, 2 * TABLE_SIZE, &mut run);
-    fill_part(2, 2 * TABLE_SIZE, 3 * TABLE_SIZE, &mut run);
-    fill_part(3, 3 * TABLE_SIZE, RUN, &mut run);
+    for (kind, part) in (0..4).zip(run.chunks_mut(TABLE_SIZE)) {
+        let _ = fill(kind, part);
+    }
     let mut table = [0u8; PAWN_TABLE];
-    fill_with(Material::Pawn, &run, &[], &mut table);
+    let _ = fill_with(Material::Pawn, &run, &[], &mut table);
     let mut input = Vec::new(rt.alloc());
     rt.reader().take(INPUT_ROOM).read_to_end(&mut input)?;
     answer_all(&rt, input.as_slice(), &table, &run)

@@ -2,7 +2,7 @@
 #![tactic(auto)]
 
 use filling::fill;
-use pocket::{Tallied, Tallies, pack, tally};
+use pocket::{Tallies, pack, tally};
 use std::io;
 
 // The checksum with one byte more.
@@ -29,18 +29,18 @@ fn print_tallies(rt: &impl Print, t: Tallies) -> io::Result<()> {
     print_line(rt, "loss ", t.losses as u64)
 }
 
-fn print_tallied(rt: &impl Print, tallied: Tallied) -> io::Result<()> {
+fn print_tallied(rt: &impl Print, tallied: Result<Tallies, u8>) -> io::Result<()> {
     match tallied {
-        Tallied::Counted(t) => print_tallies(rt, t),
-        Tallied::Refused(number) => print_line(rt, "refused ", number as u64),
+        Ok(t) => print_tallies(rt, t),
+        Err(number) => print_line(rt, "refused ", number as u64),
     }
 }
 
 fn print_man(rt: &impl Print, kind: u8, name: &str) -> io::Result<()> {
     let mut table = [0u8; 59136];
     let mut pocket = [0u8; 14784];
-    fill(kind, &mut table);
-    pack(&table, &mut pocket);
+    let _ = fill(kind, &mut table);
+    let _ = pack(&table, &mut pocket);
     println!(rt; "{name}")?;
     print_tallied(rt, tally(&pocket))?;
     print_line(rt, "checksum ", checksum(&pocket))

@@ -1,7 +1,7 @@
 // Writes three sets, reads each code back and prints what was found, as the second program does.
 #![tactic(auto)]
 
-use sets::{Choice, Found, Written};
+use sets::Choice;
 use std::io;
 use table_set::{find, part, write};
 
@@ -37,22 +37,22 @@ fn print_choice(rt: &impl Print, choice: Choice) -> io::Result<()> {
 fn print_found(rt: &impl Print, set: &[u8], code: u8) -> io::Result<()> {
     print_number(rt, "code ", code as u64)?;
     match find(set, code) {
-        Found::At(offset) => {
+        Ok(offset) => {
             print_number(rt, " offset ", offset as u64)?;
             print_number(rt, " length ", part(set, code).len() as u64)?;
         },
-        Found::Refused(number) => print_number(rt, " refused ", number as u64)?,
+        Err(number) => print_number(rt, " refused ", number as u64)?,
     }
     println!(rt)
 }
 
-fn print_written(rt: &impl Print, written: Written, set: &[u8]) -> io::Result<()> {
+fn print_written(rt: &impl Print, written: Result<(), u8>, set: &[u8]) -> io::Result<()> {
     match written {
-        Written::Done => {
+        Ok(()) => {
             print_number(rt, " length ", set.len() as u64)?;
             print_number(rt, " checksum ", checksum(set))?;
         },
-        Written::Refused(number) => print_number(rt, " refused ", number as u64)?,
+        Err(number) => print_number(rt, " refused ", number as u64)?,
     }
     println!(rt)
 }

@@ -1,7 +1,6 @@
 // Fills each man's table in steps and prints what each step says and the table's checksum after it, as the second program does.
 #![tactic(auto)]
 
-use answers::Filled;
 use filling::{Stepped, start_filling, take_step};
 use std::io;
 use table_theory::Progress;
@@ -23,11 +22,11 @@ fn print_line(rt: &impl Print, label: &str, number: u64) -> io::Result<()> {
     println!(rt; "{label}{number}")
 }
 
-fn print_filled(rt: &impl Print, filled: Filled) -> io::Result<()> {
+fn print_filled(rt: &impl Print, filled: Result<Option<u8>, u8>) -> io::Result<()> {
     match filled {
-        Filled::Greatest(depth) => print!(rt; " done, greatest depth {depth}"),
-        Filled::NoneDecided => print!(rt; " done, none decided"),
-        Filled::Refused(number) => print!(rt; " refused {number}"),
+        Ok(Some(depth)) => print!(rt; " done, greatest depth {depth}"),
+        Ok(None) => print!(rt; " done, none decided"),
+        Err(number) => print!(rt; " refused {number}"),
     }
 }
 

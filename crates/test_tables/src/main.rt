@@ -4,7 +4,6 @@
 
 ghost use Rattle.std.specs.Prelude.{◌<◌, ◌≤◌, length};
 
-use answers::Filled;
 use filling::{fill, fill_back, fill_one_back};
 use index::{HALF, TABLE_SIZE};
 use numbering::Material;
@@ -60,18 +59,18 @@ fn print_side(rt: &impl Print, side: &str, half: &[u8]) -> io::Result<()> {
     print_depths(rt, half)
 }
 
-fn print_filled(rt: &impl Print, filled: Filled) -> io::Result<()> {
+fn print_filled(rt: &impl Print, filled: Result<Option<u8>, u8>) -> io::Result<()> {
     match filled {
-        Filled::Greatest(depth) => print_line(rt, "greatest depth ", depth as u64),
-        Filled::NoneDecided => println!(rt; "none decided"),
-        Filled::Refused(number) => print_line(rt, "refused ", number as u64),
+        Ok(Some(depth)) => print_line(rt, "greatest depth ", depth as u64),
+        Ok(None) => println!(rt; "none decided"),
+        Err(number) => print_line(rt, "refused ", number as u64),
     }
 }
 
 fn print_table(
     rt: &impl Print,
     name: &str,
-    filled: Filled,
+    filled: Result<Option<u8>, u8>,
     half: usize,
     table: &[u8],
 ) -> io::Result<()>
@@ -98,11 +97,15 @@ fn print_man_back(rt: &impl Print, kind: u8, name: &str) -> io::Result<()> {
 }
 
 // Bishop and knight by the second fill. The array goes by reference: its length is then its type's, and nobody counts it.
-fn fill_two(bishop: &[u8], knight: &[u8], table: &mut [u8; LARGE_SIZE]) -> Filled {
+fn fill_two(bishop: &[u8], knight: &[u8], table: &mut [u8; LARGE_SIZE]) -> Result<Option<u8>, u8> {
     fill_back(Material::Two(2, 3, false), bishop, knight, &mut *table)
 }
 
-fn print_large(rt: &impl Print, filled: Filled, table: &[u8; LARGE_SIZE]) -> io::Result<()> {
+fn print_large(
+    rt: &impl Print,
+    filled: Result<Option<u8>, u8>,
+    table: &[u8; LARGE_SIZE],
+) -> io::Result<()> {
     print_table(rt, "KBNK", filled, LARGE_SIZE / 2, table)
 }
 
@@ -110,8 +113,8 @@ fn print_two(rt: &impl Print) -> io::Result<()> {
     let mut bishop = [0u8; TABLE_SIZE];
     let mut knight = [0u8; TABLE_SIZE];
     let mut table = [0u8; LARGE_SIZE];
-    fill_one_back(2, &mut bishop);
-    fill_one_back(3, &mut knight);
+    let _ = fill_one_back(2, &mut bishop);
+    let _ = fill_one_back(3, &mut knight);
     let filled = fill_two(&bishop, &knight, &mut table);
     print_large(rt, filled, &table)
 }

@@ -1,9 +1,9 @@
 -- What the part that writes a number with its check answers: "it refuses 8 and 9"; and what it is for a line that carries what it wrote.
 -- Definitions only.
-use Rattle.std.specs.Prelude.{◌≡◌, List, ◌∷◌, ◌++◌, ℕ, replicate}
+use Rattle.position.specs.declared.Position.{Position}
+use Rattle.std.specs.Prelude.{◌≡◌, List, ◌∷◌, ◌++◌, ℕ, replicate, Err, Ok, Result}
 use Rattle.ascii.specs.Bytes.{bytes}
 use Rattle.check_digits.specs.Check.{with_check, digit_bytes}
-use Rattle.index.specs.declared.Placed.{Placed}
 use Rattle.index.specs.Answers.{placed_at, position_at}
 use Rattle.lines.specs.declared.Request.{Request}
 use Rattle.lines.specs.Grammar.{kind_named, request_of}
@@ -11,9 +11,9 @@ use Rattle.lines.specs.Typed.{RightLine}
 use Rattle.typed.specs.declared.Written.{Written}
 
 -- by what numbering back answers: its refusal and seven zero bytes, or refusal 0 and the bytes of the seven digits
-unfoldable pub written_by : ℕ → Placed → Written
-written_by n (Placed.At p) = record { refusal = 0; digits = digit_bytes 7 (with_check n) }
-written_by n (Placed.Refused k) = record { refusal = k; digits = replicate 7 0 }
+unfoldable pub written_by : ℕ → Result Position ℕ → Written
+written_by n (Ok p) = record { refusal = 0; digits = digit_bytes 7 (with_check n) }
+written_by n (Err k) = record { refusal = k; digits = replicate 7 0 }
 
 -- numbering back's refusals 8 and 9 are the same for every man (WritingLaws, same-for-all), so it is asked for the queen
 unfoldable pub written_of : ℕ → Written
@@ -26,5 +26,5 @@ typed_line letter w = letter ∷ bytes " # " ++ w.digits
 -- the line is accepted, and leads back to the number's position
 pub record LeadsBack (letter n : ℕ) (line : List ℕ) : Type 0 where
   pub right : RightLine line
-  pub request : request_of line ≡ Request.Back (kind_named letter) n
-  pub placed : placed_at (kind_named letter) n ≡ Placed.At (position_at (kind_named letter) n)
+  pub request : request_of line ≡ Ok (Request.Back (kind_named letter) n)
+  pub placed : placed_at (kind_named letter) n ≡ Ok (position_at (kind_named letter) n)

@@ -5,7 +5,7 @@ ghost use Rattle.std.specs.Prelude.{◌≡◌};
 ghost use Rattle.typed.specs.Writing.{written_of};
 
 use check_digits::seven_bytes;
-use index::{Placed, position_of};
+use index::position_of;
 
 // A number's seven digits as bytes, refusal 0; or the refusal, with seven zero bytes.
 #[derive(Clone, Copy)]
@@ -19,11 +19,11 @@ pub fn write_number(number: u32) -> Written
     ensures { result ≡ written_of number }
 {
     match position_of(0, number) {
-        Placed::At(_) => Written {
+        Ok(_) => Written {
             refusal: 0,
             digits: seven_bytes(number),
         },
-        Placed::Refused(refusal) => Written {
+        Err(refusal) => Written {
             refusal,
             digits: [0u8; 7],
         },

@@ -1,21 +1,20 @@
 -- The word of a move played, and what a host reads from it (include/sledgewren.h). Definitions only.
-use Rattle.std.specs.Prelude.{cond, ℕ, ◌+◌, ◌*◌, ◌^◌, ◌<◌, eqb}
+use Rattle.std.specs.Prelude.{cond, ℕ, ◌+◌, ◌*◌, ◌^◌, ◌<◌, eqb, Err, None, Ok, Option, Result, Some}
 use Rattle.position.specs.declared.Position.{Position}
-use Rattle.playing.specs.declared.Played.{Played}
 use Rattle.words.specs.Reading.{bits, unless_refused, Byte, RefusalFits}
 use Rattle.given_words.specs.Men.{short_man, short_read, ShortFits}
 
 -- bits 0-7 refusal, bit 8 side, bit 15 the move is not legal, 16-23 white king, 24-31 black king, 32-47 the first man,
 -- 48-63 the second; with bare kings both men are absent, and bits 32-63 are 0
-abbrev pub played_word : Played → ℕ
-played_word (Played.At p) =
+abbrev pub played_word : Result (Option Position) ℕ → ℕ
+played_word (Ok (Some p)) =
     p.side * 2 ^ 8
     + p.white_king * 2 ^ 16
     + p.black_king * 2 ^ 24
     + short_man p.first * 2 ^ 32
     + short_man p.second * 2 ^ 48
-played_word Played.NotLegal = 2 ^ 15
-played_word (Played.Refused k) = k
+played_word (Ok None) = 2 ^ 15
+played_word (Err k) = k
 
 -- the position of such a word
 abbrev pub position_after : ℕ → Position
@@ -27,10 +26,10 @@ position_after word = record {
   second = short_read (bits 48 16 word);
 }
 
-abbrev pub played_read : ℕ → Played
+abbrev pub played_read : ℕ → Result (Option Position) ℕ
 played_read word =
-    cond (eqb (bits 15 1 word) 1) Played.NotLegal
-    (unless_refused (Played.At (position_after word)) Played.Refused word)
+    cond (eqb (bits 15 1 word) 1) (Ok None)
+    (unless_refused (Ok (Some (position_after word))) Err word)
 
 -- the positions that a word has room for
 pub record AfterFits (p : Position) : Type 0 where
@@ -40,7 +39,7 @@ pub record AfterFits (p : Position) : Type 0 where
   pub first : ShortFits p.first
   pub second : ShortFits p.second
 
-abbrev pub PlayedFits : Played → Type 0
-PlayedFits (Played.At p) = AfterFits p
-PlayedFits Played.NotLegal = Unit {0}
-PlayedFits (Played.Refused k) = RefusalFits k
+abbrev pub PlayedFits : Result (Option Position) ℕ → Type 0
+PlayedFits (Ok (Some p)) = AfterFits p
+PlayedFits (Ok None) = Unit {0}
+PlayedFits (Err k) = RefusalFits k

@@ -1,29 +1,27 @@
 // The position after a move as one word.
-ghost use Rattle.std.specs.Prelude.{◌≡◌};
+ghost use Rattle.std.specs.Prelude.{◌≡◌, Ok, Some};
 ghost use Rattle.words.specs.Played.{played_word};
 
 use given_words::short_man;
-use playing::Played;
 use position::Position;
 
 fn after_word(p: Position) -> u64
-    ensures { result ≡ played_word (Played.At p) }
+    ensures { result ≡ played_word (Ok (Some p)) }
 {
     let first = p.first;
     let second = p.second;
-    p.side as u64 * 0x100
-        + p.white_king as u64 * 0x1_0000
-        + p.black_king as u64 * 0x100_0000
-        + short_man(first) * 0x1_0000_0000
-        + short_man(second) * 0x1_0000_0000_0000
+    let kings = u32::from_le_bytes([0, p.side, p.white_king, p.black_king]);
+    u64::from(kings)
+        + u64::from(short_man(first)) * 0x1_0000_0000
+        + u64::from(short_man(second)) * 0x1_0000_0000_0000
 }
 
-pub fn played_word(p: Played) -> u64
+pub fn played_word(p: Result<Option<Position>, u8>) -> u64
     ensures { result ≡ played_word p }
 {
     match p {
-        Played::At(at) => after_word(at),
-        Played::NotLegal => 0x8000,
-        Played::Refused(k) => k as u64,
+        Ok(Some(at)) => after_word(at),
+        Ok(None) => 0x8000,
+        Err(k) => k as u64,
     }
 }

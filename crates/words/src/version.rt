@@ -11,5 +11,5 @@ const PATCH: u8 = 0;
 pub fn version_word() -> u32
     ensures { result ≡ version_word current }
 {
-    MAJOR as u32 * 0x1_0000 + MINOR as u32 * 0x100 + PATCH as u32
+    u32::from_le_bytes([PATCH, MINOR, MAJOR, 0])
 }

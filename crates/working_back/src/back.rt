@@ -23,6 +23,7 @@ fn pass_own(m: Men, k: u8, first: &[u8], second: &[u8], table: &mut [u8]) -> u32
     let byte = 1 + k;
     let mut settled: u32 = 0;
     let mut j = next_at(byte, 0, &*table);
+    // No iterator: the table that is searched is written between.
     while j < table.len() {
         let q = place_at(m, j as u32);
         settled += try_into(m, k, q, 0, first, second, &mut *table);

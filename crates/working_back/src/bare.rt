@@ -17,7 +17,7 @@ ghost use Rattle.working_back.specs.Bare.{bare_on, Bare, struck_by, Knows, Quiet
 
 use super::known::{byte_of, look};
 use super::trying::confirm;
-use board::{beyond_lowest, has as has_square, lowest, minus, one, targets, with};
+use board::{has as has_square, minus, one, squares_of, targets, with};
 use byte_rule::refutes;
 use index::{Still, still_black, still_number};
 use position::{Men, Place};
@@ -182,9 +182,7 @@ pub fn lose_bare(
     let mut settled: u32 = 0;
     let mut saving: u64 = 0;
     let mut harmless: u64 = 0;
-    let mut rest = squares;
-    while rest != 0 {
-        let s = lowest(rest);
+    for s in squares_of(squares) {
         let lost = lose_one(
             m,
             k,
@@ -206,7 +204,6 @@ pub fn lose_bare(
         settled += lost.settled;
         saving = lost.saving;
         harmless = lost.harmless;
-        rest = beyond_lowest(rest);
     }
     settled
 }

@@ -9,7 +9,7 @@ use super::finding::next_at;
 use super::into::try_into;
 use position::Men;
 use retracting::{left_place, lone_men};
-use successors::{Standing, legal_at};
+use successors::legal_at;
 
 // Tries the positions that have a move to the man alone at this number, which holds depth k - 1 in his table, if it is legal: a move which takes the
 // other, 1 the first, 2 the second.
@@ -27,11 +27,11 @@ fn try_lone(
 {
     let standing = legal_at(lone_men(m, taken), j as u32);
     match standing {
-        Standing::Legal(t) => {
+        Some(t) => {
             let q = left_place(m, taken, t);
             try_into(m, k, q, taken, first, second, &mut *table)
         },
-        Standing::Nothing => 0,
+        None => 0,
     }
 }
 
@@ -51,6 +51,7 @@ fn pass_lent(
     let byte = 1 + k;
     let mut settled: u32 = 0;
     let mut j = next_at(byte, 0, small);
+    // From one number to the next that holds it: few do.
     while j < small.len() {
         settled += try_lone(m, k, taken, j, first, second, &mut *table);
         j = next_at(byte, j + 1, small);

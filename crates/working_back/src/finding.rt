@@ -9,12 +9,9 @@ fn run_holds(byte: u8, from: usize, table: &[u8]) -> bool
     requires { from + 64 ≤ length table.now }
     ensures { result ≡ false → NoneFrom table.now byte from (from + 64) }
 {
-    let end = from + RUN;
     let mut held = false;
-    let mut n = from;
-    while n < end {
+    for n in from..from + RUN {
         held = held | (table[n] == byte);
-        n += 1;
     }
     held
 }
@@ -25,6 +22,7 @@ fn past_runs(byte: u8, from: usize, table: &[u8]) -> usize
     ensures { Passes table.now byte from result }
 {
     let mut n = from;
+    // By hand: where a run holds it, its number is wanted, not its bytes.
     while RUN <= table.len() - n {
         if run_holds(byte, n, table) {
             return n;
@@ -51,14 +49,12 @@ fn next_before(byte: u8, from: usize, end: usize, table: &[u8]) -> usize
     requires { (from ≤ end) × (end ≤ length table.now) }
     ensures { FirstAt table.now byte from end result }
 {
-    let mut n = from;
-    while n < end {
+    for n in from..end {
         if table[n] == byte {
             return n;
         }
-        n += 1;
     }
-    n
+    end
 }
 
 // .. before the table's end: one by one up to the end of a run, then a run at a time.
@@ -67,6 +63,7 @@ pub fn next_at(byte: u8, from: usize, table: &[u8]) -> usize
     ensures { FirstAt table.now byte from (length table.now) result }
 {
     let mut n = from;
+    // No range: a turn goes on where the last one stopped.
     while n < table.len() {
         let end = run_end(n, table.len());
         n = next_before(byte, n, end, table);

@@ -6,7 +6,7 @@ ghost use Rattle.index.specs.Seats.{Seated};
 ghost use Rattle.index.specs.Moving.{king_on, Stands};
 ghost use Rattle.working_back.specs.Bare.{bare_on, Saves, Knows};
 
-use board::{beyond_lowest, lowest, minus, with};
+use board::{minus, squares_of, with};
 use byte_rule::refutes;
 use index::{Still, still_number};
 use position::Men;
@@ -15,10 +15,7 @@ use position::Men;
 pub fn byte_of(table: &[u8], n: usize) -> u8
     ensures { result ≡ get_or table.now n 0 }
 {
-    if table.len() <= n {
-        return 0;
-    }
-    table[n]
+    table.get(n).copied().unwrap_or(0)
 }
 
 // What is known of the squares that he may go to while White's pieces stand still: those that save him, and those that do not.
@@ -54,9 +51,7 @@ pub fn look(
     }
     let depth = 2 + k as u16;
     let mut clear = harmless;
-    let mut rest = minus(goals, harmless);
-    while rest != 0 {
-        let t = lowest(rest);
+    for t in squares_of(minus(goals, harmless)) {
         let c = byte_of(table, still_number(others, 0, t));
         if refutes(depth, c) {
             return Seen {
@@ -66,7 +61,6 @@ pub fn look(
             };
         }
         clear = with(clear, t);
-        rest = beyond_lowest(rest);
     }
     Seen {
         saved: false,

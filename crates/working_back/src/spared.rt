@@ -11,7 +11,7 @@ ghost use Rattle.working_back.specs.Spared.{Grounds, Sparing};
 
 use super::known::byte_of;
 use super::lines::Line;
-use board::{lowest, minus, targets, with, without};
+use board::{minus, squares_of, targets, with};
 use byte_rule::refutes;
 use index::number_at;
 use movegen::{king_at, occupied_at, place_after};
@@ -79,21 +79,19 @@ pub fn find_saviour(
     ensures { result.square < 64 → T (has goals result.square) × (Serves m o s result.square line → Seated m (place_after o s result.square) → Sparing m k (place_after o s result.square) table.now) }
 {
     let depth = 2 + k as u16;
-    let fresh = minus(goals, seen);
-    let mut rest = fresh;
-    while rest != 0 {
-        let t = lowest(rest);
+    let mut harmless = seen;
+    for t in squares_of(minus(goals, seen)) {
         let c = byte_of(table, number_after(m, o, s, t, line));
         if (c != 0) & refutes(depth, c) {
             return Saviour {
                 square: t,
-                seen: seen | minus(fresh, rest),
+                seen: harmless,
             };
         }
-        rest = without(rest, t);
+        harmless = with(harmless, t);
     }
     Saviour {
         square: 64,
-        seen: seen | fresh,
+        seen: harmless,
     }
 }

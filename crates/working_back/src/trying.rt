@@ -133,6 +133,7 @@ pub fn lose_each(
     let mut settled: u32 = 0;
     let mut seen: u64 = 0;
     let mut rest = squares;
+    // No `for`: with each square go those whose loss is spared with it.
     while rest != 0 {
         let s = lowest(rest);
         let n = number_before(m, q, taken, s, to, line);

@@ -6,17 +6,17 @@ use Rattle.adjudication.proofs.answer_line.Goals as goal
 pub shape_of-table : goal.shape_of-table
 shape_of-table c = c.look_up_line.auto.table
 
-pub returns-in-LookUp : goal.returns-in-LookUp
-returns-in-LookUp c =
+pub returns-in-Ok-LookUp : goal.returns-in-Ok-LookUp
+returns-in-Ok-LookUp c =
     position-line _ _ _ _ c.parse-request.ensures _ _ _
-    c.in-LookUp.is c.look_up_line.ensures
+    (search rules) c.look_up_line.ensures
 
-pub returns-in-Back : goal.returns-in-Back
-returns-in-Back c =
+pub returns-in-Ok-Back : goal.returns-in-Ok-Back
+returns-in-Ok-Back c =
     number-line _ _ _ _ c.parse-request.ensures _ _ _ _
-    c.in-Back.is c.position_of.ensures c.placed_slip.ensures
+    (search rules) c.position_of.ensures c.placed_slip.ensures
 
-pub returns-in-Refused : goal.returns-in-Refused
-returns-in-Refused c =
+pub returns-in-Err : goal.returns-in-Err
+returns-in-Err c =
     refused-line _ _ _ _ c.parse-request.ensures _ _
-    c.in-Refused.is c.answer_slip.ensures
+    c.in-Err.is c.answer_slip.ensures

@@ -75,6 +75,15 @@ pub listed-square : (list : List ℕ) → length list ≡ 64 → (occ s : ℕ) {
 listed-square list n occ s e z =
     ⊎_elim (λ h. let none = e ∙ get_or-eq_default list 0 (rw n h) in absurd (z (rw none))) (λ h. h) (le-or-lt 64 s)
 
+-- a piece that attacks one of these squares there stands on the board
+pub attacked-from : (occ kind s : ℕ) {full : ℕ} → full ≡ set_of (reaches nothing kind s) → (bit_and full occ ≡ 0 → ⊥) → s < 64
+attacked-from occ kind s e z =
+    ⊎_elim
+    (λ h.
+    let none = e ∙ sym (set_is (reaches nothing kind s) 0 (omega arith) (λ u l. has-none u ∙ sym (reaches-off nothing kind s u (inl h)))) in
+    absurd (z (rw none)))
+    (λ h. h) (le-or-lt 64 s)
+
 -- a king's and a knight's are what they attack on any board
 pub king-anywhere : (occ : ℕ → Bool) (s : ℕ) {set : ℕ} → set ≡ get_or king_steps s 0 → set ≡ set_of (reaches occ 5 s)
 king-anywhere occ s e =

@@ -1,11 +1,11 @@
 -- The count of a set's members and the lowest of them, as counts of bits; and the set without its lowest member.
-use Rattle.std.specs.Prelude.{◌≡◌, refl, Bool, true, false, not, ◌&&◌, ◌||◌, List, [], ◌∷◌, ℕ, zero, suc, ◌+◌, ◌*◌, ◌/◌, ◌%◌, ◌^◌, ◌≤◌, ◌<◌, min, T, eqb, length, get_or}
-use Rattle.std.proofs.Common.{sym, ap, ap₂, subst, ◌∙◌, zero-add, add-zero, add-suc, suc-add, arith, eq-eqb, ne_eqb, eqb-true}
+use Rattle.std.specs.Prelude.{◌≡◌, refl, Bool, true, false, not, ◌&&◌, ◌||◌, List, [], ◌∷◌, ℕ, zero, suc, ◌+◌, ◌*◌, ◌/◌, ◌%◌, ◌^◌, ◌<◌, min, T, eqb, length, get_or}
+use Rattle.std.proofs.Common.{inl, inr, sym, ap, ap₂, subst, ◌∙◌, zero-add, add-zero, add-suc, suc-add, arith, eq-eqb, ne_eqb, eqb-true, eqb→eq}
 use Rattle.std.proofs.Math.Bool.{and-true}
 use mathlib.Core.List.Memᴰ
 use Rattle.std.specs.Int.Bits.{bit_and, and_step, and_self}
 use Rattle.std.specs.Int.Count.{ones, ones_in, ones_step, count_trailing_zeros, under}
-use Rattle.finite.specs.Truth.{true_of, fails}
+use Rattle.finite.specs.Truth.{true_of, of-true, fails, or_left, or_right, or_cases, same_test}
 use Rattle.finite.specs.Members.{◌∈◌, none_in}
 use Rattle.finite.specs.Filter.{keep, filter, filter_same}
 use Rattle.finite.specs.Numbers.{numbers, numbers-out}
@@ -177,3 +177,32 @@ common-beyond set m h e = go (members set) refl
     go : (l : List ℕ) → members set ≡ l → bit_and set m ≡ set_of (λ u. has set u && not (eqb u (lowest_square set)))
     go [] q = absurd (let z = empty-set set h q in omega arith)
     go (x ∷ l) q = let lx : lowest_square set ≡ x = ap (λ (k : List ℕ). get_or k 0 64) q in rw lx (from_first set m x l h e q)
+
+-- ---- the same of an iterator's step, which says only what the members are
+
+pub lowest-first : (set t r : ℕ) → members set ≡ t ∷ members r → Lowest set t r
+lowest-first set t r e =
+    let m = members-out set t (subst (λ (l : List ℕ). t ∈ l) (sym e) (Memᴰ.head refl)) in
+    record {
+      square = m.0;
+      here = m.1;
+      first = e;
+      fewer = omega (arith, ap length e);
+      others = same;
+    }
+  where
+    here : (u : ℕ) → u ∈ members set → T (eqb u t || has r u)
+    here u m = go (subst (λ (l : List ℕ). u ∈ l) e m)
+      where
+        go : u ∈ t ∷ members r → T (eqb u t || has r u)
+        go (Memᴰ.head q) = or_left (eqb u t) (has r u) (of-true (eq-eqb u t q))
+        go (Memᴰ.tail m) = or_right (eqb u t) (has r u) (members-out r u m).1
+
+    back : (u : ℕ) → u < 64 → T (eqb u t || has r u) → T (has set u)
+    back u l h = elim (or_cases (eqb u t) (has r u) h) [
+      | inl q ↦ (members-out set u (subst (λ (k : List ℕ). u ∈ k) (sym e) (Memᴰ.head (eqb→eq u t q)))).1
+      | inr q ↦ (members-out set u (subst (λ (k : List ℕ). u ∈ k) (sym e) (Memᴰ.tail (members-in r u l q)))).1
+    ]
+
+    same : (u : ℕ) → u < 64 → has set u ≡ (eqb u t || has r u)
+    same u l = same_test (has set u) (eqb u t || has r u) (λ h. here u (members-in set u l h)) (back u l)

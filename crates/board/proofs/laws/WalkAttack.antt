@@ -1,5 +1,5 @@
 -- Lines and attack by walks: a line leads to a square, and a queen, rook or bishop attacks it, exactly if a walk meets it first.
-use Rattle.std.specs.Prelude.{◌≡◌, Bool, true, false, cond, not, ◌&&◌, ◌||◌, eqb, get_or}
+use Rattle.std.specs.Prelude.{◌≡◌, Bool, true, false, cond, not, ◌&&◌, ◌||◌, eqb, get_or, Option, Some}
 use Rattle.std.proofs.Math.Path.{refl}
 use Rattle.std.proofs.Common.{sym, ap, ◌∙◌, arith, eqb→eq, lit≤, lt-ltb, le-ltb}
 use Rattle.std.proofs.Math.Logic.{⊎_elim}
@@ -10,13 +10,12 @@ use Rattle.finite.specs.Members.{any, any_same}
 use Rattle.finite.specs.Numbers.{numbers-out}
 use Rattle.board.specs.Reach.{line, step_xs, step_ys, stepped, step_ranges, first_steps, step_counts, steps_of, line_of, reaches}
 use Rattle.board.specs.Walk.{first_met, walk_of, met_at, with_target, meets_first}
-use Rattle.board.specs.declared.Met.{Met}
 use Rattle.board.proofs.laws.WalkLaws.{walk-edge, walk-next, walk_same}
 
 -- over Booleans: e whether the next square u is t, o whether it is occupied
 module _ (u t : ℕ) where
-  met_next : (o e more : Bool) (rest : Met) → eqb u t ≡ e → more ≡ met_at rest t
-      → (e || not o && more) ≡ met_at (cond (o || e) (Met.At u) rest) t
+  met_next : (o e more : Bool) (rest : Option ℕ) → eqb u t ≡ e → more ≡ met_at rest t
+      → (e || not o && more) ≡ met_at (cond (o || e) (Some u) rest) t
   met_next true true more rest q r = sym q
   met_next true false more rest q r = sym q
   met_next false true more rest q r = sym q

@@ -1,5 +1,5 @@
 -- A walk by a square's bit, and the squares of a line gathered on the way: what each test of the code says.
-use Rattle.std.specs.Prelude.{◌≡◌, Bool, cond, ◌&&◌, ◌||◌, ℕ, ◌+◌, ◌-◌, ◌*◌, ◌^◌, ◌≤◌, ◌<◌, T, eqb}
+use Rattle.std.specs.Prelude.{◌≡◌, Bool, cond, ◌&&◌, ◌||◌, ℕ, ◌+◌, ◌-◌, ◌*◌, ◌^◌, ◌≤◌, ◌<◌, T, eqb, Some, None}
 use Rattle.std.proofs.Math.Path.{refl}
 use Rattle.std.proofs.Common.{sym, ap, ◌∙◌, ⊎_elim, arith, ltb→lt, eqb→eq, eq-eqb, lt-ltb}
 use Rattle.std.proofs.Math.Bool.{true, false}
@@ -15,7 +15,6 @@ use Rattle.board.specs.Square.{stays, shift}
 use Rattle.board.specs.Reach.{step_xs, step_ys, stepped, line_of}
 use Rattle.board.specs.Sets.{has, squares, members, lowest_square, pack, set_of}
 use Rattle.board.specs.Walk.{walk_of}
-use Rattle.board.specs.declared.Met.{Met}
 use Rattle.board.proofs.laws.SquareLaws.{shift_le}
 use Rattle.board.specs.SetLaws.{bit}
 use Rattle.board.proofs.laws.SetLaws.{has-none, has-bit, has-or, has-and, has-not, has-added, set_is}
@@ -113,10 +112,10 @@ module _ (k step s b : ℕ) (h : k < 8) (p : IsStep step k) (e : b ≡ bit (next
       (of-true (lt-ltb (stepped s k) 64 q))))
 
   module _ (occ : ℕ) (f : occ < 2 ^ 64) where
-    pub meets-edge : b ≡ 0 → walk_of (has occ) s k ≡ Met.Edge
+    pub meets-edge : b ≡ 0 → walk_of (has occ) s k ≡ None
     meets-edge z = walk-edge (has occ) s k h (at_edge z)
 
-    pub meets-piece : (b ≡ 0 → ⊥) → (bit_and b occ ≡ 0 → ⊥) → walk_of (has occ) s k ≡ Met.At (lowest_square b)
+    pub meets-piece : (b ≡ 0 → ⊥) → (bit_and b occ ≡ 0 → ⊥) → walk_of (has occ) s k ≡ Some (lowest_square b)
     meets-piece z o =
         let q = on-board z in
         walk-next (has occ) s k h q

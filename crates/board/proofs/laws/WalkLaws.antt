@@ -1,5 +1,5 @@
 -- Laws of the walk, for any direction: seven steps are enough, and what it meets by what its next square is.
-use Rattle.std.specs.Prelude.{◌≡◌, refl, Bool, true, false, cond, ℕ, zero, suc, ◌≤◌, ◌<◌, T, ltb, eqb, get_or}
+use Rattle.std.specs.Prelude.{◌≡◌, refl, Bool, true, false, cond, ℕ, zero, suc, ◌≤◌, ◌<◌, T, ltb, eqb, get_or, Option, Some, None}
 use Rattle.std.proofs.Common.{sym, ap, ◌∙◌, ⊎_elim, le_of_suc-le-suc, arith, eqb→eq}
 use borrow.Author.Tests.{lt-ltb, le-ltb}
 use Rattle.finite.specs.Truth.{le-or-lt}
@@ -8,7 +8,6 @@ use Rattle.board.specs.Square.{stays, shift}
 use Rattle.board.proofs.laws.SquareLaws.{shift-off}
 use Rattle.board.specs.Reach.{step_xs, step_ys, stepped}
 use Rattle.board.specs.Walk.{first_met, walk_of}
-use Rattle.board.specs.declared.Met.{Met}
 
 -- ---- seven steps are enough
 
@@ -34,7 +33,7 @@ unfolding all_below all_below2 out after shift stays
 all-out = tt
 
 -- and so from off the board
-off : (occ : ℕ → Bool) (n s k : ℕ) → 64 ≤ s → first_met occ n s k ≡ Met.Edge
+off : (occ : ℕ → Bool) (n s k : ℕ) → 64 ≤ s → first_met occ n s k ≡ None
 unfolding first_met
 off occ zero s k h = refl
 off occ (suc n) s k h = rw (shift-off s (get_or step_xs k 0) (get_or step_ys k 0) h)
@@ -48,17 +47,17 @@ seven-enough occ s k n h l =
 
 -- ---- the walk by its next square
 
-pub walk-nowhere : (occ : ℕ → Bool) (s k : ℕ) → 8 ≤ k → walk_of occ s k ≡ Met.Edge
+pub walk-nowhere : (occ : ℕ → Bool) (s k : ℕ) → 8 ≤ k → walk_of occ s k ≡ None
 unfolding walk_of
 walk-nowhere occ s k h = rw (le-ltb k 8 h)
 
-pub walk-off : (occ : ℕ → Bool) (s k : ℕ) → 64 ≤ s → walk_of occ s k ≡ Met.Edge
+pub walk-off : (occ : ℕ → Bool) (s k : ℕ) → 64 ≤ s → walk_of occ s k ≡ None
 unfolding walk_of
-walk-off occ s k h = ap (λ m. cond (ltb k 8) m Met.Edge) (off occ 7 s k h) ∙ either (ltb k 8)
+walk-off occ s k h = ap (λ m. cond (ltb k 8) m None) (off occ 7 s k h) ∙ either (ltb k 8) None
   where
-    either : (b : Bool) → cond b Met.Edge Met.Edge ≡ Met.Edge
-    either true = refl
-    either false = refl
+    either : (b : Bool) (m : Option ℕ) → cond b m m ≡ m
+    either true m = refl
+    either false m = refl
 
 module _ (occ : ℕ → Bool) (s k : ℕ) (h : k < 8) where
   walk_first : walk_of occ s k ≡ first_met occ 8 s k
@@ -66,13 +65,13 @@ module _ (occ : ℕ → Bool) (s k : ℕ) (h : k < 8) where
   walk_first = rw (lt-ltb k 8 h) (sym (seven-enough occ s k 8 h (omega arith)))
 
   -- the edge comes next
-  pub walk-edge : 64 ≤ stepped s k → walk_of occ s k ≡ Met.Edge
+  pub walk-edge : 64 ≤ stepped s k → walk_of occ s k ≡ None
   unfolding first_met
   walk-edge q = walk_first ∙ rw (le-ltb (stepped s k) 64 q)
 
   -- a square does: it is the first met, or the walk goes on from there
   pub walk-next : stepped s k < 64
-      → walk_of occ s k ≡ cond (occ (stepped s k)) (Met.At (stepped s k)) (walk_of occ (stepped s k) k)
+      → walk_of occ s k ≡ cond (occ (stepped s k)) (Some (stepped s k)) (walk_of occ (stepped s k) k)
   unfolding first_met walk_of
   walk-next q = walk_first ∙ rw (lt-ltb (stepped s k) 64 q, lt-ltb k 8 h)
 

@@ -1,6 +1,6 @@
 -- Laws by which the checker's code is proved: what stands at a number, the lowest wrong number, and the refusals before
 -- it.
-use Rattle.std.specs.Prelude.{◌≡◌, Bool, true, ◌⊎◌, List, ℕ, ◌+◌, ◌<◌, ◌≤◌, length, get_or}
+use Rattle.std.specs.Prelude.{◌≡◌, Bool, true, ◌⊎◌, List, ℕ, ◌+◌, ◌<◌, ◌≤◌, length, get_or, None, Option, Some, Err, Ok, Result}
 use Rattle.std.proofs.Math.Path.{sym, ap, subst⁻¹}
 use Rattle.std.proofs.Common.{subst, ◌∙◌, inl, inr, eq-or-lt_of_le, le_of_suc-le-suc, add-one, arith}
 use Rattle.std.proofs.Math.Bool.{false, not}
@@ -27,7 +27,6 @@ use Rattle.four_men.specs.Answers.{lengths_fit, accepts, lent_accepted, check_wi
 use Rattle.four_men.proofs.laws.Alone.{check-alone}
 use Rattle.four_men.proofs.laws.Checking.{long_of}
 use Rattle.position.specs.declared.Place.{Place}
-use Rattle.successors.specs.declared.Standing.{Standing}
 use Rattle.deciding.specs.Deciding.{StandingFor}
 use Rattle.deciding.specs.Rows.{RowOf}
 use Rattle.checking.specs.Right.{Numbers, Ended, RightBelow, found}
@@ -48,16 +47,16 @@ module _ (m : Material) (l : Lent) (t : List ℕ) (n c : ℕ) where
       h ∙ ap (λ (d : Board). eqb c (required_at chess (reads chess (numbered m l) t) d)) e ∙ sym (rw g)
 
 -- what code finds there
-pub legal-there : (m : Men) (n : ℕ) (s : Standing) (q row : Place)
+pub legal-there : (m : Men) (n : ℕ) (s : Option Place) (q row : Place)
     → Numbers m n × (T (known (material_for m)) → RowOf m n row)
     → (T (given (material_for m)) → (T (known (material_for m)) → RowOf m n row) → StandingFor m n s)
-    → s ≡ Standing.Legal q → StandingFor m n (Standing.Legal q)
+    → s ≡ Some q → StandingFor m n (Some q)
 legal-there m n s q row h f e = subst (StandingFor m n) e (f h.0.0.ending h.1)
 
-pub none-there : (m : Men) (n : ℕ) (s : Standing) (row : Place)
+pub none-there : (m : Men) (n : ℕ) (s : Option Place) (row : Place)
     → Numbers m n × (T (known (material_for m)) → RowOf m n row)
     → (T (given (material_for m)) → (T (known (material_for m)) → RowOf m n row) → StandingFor m n s)
-    → s ≡ Standing.Nothing → legal_number_of (material_for m) n ≡ false
+    → s ≡ None → legal_number_of (material_for m) n ≡ false
 none-there m n s row h f e = subst (StandingFor m n) e (f h.0.0.ending h.1)
 
 -- ---- the loop
@@ -84,7 +83,7 @@ module _ (m : Material) (l : Lent) (t : List ℕ) where
   -- a wrong byte after right ones is the lowest wrong
   pub found-wrong : (n : ℕ) (right : Bool) → n < size_of m
       → right ≡ eqb (get_or t n 0) (required_byte chess (numbered m l) t n) → right ≡ false → RightBelow m l t n
-      → Checked.Wrong n ≡ found m l t
+      → Ok (Checked.Wrong n) ≡ found m l t
   unfolding found
   found-wrong n right h e q r =
       let low : lowest (wrong_at chess (numbered m l) t) (size_of m) ≡ n =
@@ -95,7 +94,7 @@ module _ (m : Material) (l : Lent) (t : List ℕ) where
           → T (wrong_at chess (numbered m l) t n)
       wrong n f = unfold wrong_at in of-true (ap not f)
 
-  pub found_right : (n : ℕ) → size_of m ≤ n → RightBelow m l t n → Checked.Accepted ≡ found m l t
+  pub found_right : (n : ℕ) → size_of m ≤ n → RightBelow m l t n → Ok Checked.Accepted ≡ found m l t
   unfolding found
   found_right n h r =
       let low : lowest (wrong_at chess (numbered m l) t) (size_of m) ≡ size_of m =
@@ -105,12 +104,12 @@ module _ (m : Material) (l : Lent) (t : List ℕ) where
   -- ---- the refusals before it, as the code asks them
 
   module _ (is : Bool) (e : is ≡ given m) where
-    pub refused-ending : is ≡ false → Checked.Refused 1 ≡ check_with m l t
+    pub refused-ending : is ≡ false → Err 1 ≡ check_with m l t
     unfolding check_with
     refused-ending z = sym (rw (sym e ∙ z))
 
     module _ (g : is ≡ true) (fit : Bool) (f : fit ≡ lengths_fit m l t) where
-      pub refused-lengths : fit ≡ false → Checked.Refused 7 ≡ check_with m l t
+      pub refused-lengths : fit ≡ false → Err 7 ≡ check_with m l t
       unfolding check_with
       refused-lengths z = sym (rw (sym e ∙ g, sym f ∙ z))
 
@@ -125,12 +124,12 @@ module _ (m : Material) (l : Lent) (t : List ℕ) where
             )
 
         module _ (ok : Bool) (a : ok ≡ lent_accepted m l) where
-          pub refused-lent : ok ≡ false → Checked.Refused 17 ≡ check_with m l t
+          pub refused-lent : ok ≡ false → Err 17 ≡ check_with m l t
           unfolding check_with
           refused-lent z = sym (rw (sym e ∙ g, sym f ∙ long, sym a ∙ z))
 
           pub found-last : ok ≡ true → (n : Men) → (T (given m) → (material_for n ≡ m) × (n.colour < 2))
-              → (r : Checked) → r ≡ found (material_for n) l t → r ≡ check_with m l t
+              → (r : Result Checked ℕ) → r ≡ found (material_for n) l t → r ≡ check_with m l t
           unfolding check_with found
           found-last z n h r q =
               q ∙ ap (λ (x : Material). found x l t) (h (of-true (sym e ∙ g))).0
@@ -138,18 +137,18 @@ module _ (m : Material) (l : Lent) (t : List ℕ) where
 
 -- ---- the lent tables
 
-module _ (m : Material) (j k : ℕ) (r : Bool) (l : Lent) (e : m ≡ Material.Two j k r) (c : Checked)
+module _ (m : Material) (j k : ℕ) (r : Bool) (l : Lent) (e : m ≡ Material.Two j k r) (c : Result Checked ℕ)
     (h : c ≡ check_of j l.first) (a : Bool) (f : a ≡ accepts c) where
   -- the first is not accepted
   pub first-refused : a ≡ false → false ≡ lent_accepted m l
   first-refused z = sym (rw (e, ← h, ← f, z))
 
   -- it is, and so it lies with the second
-  pub second-decides : a ≡ true → (d : Checked) → d ≡ check_of k l.second → (b : Bool) → b ≡ accepts d
+  pub second-decides : a ≡ true → (d : Result Checked ℕ) → d ≡ check_of k l.second → (b : Bool) → b ≡ accepts d
       → b ≡ lent_accepted m l
   second-decides z d q b g = g ∙ sym (rw (e, ← h, ← f, z, ← q))
 
 -- one man's table: it borrows none
-pub one-promised : (kind : ℕ) (l : Lent) (t : List ℕ) (r : Checked) → r ≡ check_with (Material.One kind) l t
+pub one-promised : (kind : ℕ) (l : Lent) (t : List ℕ) (r : Result Checked ℕ) → r ≡ check_with (Material.One kind) l t
     → CheckPromise kind t r
 one-promised kind l t r e = check-promised kind t r (e ∙ check-alone kind l t)

@@ -1,12 +1,11 @@
 -- The four tables that a pawn's ending borrows, one after the other: accepted each for its kind.
-use Rattle.std.specs.Prelude.{◌≡◌, refl, Bool, true, false, ◌&&◌, List, length, take, drop}
+use Rattle.std.specs.Prelude.{◌≡◌, refl, Bool, true, false, ◌&&◌, List, length, take, drop, Err, Ok, Result}
 use Rattle.std.proofs.Common.{sym, ◌∙◌, arith, length-drop}
 use Rattle.std.proofs.Math.Path.{ap}
 use Prim.Native.Nat.{ℕ, ◌+◌, ◌*◌, ◌-◌, ◌<◌, min}
 use Rattle.std.proofs.Math.ListN.{length-take}
 use Rattle.finite.specs.Members.{all}
 use Rattle.answers.specs.declared.Checked.{Checked}
-use Rattle.answers.specs.declared.Checked.TheVariants.{Accepted, Wrong, Refused}
 use Rattle.endings.specs.Answers.{check_of}
 use Rattle.endings.proofs.laws.Checking.{accepted-ending}
 use Rattle.numbering.specs.declared.Material.{Material}
@@ -22,13 +21,13 @@ part-short kind run h = go (check_of kind (part_of kind run)) refl
     long = unfold part_of in
         length-take 59136 (drop (kind * 59136) run) ∙ ap (λ (n : ℕ). min 59136 n) (length-drop (kind * 59136) run)
 
-    go : (c : Checked) → check_of kind (part_of kind run) ≡ c → false ≡ accepts c
-    go Accepted e = let l = (accepted-ending kind (part_of kind run) e).1 in absurd (omega (arith, l, long))
-    go (Wrong n) e = refl
-    go (Refused n) e = refl
+    go : (c : Result Checked ℕ) → check_of kind (part_of kind run) ≡ c → false ≡ accepts c
+    go (Ok Checked.Accepted) e = let l = (accepted-ending kind (part_of kind run) e).1 in absurd (omega (arith, l, long))
+    go (Ok (Checked.Wrong n)) e = refl
+    go (Err n) e = refl
 
 -- as the code has it
-pub part-whole : (kind : ℕ) (run : List ℕ) (c : Checked) (a : Bool)
+pub part-whole : (kind : ℕ) (run : List ℕ) (c : Result Checked ℕ) (a : Bool)
     → c ≡ check_of kind (take (kind * 59136 + 59136 - kind * 59136) (drop (kind * 59136) run)) → a ≡ accepts c
     → a ≡ accepts (check_of kind (part_of kind run))
 unfolding part_of

@@ -1,5 +1,5 @@
 -- From a byte weighed to the verdict on it, for king and pawn; and what is so of the pawn's place is so of any ending's.
-use Rattle.std.specs.Prelude.{◌≡◌, refl, Bool, true, false, List, ℕ, ◌+◌, T, eqb, get_or}
+use Rattle.std.specs.Prelude.{◌≡◌, refl, Bool, true, false, List, ℕ, ◌+◌, T, eqb, get_or, None, Some}
 use Rattle.std.proofs.Math.Path.{sym, ap}
 use Rattle.std.proofs.Common.{ap₂, subst, ◌∙◌, inl, inr, arith, eq-eqb, ne_eqb}
 use Rattle.std.proofs.Math.Bool.{cond}
@@ -15,7 +15,6 @@ use Rattle.pawn_numbers.specs.PawnNumber.{pawn_number}
 use Rattle.position.specs.declared.Men.{Men}
 use Rattle.position.specs.declared.Place.{Place}
 use Rattle.position.specs.Posed.{board_in, Complete}
-use Rattle.answers.specs.declared.BestMove.{BestMove}
 use Rattle.pawn_moves.specs.declared.Weighed.{Weighed}
 use Rattle.pawn_moves.specs.PawnMoves.{pawn_at, pawn_bytes, weighed}
 use Rattle.pawn_moves.proofs.laws.SeatLaws.{all-moves}
@@ -34,15 +33,15 @@ module _ (c : ℕ) (b : Board) where
   end_more x e f = sym (rw (sym e ∙ f))
 
   module _ (x : Bool) (v : ℕ) (e : x ≡ empty (moves b)) (f : x ≡ true) (k : v ≡ cond (in_check b b.side) 2 1) where
-    by_end : end_of c b ≡ cond (eqb c v) (Verdict.Right BestMove.NoMove) Verdict.Wrong
+    by_end : end_of c b ≡ cond (eqb c v) (Verdict.Right None) Verdict.Wrong
     unfolding end_of
     by_end =
         ap (λ (y : Bool). cond y
-        (cond (eqb c (cond (in_check b b.side) 2 1)) (Verdict.Right BestMove.NoMove) Verdict.Wrong) Verdict.Wrong)
+        (cond (eqb c (cond (in_check b b.side) 2 1)) (Verdict.Right None) Verdict.Wrong) Verdict.Wrong)
         (sym e ∙ f)
-        ∙ ap (λ (n : ℕ). cond (eqb c n) (Verdict.Right BestMove.NoMove) Verdict.Wrong) (sym k)
+        ∙ ap (λ (n : ℕ). cond (eqb c n) (Verdict.Right None) Verdict.Wrong) (sym k)
 
-    pub end-right : c ≡ v → Verdict.Right BestMove.NoMove ≡ end_of c b
+    pub end-right : c ≡ v → Verdict.Right None ≡ end_of c b
     end-right q = sym (by_end ∙ rw (eq-eqb c v q))
 
     pub end-wrong : (c ≡ v → ⊥) → Verdict.Wrong ≡ end_of c b
@@ -77,7 +76,7 @@ module _ (run table : List ℕ) (q : Place) (c : ℕ) (w : Weighed)
     pawn-refuted f = list-refuted (pawn_bytes run table) (pawn_at q) c n (refuting f)
 
     pub pawn-met : (v : Move) → w ≡ Weighed.Met v
-        → Verdict.Right (BestMove.Play v) ≡ verdict_of (pawn_bytes run table) c (pawn_at q)
+        → Verdict.Right (Some v) ≡ verdict_of (pawn_bytes run table) c (pawn_at q)
     pawn-met v f =
         let t = clear-met v f in list-met (pawn_bytes run table) (pawn_at q) c n t.0 v t.1
 

@@ -1,6 +1,6 @@
 -- The verdict on a byte, and whether a depth is required, by the moves of a list: one that refutes it, the first that
 -- suits, or none.
-use Rattle.std.specs.Prelude.{◌≡◌, Bool, ℕ, ◌+◌, ◌≤◌, T}
+use Rattle.std.specs.Prelude.{◌≡◌, Bool, ℕ, ◌+◌, ◌≤◌, T, None, Some}
 use Rattle.std.proofs.Math.Path.{refl, sym}
 use Rattle.std.proofs.Common.{ap, subst, ◌∙◌, arith}
 use Rattle.std.proofs.Math.Bool.{true, false, cond}
@@ -18,7 +18,6 @@ use Rattle.theory.proofs.laws.Judge as judging
 use Rattle.rules.specs.declared.Move.{Move}
 use Rattle.rules.specs.Rules.{Board, empty, in_check, moves}
 use Rattle.rules.specs.Chess.{chess, played}
-use Rattle.answers.specs.declared.BestMove.{BestMove}
 use Rattle.endings.specs.Answers.{advice_of}
 use Rattle.successors.specs.declared.Verdict.{Verdict}
 use Rattle.successors.specs.Successors.{suited_from, verdict_of}
@@ -80,10 +79,10 @@ module _ (byte : Board → ℕ) (b : Board) (c : ℕ) where
     list-refuted t = wrong byte b c (refuted-other (omega arith) t)
 
     pub list-met : any (λ v. refutes c (byte (played b v))) (moves b) ≡ false → (v : Move) → first_suiting ≡ some v
-        → Verdict.Right (BestMove.Play v) ≡ verdict_of byte c b
+        → Verdict.Right (Some v) ≡ verdict_of byte c b
     list-met clear v e =
         let o = first_out (λ v. suits c (byte (played b v))) (moves b) v e in
-        right byte b c (met-required (omega arith) (refuted clear) v o.0 o.1) (BestMove.Play v)
+        right byte b c (met-required (omega arith) (refuted clear) v o.0 o.1) (Some v)
         (unfold suited_from in sym (ap advice_of e))
 
     pub list-unmet : first_suiting ≡ none → end_of c b ≡ verdict_of byte c b
@@ -91,21 +90,21 @@ module _ (byte : Board → ℕ) (b : Board) (c : ℕ) where
     list-unmet e = go (moves b) refl
       where
         over : moves b ≡ [] → (x : Bool) → eqb c (cond (in_check b b.side) 2 1) ≡ x
-            → cond x (Verdict.Right BestMove.NoMove) Verdict.Wrong ≡ verdict_of byte c b
+            → cond x (Verdict.Right None) Verdict.Wrong ≡ verdict_of byte c b
         over z true q =
-            right byte b c (required-over byte b z ∙ sym (eqb-true c (cond (in_check b b.side) 2 1) q)) BestMove.NoMove
+            right byte b c (required-over byte b z ∙ sym (eqb-true c (cond (in_check b b.side) 2 1) q)) None
             (unfold suited_from in sym (ap advice_of e))
         over z false q =
             wrong byte b c (λ r. eqb-false c (cond (in_check b b.side) 2 1) q (sym r ∙ required-over byte b z))
 
         go : (l : List Move) → moves b ≡ l
             → cond (empty (moves b))
-            (cond (eqb c (cond (in_check b b.side) 2 1)) (Verdict.Right BestMove.NoMove) Verdict.Wrong) Verdict.Wrong
+            (cond (eqb c (cond (in_check b b.side) 2 1)) (Verdict.Right None) Verdict.Wrong) Verdict.Wrong
             ≡ verdict_of byte c b
         go [] z = rw z (over z (eqb c (cond (in_check b b.side) 2 1)) refl)
         go (x ∷ l) z =
             ap (λ (l : List Move). cond (empty l)
-            (cond (eqb c (cond (in_check b b.side) 2 1)) (Verdict.Right BestMove.NoMove) Verdict.Wrong) Verdict.Wrong) z
+            (cond (eqb c (cond (in_check b b.side) 2 1)) (Verdict.Right None) Verdict.Wrong) Verdict.Wrong) z
             ∙ wrong byte b c (λ r. let y = sym z ∙ unmet-over (omega arith) e r in
             let w : ◌≡◌ {A = ℕ} 0 1 = cc in omega arith)
 

@@ -1,5 +1,5 @@
 -- 01's positions to keep by the bench, those marked to be shown of the definitions: one list, one claim.
-use Rattle.std.specs.Prelude.{◌≡◌, refl, ℕ, ◌<◌}
+use Rattle.std.specs.Prelude.{◌≡◌, refl, ℕ, ◌<◌, Err, Ok}
 use Rattle.std.proofs.Common.{subst, sym, ⊎_elim, arith, lit<}
 use mathlib.Core.List.Memᴰ
 use mathlib.Core.List.{List, [], ◌∷◌, flat_map}
@@ -27,8 +27,6 @@ use Rattle.numbering.specs.Number.{arranged, ruling_map, ruling_order, normalise
 use Rattle.position.specs.declared.Position.{Position}
 use Rattle.position.specs.Keyed.{board_of, lone}
 use Rattle.position.specs.Refusals.{bad_side, bad_square, bad_pawn, shared_square, placing_refusal, standing_refusal}
-use Rattle.index.specs.declared.NumberAnswer.{NumberAnswer}
-use Rattle.index.specs.declared.Placed.{Placed}
 use Rattle.index.specs.Answers.{number_answer, position_at, unused, placed_at}
 use Rattle.index.proofs.laws.AnswerLaws.{placed-above, placed-unused, placed-used}
 use Rattle.endings.specs.Ending.{table_size}
@@ -44,13 +42,13 @@ pub data Case : Type 0 where
 
 -- What a case says. A number is spoken of with any man.
 abbrev pub CaseHolds : Case → Type 0
-CaseHolds (has-number p n) = number_answer p ≡ NumberAnswer.Number n
-CaseHolds (refused p r) = number_answer p ≡ NumberAnswer.Refused r
-CaseHolds (back-refused n r) = (kind : ℕ) → kind < 4 → placed_at kind n ≡ Placed.Refused r
+CaseHolds (has-number p n) = number_answer p ≡ Ok n
+CaseHolds (refused p r) = number_answer p ≡ Err r
+CaseHolds (back-refused n r) = (kind : ℕ) → kind < 4 → placed_at kind n ≡ Err r
 CaseHolds (highest-used n) =
     (kind : ℕ) → kind < 4
-    → (placed_at kind n ≡ Placed.At (position_at kind n))
-    × ((k : ℕ) → n < k → k < table_size → placed_at kind k ≡ Placed.Refused 9)
+    → (placed_at kind n ≡ Ok (position_at kind n))
+    × ((k : ℕ) → n < k → k < table_size → placed_at kind k ≡ Err 9)
 CaseHolds (lost-in-0 p) = (standing_refusal p ≡ 0) × LostIn chess 0 (board_of p) × (moves (board_of p) ≡ [])
 CaseHolds (drawn-no-move p) = (standing_refusal p ≡ 0) × Drawn chess (board_of p) × (moves (board_of p) ≡ [])
 

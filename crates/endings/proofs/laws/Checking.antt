@@ -1,5 +1,5 @@
 -- Checking accepts a table exactly when it is the true one (demand 2).
-use Rattle.std.specs.Prelude.{◌≡◌, refl, Bool, true, false, cond, not, ◌↔◌, List, ℕ, ◌<◌, ◌≤◌, T, leb, ltb, eqb, length, get_or}
+use Rattle.std.specs.Prelude.{◌≡◌, refl, Bool, true, false, cond, not, ◌↔◌, List, ℕ, ◌<◌, ◌≤◌, T, leb, ltb, eqb, length, get_or, Err, Ok, Result}
 use Rattle.std.proofs.Common.{sym, subst, ◌∙◌, inr}
 use Rattle.std.proofs.Math.Path.{fun_ext}
 use native.Mathlib.Omega.{arith}
@@ -68,8 +68,8 @@ true-chess kind t = (forth, back)
 
 -- the one way to be accepted
 accepted-by : (a b c : Bool) (n : ℕ)
-    → cond {A = Checked} a (Checked.Refused 1)
-    (cond (not b) (Checked.Refused 7) (cond c (Checked.Wrong n) Checked.Accepted)) ≡ Checked.Accepted
+    → cond {A = (Result Checked ℕ)} a (Err 1)
+    (cond (not b) (Err 7) (cond c (Ok (Checked.Wrong n)) (Ok Checked.Accepted))) ≡ Ok Checked.Accepted
     → (a ≡ false) × (b ≡ true) × (c ≡ false)
 accepted-by true b c n e = let z : ◌≡◌ {A = ℕ} 0 1 = cc in absurd (omega arith)
 accepted-by false false c n e = let z : ◌≡◌ {A = ℕ} 0 1 = cc in absurd (omega arith)
@@ -90,16 +90,16 @@ module _ (kind : ℕ) (t : List ℕ) where
 
   -- the checker's answer where nothing is refused
   asked : kind < 4 → length t ≡ table_size
-      → check_of kind t ≡ cond (ltb low table_size) (Checked.Wrong low) Checked.Accepted
+      → check_of kind t ≡ cond (ltb low table_size) (Ok (Checked.Wrong low)) (Ok Checked.Accepted)
   unfolding check_of
   asked h e = rw (lt-leb 4 kind h, eq-eqb (length t) table_size e)
 
   -- Checking accepts a table if and only if it is the true one, whoever made it.
-  pub accepts-true-only : (check_of kind t ≡ Checked.Accepted) ↔ ((kind < 4) × (length t ≡ table_size) × TrueTable kind t)
+  pub accepts-true-only : (check_of kind t ≡ Ok Checked.Accepted) ↔ ((kind < 4) × (length t ≡ table_size) × TrueTable kind t)
   unfolding check_of
   accepts-true-only = (forth, back)
     where
-      forth : check_of kind t ≡ Checked.Accepted → (kind < 4) × (length t ≡ table_size) × TrueTable kind t
+      forth : check_of kind t ≡ Ok Checked.Accepted → (kind < 4) × (length t ≡ table_size) × TrueTable kind t
       forth e =
           let r = accepted-by (leb 4 kind) (eqb (length t) table_size) (ltb low table_size) low e in (
             leb-false 4 kind r.0,
@@ -109,20 +109,20 @@ module _ (kind : ℕ) (t : List ℕ) where
                 (none-wrong.0 (ltb-false low table_size r.2))),
           )
 
-      back : (kind < 4) × (length t ≡ table_size) × TrueTable kind t → check_of kind t ≡ Checked.Accepted
+      back : (kind < 4) × (length t ≡ table_size) × TrueTable kind t → check_of kind t ≡ Ok Checked.Accepted
       back x = asked x.0 x.1
           ∙ rw (le-ltb low table_size
           (none-wrong.1
           (true-accepted chess (ending kind) (lawful kind) t (outer-true kind) ((true-chess kind t).1 x.2))))
 
-  pub accepted-ending : check_of kind t ≡ Checked.Accepted
+  pub accepted-ending : check_of kind t ≡ Ok Checked.Accepted
       → (kind < 4) × (length t ≡ table_size) × Accepted chess (ending kind) t
   unfolding check_of
   accepted-ending e = let r = accepted-by (leb 4 kind) (eqb (length t) table_size) (ltb low table_size) low e in
       (leb-false 4 kind r.0, eqb-true (length t) table_size r.1, none-wrong.0 (ltb-false low table_size r.2))
 
 -- what checking is by its definition, it is in truth
-pub check-promised : (kind : ℕ) (t : List ℕ) (r : Checked) → r ≡ check_of kind t → CheckPromise kind t r
+pub check-promised : (kind : ℕ) (t : List ℕ) (r : Result Checked ℕ) → r ≡ check_of kind t → CheckPromise kind t r
 check-promised kind t r e = record {
   answered = e;
   true-only = let w = accepts-true-only kind t in (λ a. w.0 (sym e ∙ a), λ x. e ∙ w.1 x);

@@ -1,17 +1,16 @@
 -- After a fill every legal position's byte is its true value and depth; the checker accepts it; refusal 10 is given exactly where a depth
 -- exceeds 253, and leaves the table all zero (demand 2).
-use Rattle.std.specs.Prelude.{◌≡◌, refl, not, ◌↔◌, List, ℕ, ◌<◌, ◌≤◌, T, length, get_or}
+use Rattle.std.specs.Prelude.{◌≡◌, refl, not, ◌↔◌, List, ℕ, ◌<◌, ◌≤◌, T, length, get_or, Ok, Err, Result, Some, None, Option}
 use Rattle.std.proofs.Common.{sym, ap₂, subst, ◌∙◌, inr, arith}
 use borrow.Author.Tests.{lt-leb, le-leb, eq-eqb, ne_eqb}
 use Rattle.theory.proofs.laws.TrueBytes.{byte-is}
-use Rattle.table_theory.specs.Tables.{Result, undecided, deepest, too_deep, Outcome, filled}
+use Rattle.table_theory.specs.Tables.{Result as FillEnd, undecided, deepest, too_deep, Outcome, filled}
 use Rattle.table_theory.proofs.laws.Acceptance.{one-true-table}
 use Rattle.table_theory.proofs.laws.Filling.{SomeDepth, FillRight, fill-right, filled-small, filled-length}
 use Rattle.rules.specs.declared.Piece.{Piece}
 use Rattle.rules.specs.Rules.{empty}
 use Rattle.rules.specs.Chess.{chess}
 use Rattle.numbering.specs.Number.{number_of}
-use Rattle.answers.specs.declared.Filled as declared
 use Rattle.answers.specs.declared.Checked.{Checked}
 use Rattle.endings.specs.Ending.{table_size, ending}
 use Rattle.endings.proofs.laws.EndingLaws.{has-man, lawful, outer-true, outer-drawn}
@@ -46,7 +45,7 @@ module _ (kind : ℕ) (t : List ℕ) (known : kind < 4) (long : length t ≡ tab
         d.3,
       )
 
-      go : (r : Result) (u : List ℕ) → FillRight chess (ending kind) (lawful kind) r u
+      go : (r : FillEnd) (u : List ℕ) → FillRight chess (ending kind) (lawful kind) r u
           → FillTrue kind (record { answer = result_of r; bytes = u })
       go undecided u w = FillTrue.none-decided refl ((true-chess kind u).0 w.0) (λ n d. w.1 n (back n d))
       go (deepest n) u w =
@@ -61,30 +60,30 @@ module _ (kind : ℕ) (t : List ℕ) (known : kind < 4) (long : length t ≡ tab
   fill-keeps-length = rw fill_is (filled-length chess (ending kind) t ∙ long)
 
   -- 10 is given exactly where a depth exceeds 253
-  pub refused-10 : ((fill_of kind t).answer ≡ declared.Filled.Refused 10) ↔ ((n : ℕ) × (253 < n) × Decided kind n)
+  pub refused-10 : ((fill_of kind t).answer ≡ Err 10) ↔ ((n : ℕ) × (253 < n) × Decided kind n)
   refused-10 = (forth filled-true, back filled-true)
     where
-      forth : FillTrue kind (fill_of kind t) → (fill_of kind t).answer ≡ declared.Filled.Refused 10
+      forth : FillTrue kind (fill_of kind t) → (fill_of kind t).answer ≡ Err 10
           → (n : ℕ) × (253 < n) × Decided kind n
       forth (FillTrue.greatest n e w d m l) f = let z : ◌≡◌ {A = ℕ} 0 1 = cc in absurd (omega arith)
       forth (FillTrue.none-decided e w d) f = let z : ◌≡◌ {A = ℕ} 0 1 = cc in absurd (omega arith)
       forth (FillTrue.too-deep e z n h d) f = (n, h, d)
 
       back : FillTrue kind (fill_of kind t) → (n : ℕ) × (253 < n) × Decided kind n
-          → (fill_of kind t).answer ≡ declared.Filled.Refused 10
+          → (fill_of kind t).answer ≡ Err 10
       back (FillTrue.greatest n e w d m l) x = absurd (omega (arith, m x.0 x.2, x.1))
       back (FillTrue.none-decided e w d) x = absurd (d x.0 x.2)
       back (FillTrue.too-deep e z n h d) x = e
 
   -- a table that filling wrote is accepted
-  pub filled-accepted : ((fill_of kind t).answer ≡ declared.Filled.Refused 10 → ⊥)
-      → check_of kind (fill_of kind t).bytes ≡ Checked.Accepted
+  pub filled-accepted : ((fill_of kind t).answer ≡ Err 10 → ⊥)
+      → check_of kind (fill_of kind t).bytes ≡ Ok Checked.Accepted
   filled-accepted no? = go filled-true
     where
-      accept : TrueTable kind (fill_of kind t).bytes → check_of kind (fill_of kind t).bytes ≡ Checked.Accepted
+      accept : TrueTable kind (fill_of kind t).bytes → check_of kind (fill_of kind t).bytes ≡ Ok Checked.Accepted
       accept w = (accepts-true-only kind (fill_of kind t).bytes).1 (known, fill-keeps-length, w)
 
-      go : FillTrue kind (fill_of kind t) → check_of kind (fill_of kind t).bytes ≡ Checked.Accepted
+      go : FillTrue kind (fill_of kind t) → check_of kind (fill_of kind t).bytes ≡ Ok Checked.Accepted
       go (FillTrue.greatest n e w d m l) = accept w
       go (FillTrue.none-decided e w d) = accept w
       go (FillTrue.too-deep e z n h d) = absurd (no? e)
@@ -96,7 +95,7 @@ true-shallow kind t w small n h d =
     omega (arith, small (number_of d.0), e, h)
 
 -- the checker accepts one table for each ending
-pub one-accepted : (kind : ℕ) (t u : List ℕ) → check_of kind t ≡ Checked.Accepted → check_of kind u ≡ Checked.Accepted
+pub one-accepted : (kind : ℕ) (t u : List ℕ) → check_of kind t ≡ Ok Checked.Accepted → check_of kind u ≡ Ok Checked.Accepted
     → t ≡ u
 unfolding ending
 one-accepted kind t u a b =
@@ -107,12 +106,12 @@ one-accepted kind t u a b =
 -- ---- on any input
 
 pub fill-man : (kind : ℕ) (t : List ℕ) → 4 ≤ kind
-    → (declared.Filled.Refused 1 ≡ (fill_of kind t).answer) × (t ≡ (fill_of kind t).bytes)
+    → (Err 1 ≡ (fill_of kind t).answer) × (t ≡ (fill_of kind t).bytes)
 unfolding fill_of
 fill-man kind t h = (sym (rw (le-leb 4 kind h)), sym (rw (le-leb 4 kind h)))
 
 pub fill-length : (kind : ℕ) (t : List ℕ) → kind < 4 → (length t ≡ table_size → ⊥)
-    → (declared.Filled.Refused 7 ≡ (fill_of kind t).answer) × (t ≡ (fill_of kind t).bytes)
+    → (Err 7 ≡ (fill_of kind t).answer) × (t ≡ (fill_of kind t).bytes)
 unfolding fill_of
 fill-length kind t h n = (
   sym (rw (lt-leb 4 kind h, ne_eqb (length t) table_size n)),
@@ -120,7 +119,7 @@ fill-length kind t h n = (
 )
 
 -- what filling is by its definition, it is in truth
-pub fill-promised : (kind : ℕ) (t : List ℕ) (a : declared.Filled) (u : List ℕ) → a ≡ (fill_of kind t).answer
+pub fill-promised : (kind : ℕ) (t : List ℕ) (a : Result (Option ℕ) ℕ) (u : List ℕ) → a ≡ (fill_of kind t).answer
     → u ≡ (fill_of kind t).bytes → FillPromise kind t a u
 fill-promised kind t a u e f = record {
   answered = e;
@@ -128,6 +127,6 @@ fill-promised kind t a u e f = record {
   refused-1 = λ h. let w = fill-man kind t h in (e ∙ sym w.0, f ∙ sym w.1);
   refused-7 = λ h n. let w = fill-length kind t h n in (e ∙ sym w.0, f ∙ sym w.1);
   else-true = λ h l. subst (FillTrue kind)
-      (ap₂ (λ (x : declared.Filled) (y : List ℕ). record { answer = x; bytes = y }) (sym e) (sym f))
+      (ap₂ (λ (x : Result (Option ℕ) ℕ) (y : List ℕ). record { answer = x; bytes = y }) (sym e) (sym f))
       (filled-true kind t h l);
 }

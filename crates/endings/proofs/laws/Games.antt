@@ -1,6 +1,7 @@
 -- DEMAND 3, in one theorem: every list of legal moves from any legal position of an ending, in which one side, either one, plays the moves
 -- that look-up gives with a table that checking accepted.
-use Rattle.std.specs.Prelude.{◌≡◌, refl, Bool, true, false, ◌⊎◌, ℕ, ◌-◌, ◌%◌, T, leb, eqb, take}
+use Rattle.answers.specs.Advice.{BestMove}
+use Rattle.std.specs.Prelude.{◌≡◌, refl, Bool, true, false, ◌⊎◌, ℕ, ◌-◌, ◌%◌, T, leb, eqb, take, Ok, Result}
 use Rattle.std.proofs.Common.{sym, ap, subst, ◌∙◌, inl, inr, eqb-true}
 use Rattle.std.proofs.Math.Bool.{cond}
 use mathlib.Core.List.{List, [], ◌∷◌, ◌++◌}
@@ -19,7 +20,6 @@ use Rattle.position.specs.declared.Position.{Position}
 use Rattle.position.specs.Keyed.{slot_men, board_of, one_man, man_kind}
 use Rattle.position.specs.Refusals.{standing_refusal}
 use Rattle.position.proofs.laws.Legality.{one-standing}
-use Rattle.answers.specs.declared.BestMove.{BestMove}
 use Rattle.answers.specs.declared.Answer.{Answer}
 use Rattle.answers.specs.declared.Checked.{Checked}
 use Rattle.endings.specs.Ending.{Lone, Ending, byte_of}
@@ -67,27 +67,27 @@ pub answer-move : (n : ℕ) (a : BestMove) → move_of_answer (answer_of n a) �
 unfolding answer_of
 answer-move n a = go (leb n 1) (eqb (n % 2) 1)
   where
-    go : (x y : Bool) → move_of_answer (cond x (Answer.Draw a)
-        (cond y (Answer.Win (n - 2) a) (Answer.Loss (n - 2) a))) ≡ given a
+    go : (x y : Bool) → move_of_answer (cond x (Ok (Answer.Draw a))
+        (cond y (Ok (Answer.Win (n - 2) a)) (Ok (Answer.Loss (n - 2) a)))) ≡ given a
     go true y = refl
     go false true = refl
     go false false = refl
 
 -- from what is promised of a value to what is promised of its name
-pub told-by : {by : Board → Symmetry} {normal : Board → Board} (bytes : Board → ℕ) (pick : Board → Option Move) (side : Bool) (b : Board) (ms : List Move) (a : Answer)
+pub told-by : {by : Board → Symmetry} {normal : Board → Board} (bytes : Board → ℕ) (pick : Board → Option Move) (side : Bool) (b : Board) (ms : List Move) (a : Result Answer ℕ)
     → TrueAnswerBy by normal b a → Promised chess bytes pick side b ms → Told a side b ms
 told-by bytes pick side b ms a (TrueAnswerBy.won n m w f e) p =
-    subst (λ (c : Answer). Told c side b ms) (sym e) (p.won n w, p.won-other n w)
+    subst (λ (c : Result Answer ℕ). Told c side b ms) (sym e) (p.won n w, p.won-other n w)
 told-by bytes pick side b ms a (TrueAnswerBy.lost n m w f e) p =
-    subst (λ (c : Answer). Told c side b ms) (sym e) (p.lost-other n w, p.lost n w)
+    subst (λ (c : Result Answer ℕ). Told c side b ms) (sym e) (p.lost-other n w, p.lost n w)
 told-by bytes pick side b ms a (TrueAnswerBy.mate w o e) p =
-    subst (λ (c : Answer). Told c side b ms) (sym e) (p.lost-other 0 w, p.lost 0 w)
+    subst (λ (c : Result Answer ℕ). Told c side b ms) (sym e) (p.lost-other 0 w, p.lost 0 w)
 told-by bytes pick side b ms a (TrueAnswerBy.drawn m w f e) p =
-    subst (λ (c : Answer). Told c side b ms) (sym e) (p.drawn w)
+    subst (λ (c : Result Answer ℕ). Told c side b ms) (sym e) (p.drawn w)
 told-by bytes pick side b ms a (TrueAnswerBy.stalemate w o e) p =
-    subst (λ (c : Answer). Told c side b ms) (sym e) (p.drawn w)
+    subst (λ (c : Result Answer ℕ). Told c side b ms) (sym e) (p.drawn w)
 
-module _ (kind : ℕ) (t : List ℕ) (ok : check_of kind t ≡ Checked.Accepted) where
+module _ (kind : ℕ) (t : List ℕ) (ok : check_of kind t ≡ Ok Checked.Accepted) where
   keyed-standing : (b : Board) → Ending kind b → Lone kind b → standing_refusal (keyed b) ≡ 0
   keyed-standing b d l =
       let p = one_man kind l.0 b.side b.white l.1.0 b.black in

@@ -1,5 +1,5 @@
 -- Look-up on an accepted table never refuses a legal position of the ending, and answers its true value and depth (demand 2).
-use Rattle.std.specs.Prelude.{◌≡◌, refl, ◌⊎◌, ◌↔◌, ℕ, zero, suc, ◌+◌, ◌-◌, ◌%◌, ◌≤◌, T, length}
+use Rattle.std.specs.Prelude.{◌≡◌, refl, ◌⊎◌, ◌↔◌, ℕ, zero, suc, ◌+◌, ◌-◌, ◌%◌, ◌≤◌, T, length, None, Option, Some, Ok}
 use Rattle.std.proofs.Common.{sym, ap, ◌∙◌, inl, inr, arith}
 use Rattle.std.proofs.Math.Path.{subst}
 use mathlib.Core.List.Memᴰ
@@ -25,7 +25,6 @@ use Rattle.numbering.specs.Number.{normalised}
 use Rattle.position.specs.declared.Position.{Position}
 use Rattle.position.specs.Keyed.{board_of, man_kind}
 use Rattle.position.specs.Refusals.{standing_refusal}
-use Rattle.answers.specs.declared.BestMove.{BestMove}
 use Rattle.answers.specs.declared.Answer.{Answer}
 use Rattle.answers.specs.declared.Checked.{Checked}
 use Rattle.endings.specs.Ending.{Ending, table_size, byte_of, ending}
@@ -39,18 +38,18 @@ use Rattle.endings.proofs.laws.Turning.{CarriesBy, normal-ending, ending-carries
 
 -- ---- the answer of a true byte
 
-answer-win : (n : ℕ) (a : BestMove) → n % 2 ≡ 1 → answer_of (2 + n) a ≡ Answer.Win n a
+answer-win : (n : ℕ) (a : Option Move) → n % 2 ≡ 1 → answer_of (2 + n) a ≡ Ok (Answer.Win n a)
 unfolding answer_of
 answer-win n a e =
     let z : 2 + n - 2 ≡ n = omega arith in rw (lt-leb (2 + n) 1 (omega arith), eq-eqb ((2 + n) % 2) 1 (omega arith), z)
 
-answer-loss : (n : ℕ) (a : BestMove) → n % 2 ≡ 0 → answer_of (2 + n) a ≡ Answer.Loss n a
+answer-loss : (n : ℕ) (a : Option Move) → n % 2 ≡ 0 → answer_of (2 + n) a ≡ Ok (Answer.Loss n a)
 unfolding answer_of
 answer-loss n a e =
     let z : 2 + n - 2 ≡ n = omega arith in
     rw (lt-leb (2 + n) 1 (omega arith), ne_eqb ((2 + n) % 2) 1 (λ q. omega arith), z)
 
-answer-draw : (a : BestMove) → answer_of 1 a ≡ Answer.Draw a
+answer-draw : (a : Option Move) → answer_of 1 a ≡ Ok (Answer.Draw a)
 unfolding answer_of
 answer-draw a = refl
 
@@ -134,7 +133,7 @@ module _ {by : Board → Symmetry} {normal : Board → Board} (reads : Board →
       }
 
   chosen_of : (Sought : Board → Type 0) → Seeks reads Sought b → Seeks reads Sought (normal b) → (m : Move)
-      → chosen_by by normal reads b ≡ BestMove.Play m → ChosenBy by normal Sought b m
+      → chosen_by by normal reads b ≡ Some m → ChosenBy by normal Sought b m
   chosen_of Sought here there m e =
       let s = chosen-suits reads b c m e in
       record {
@@ -144,16 +143,16 @@ module _ {by : Board → Symmetry} {normal : Board → Board} (reads : Board →
             (mapped_move (by b) m) (chosen-first by normal reads b m e);
       }
 
-  pub over_none : Over chess b → chosen_by by normal reads b ≡ BestMove.NoMove
+  pub over_none : Over chess b → chosen_by by normal reads b ≡ None
   over_none o = go (chosen_by by normal reads b) (λ m e. (chosen-suits reads b c m e).0)
     where
-      go : (a : BestMove) → ((m : Move) → a ≡ BestMove.Play m → m ∈ moves b) → a ≡ BestMove.NoMove
-      go (BestMove.Play m) f = absurd (none_in o (f m refl))
-      go BestMove.NoMove f = refl
+      go : (a : Option Move) → ((m : Move) → a ≡ Some m → m ∈ moves b) → a ≡ None
+      go (Some m) f = absurd (none_in o (f m refl))
+      go None f = refl
 
   module _ (truth : TrueByte chess b (reads b)) (next : TrueNext reads b)
       (normal-next : TrueNext reads (normal b)) where
-    abbrev advice : BestMove
+    abbrev advice : Option Move
     advice = chosen_by by normal reads b
 
     -- a move where the game goes on
@@ -163,7 +162,7 @@ module _ {by : Board → Symmetry} {normal : Board → Board} (reads : Board →
     pub true-answer : Over chess b ⊎ Goes → TrueAnswerBy by normal b (answer_of (reads b) advice)
     true-answer g = go truth g
       where
-        play : (x : Goes) → advice ≡ BestMove.Play x.0
+        play : (x : Goes) → advice ≡ Some x.0
         play x = given-some advice x.0 x.1
 
         go : TrueByte chess b (reads b) → Over chess b ⊎ Goes → TrueAnswerBy by normal b (answer_of (reads b) advice)
@@ -172,26 +171,26 @@ module _ {by : Board → Symmetry} {normal : Board → Board} (reads : Board →
             let d = won-odd chess n b v in
             TrueAnswerBy.won n x.0 v (chosen_of (LostIn chess (n - 1)) (won-sought reads b next n d e)
             (won-sought reads (normal b) normal-next n d (c.own ∙ e)) x.0 (play x))
-            (rw (e, play x) (answer-win n (BestMove.Play x.0) d))
+            (rw (e, play x) (answer-win n (Some x.0) d))
         go (TrueByte.loss n v e) (inl o) =
             let z = lost-over b n v o in
             TrueAnswerBy.mate (subst (λ (k : ℕ). LostIn chess k b) z v) o
-            (rw (e, z, over_none o) (answer-loss 0 BestMove.NoMove refl))
+            (rw (e, z, over_none o) (answer-loss 0 None refl))
         go (TrueByte.loss n v e) (inr x) =
             let d = lost-even chess n b v in
             let h = lost-moves b n v x.0 x.2 in
             TrueAnswerBy.lost n x.0 v (chosen_of (WonIn chess (n - 1)) (lost-sought reads b next n d h e)
             (lost-sought reads (normal b) normal-next n d h (c.own ∙ e)) x.0 (play x))
-            (rw (e, play x) (answer-loss n (BestMove.Play x.0) d))
-        go (TrueByte.draw v e) (inl o) = TrueAnswerBy.stalemate v o (rw (e, over_none o) (answer-draw BestMove.NoMove))
+            (rw (e, play x) (answer-loss n (Some x.0) d))
+        go (TrueByte.draw v e) (inl o) = TrueAnswerBy.stalemate v o (rw (e, over_none o) (answer-draw None))
         go (TrueByte.draw v e) (inr x) =
             TrueAnswerBy.drawn x.0 v (chosen_of (Drawn chess) (draw-sought reads b next e)
             (draw-sought reads (normal b) normal-next (c.own ∙ e)) x.0 (play x))
-            (rw (e, play x) (answer-draw (BestMove.Play x.0)))
+            (rw (e, play x) (answer-draw (Some x.0)))
 
 -- ---- an accepted table
 
-module _ (kind : ℕ) (t : List ℕ) (ok : check_of kind t ≡ Checked.Accepted) where
+module _ (kind : ℕ) (t : List ℕ) (ok : check_of kind t ≡ Ok Checked.Accepted) where
   pub accepted-bytes : Consistent chess (Ending kind) (byte_of t)
   unfolding lawful
   accepted-bytes =

@@ -1,6 +1,7 @@
 -- Turning a position turns its move, but for the mirror pair where two maps fit: once for all eight maps, the colours exchanged
 -- or not, every table and every position (02, P5 and P9).
-use Rattle.std.specs.Prelude.{◌≡◌, refl, Bool, true, false, cond, not, List, ℕ, ◌-◌, ◌%◌, T, leb, eqb, length}
+use Rattle.rules.specs.declared.Move.{Move}
+use Rattle.std.specs.Prelude.{◌≡◌, refl, Bool, true, false, cond, not, List, ℕ, ◌-◌, ◌%◌, T, leb, eqb, length, None, Option, Some, Err, Ok, Result}
 use Rattle.std.proofs.Common.{sym, ◌∙◌}
 use Rattle.std.proofs.Math.Path.{ap}
 use borrow.Author.Tests.{eqb-true}
@@ -23,7 +24,6 @@ use Rattle.position.specs.Maps.{changed_position}
 use Rattle.position.proofs.laws.Legality.{standing-facts}
 use Rattle.position.proofs.laws.PlacedLaws.{ending_with}
 use Rattle.position.proofs.laws.ChangedRefusals.{change-board, standing-changed}
-use Rattle.answers.specs.declared.BestMove.{BestMove}
 use Rattle.answers.specs.declared.Answer.{Answer}
 use Rattle.endings.specs.Ending.{Lone, table_size, byte_of}
 use Rattle.endings.specs.Answers.{advice_of, answer_of, mapped_advice, mapped_answer, chosen_by, chosen, look_up_of}
@@ -36,15 +36,15 @@ use Rattle.endings.proofs.laws.Turning.{byte-turned, required-turned}
 -- ---- the chosen move
 
 -- by squares
-pub advice-by : (k m n : Symmetry) (a : BestMove) → ((s : ℕ) → mapped k s ≡ mapped m (mapped n s))
+pub advice-by : (k m n : Symmetry) (a : Option Move) → ((s : ℕ) → mapped k s ≡ mapped m (mapped n s))
     → mapped_advice k a ≡ mapped_advice m (mapped_advice n a)
-advice-by k m n (BestMove.Play v) h = rw (h v.from, h v.to)
-advice-by k m n BestMove.NoMove h = refl
+advice-by k m n (Some v) h = rw (h v.from, h v.to)
+advice-by k m n None h = refl
 
-pub advice-by-three : (k m x n : Symmetry) (a : BestMove) → ((s : ℕ) → mapped k s ≡ mapped m (mapped x (mapped n s)))
+pub advice-by-three : (k m x n : Symmetry) (a : Option Move) → ((s : ℕ) → mapped k s ≡ mapped m (mapped x (mapped n s)))
     → mapped_advice k a ≡ mapped_advice m (mapped_advice x (mapped_advice n a))
-advice-by-three k m x n (BestMove.Play v) h = rw (h v.from, h v.to)
-advice-by-three k m x n BestMove.NoMove h = refl
+advice-by-three k m x n (Some v) h = rw (h v.from, h v.to)
+advice-by-three k m x n None h = refl
 
 module _ (kind : ℕ) (t : List ℕ) (m : Symmetry) (x : Bool) (b : Board) (l : T (legal b)) (lone : Lone kind b) where
   abbrev c : Board
@@ -91,18 +91,18 @@ module _ (kind : ℕ) (t : List ℕ) (m : Symmetry) (x : Bool) (b : Board) (l : 
 -- ---- the answer
 
 -- a change of answers that changes the move alone
-pub record MovesOnly (f : Answer → Answer) (g : BestMove → BestMove) : Type 0 where
-  pub refused : (n : ℕ) → f (Answer.Refused n) ≡ Answer.Refused n
-  pub valued : (n : ℕ) (a : BestMove) → f (answer_of n a) ≡ answer_of n (g a)
+pub record MovesOnly (f : Result Answer ℕ → Result Answer ℕ) (g : Option Move → Option Move) : Type 0 where
+  pub refused : (n : ℕ) → f (Err n) ≡ Err n
+  pub valued : (n : ℕ) (a : Option Move) → f (answer_of n a) ≡ answer_of n (g a)
 
 pub mapped-only : (m : Symmetry) → MovesOnly (mapped_answer m) (mapped_advice m)
 unfolding answer_of
 mapped-only m = record { refused = λ n. refl; valued = λ n a. go n a (leb n 1) (eqb (n % 2) 1) }
   where
-    go : (n : ℕ) (a : BestMove) (x y : Bool)
-        → mapped_answer m (cond x (Answer.Draw a) (cond y (Answer.Win (n - 2) a) (Answer.Loss (n - 2) a))) ≡ cond x
-        (Answer.Draw (mapped_advice m a)) (cond y (Answer.Win (n - 2) (mapped_advice m a))
-        (Answer.Loss (n - 2) (mapped_advice m a)))
+    go : (n : ℕ) (a : Option Move) (x y : Bool)
+        → mapped_answer m (cond x (Ok (Answer.Draw a)) (cond y (Ok (Answer.Win (n - 2) a)) (Ok (Answer.Loss (n - 2) a)))) ≡ cond x
+        (Ok (Answer.Draw (mapped_advice m a))) (cond y (Ok (Answer.Win (n - 2) (mapped_advice m a)))
+        (Ok (Answer.Loss (n - 2) (mapped_advice m a))))
     go n a true y = refl
     go n a false true = refl
     go n a false false = refl
@@ -115,11 +115,11 @@ twice-only m k = record {
 }
 
 -- look-up's chain of tests: what stands, the table's length, the byte
-abbrev chain : Bool → Bool → Bool → ℕ → Answer → Answer
-chain a b c n x = cond (not a) (Answer.Refused n) (cond (not b) (Answer.Refused 7) (cond (not c) (Answer.Refused 11) x))
+abbrev chain : Bool → Bool → Bool → ℕ → Result Answer ℕ → Result Answer ℕ
+chain a b c n x = cond (not a) (Err n) (cond (not b) (Err 7) (cond (not c) (Err 11) x))
 
-module _ (f : Answer → Answer) (g : BestMove → BestMove) (only : MovesOnly f g) where
-  chain-turned : (a b c d : Bool) (n : ℕ) (x y : Answer) → (a ≡ true → d ≡ c) → (a ≡ true → y ≡ f x)
+module _ (f : Result Answer ℕ → Result Answer ℕ) (g : Option Move → Option Move) (only : MovesOnly f g) where
+  chain-turned : (a b c d : Bool) (n : ℕ) (x y : Result Answer ℕ) → (a ≡ true → d ≡ c) → (a ≡ true → y ≡ f x)
       → chain a b d n y ≡ f (chain a b c n x)
   chain-turned false b c d n x y h k = sym (only.refused n)
   chain-turned true false c d n x y h k = sym (only.refused 7)

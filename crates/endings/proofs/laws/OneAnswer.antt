@@ -1,5 +1,5 @@
 -- A board has one true answer: value, depth and move are all pinned by the rules of chess.
-use Rattle.std.specs.Prelude.{◌≡◌, refl, List, [], ◌∷◌, ◌++◌, ℕ, ◌-◌}
+use Rattle.std.specs.Prelude.{◌≡◌, refl, List, [], ◌∷◌, ◌++◌, ℕ, ◌-◌, Some, Ok, Result}
 use Rattle.std.proofs.Common.{sym, ap, subst, ◌∙◌}
 use mathlib.Core.List.Memᴰ
 use Rattle.finite.specs.Members.{◌∈◌, none_in}
@@ -12,7 +12,6 @@ use Rattle.rules.specs.Rules.{Board, moves}
 use Rattle.rules.specs.Changed.{mapped_move}
 use Rattle.rules.proofs.laws.Changed.{move-back}
 use Rattle.rules.specs.Chess.{chess, played}
-use Rattle.answers.specs.declared.BestMove.{BestMove}
 use Rattle.answers.specs.declared.Answer.{Answer}
 use Rattle.endings.specs.Truth.{First, ChosenBy, TrueAnswerBy}
 
@@ -58,24 +57,24 @@ module _ (b : Board) where
 
   one-won : {by : Board → Symmetry} {normal : Board → Board} (n k : ℕ) (m v : Move) → WonIn chess n b → WonIn chess k b → ChosenBy by normal (LostIn chess (n - 1)) b m
       → ChosenBy by normal (LostIn chess (k - 1)) b v
-      → Answer.Win n (BestMove.Play m) ≡ Answer.Win k (BestMove.Play v)
+      → ◌≡◌ {A = Result Answer ℕ} (Ok (Answer.Win n (Some m))) (Ok (Answer.Win k (Some v)))
   one-won {by} {normal} n k m v w x f g =
       let z = one-depth chess k n b (DepthIs.win x) (DepthIs.win w) in
       let h = subst (λ (j : ℕ). ChosenBy by normal (LostIn chess (j - 1)) b v) z g in
-      ap (λ (u : Move). Answer.Win n (BestMove.Play u)) (one-chosen _ b m v f h)
-      ∙ ap (λ (j : ℕ). Answer.Win j (BestMove.Play v)) (sym z)
+      ap (λ (u : Move). (Ok (Answer.Win n (Some u)))) (one-chosen _ b m v f h)
+      ∙ ap (λ (j : ℕ). (Ok (Answer.Win j (Some v)))) (sym z)
 
   one-lost : {by : Board → Symmetry} {normal : Board → Board} (n k : ℕ) (m v : Move) → LostIn chess n b → LostIn chess k b → ChosenBy by normal (WonIn chess (n - 1)) b m
       → ChosenBy by normal (WonIn chess (k - 1)) b v
-      → Answer.Loss n (BestMove.Play m) ≡ Answer.Loss k (BestMove.Play v)
+      → ◌≡◌ {A = Result Answer ℕ} (Ok (Answer.Loss n (Some m))) (Ok (Answer.Loss k (Some v)))
   one-lost {by} {normal} n k m v w x f g =
       let z = one-depth chess k n b (DepthIs.loss x) (DepthIs.loss w) in
       let h = subst (λ (j : ℕ). ChosenBy by normal (WonIn chess (j - 1)) b v) z g in
-      ap (λ (u : Move). Answer.Loss n (BestMove.Play u)) (one-chosen _ b m v f h)
-      ∙ ap (λ (j : ℕ). Answer.Loss j (BestMove.Play v)) (sym z)
+      ap (λ (u : Move). (Ok (Answer.Loss n (Some u)))) (one-chosen _ b m v f h)
+      ∙ ap (λ (j : ℕ). (Ok (Answer.Loss j (Some v)))) (sym z)
 
 -- a board's true answer is one
-pub one_answer : {by : Board → Symmetry} {normal : Board → Board} (b : Board) (a c : Answer)
+pub one_answer : {by : Board → Symmetry} {normal : Board → Board} (b : Board) (a c : Result Answer ℕ)
     → TrueAnswerBy by normal b a → TrueAnswerBy by normal b c → a ≡ c
 one_answer b a c (TrueAnswerBy.won n m w f e) (TrueAnswerBy.won k v x g d) = e ∙ one-won b n k m v w x f g ∙ sym d
 one_answer b a c (TrueAnswerBy.won n m w f e) (TrueAnswerBy.lost k v x g d) = absurd (not-both b n k w x)
@@ -96,7 +95,7 @@ one_answer b a c (TrueAnswerBy.drawn m w f e) (TrueAnswerBy.won k v x g d) = abs
 one_answer b a c (TrueAnswerBy.drawn m w f e) (TrueAnswerBy.lost k v x g d) = absurd (lost-drawn b k x w)
 one_answer b a c (TrueAnswerBy.drawn m w f e) (TrueAnswerBy.mate x o d) = absurd (lost-drawn b 0 x w)
 one_answer b a c (TrueAnswerBy.drawn m w f e) (TrueAnswerBy.drawn v x g d) =
-    e ∙ ap (λ (u : Move). Answer.Draw (BestMove.Play u)) (one-chosen _ b m v f g) ∙ sym d
+    e ∙ ap (λ (u : Move). (Ok (Answer.Draw (Some u)))) (one-chosen _ b m v f g) ∙ sym d
 one_answer b a c (TrueAnswerBy.drawn m w f e) (TrueAnswerBy.stalemate x o d) = absurd (no-chosen _ b m f o)
 one_answer b a c (TrueAnswerBy.stalemate w o e) (TrueAnswerBy.won k v x g d) = absurd (won-drawn b k x w)
 one_answer b a c (TrueAnswerBy.stalemate w o e) (TrueAnswerBy.lost k v x g d) = absurd (lost-drawn b k x w)

@@ -1,6 +1,7 @@
 -- Boards of an ending, their bytes, what these require and the moves that suit them go with the eight maps, the colours exchanged or not; so the move
 -- chosen on the normal board and carried back is a rule for ties.
-use Rattle.std.specs.Prelude.{◌≡◌, Bool, ◌⊎◌, List, [], ◌∷◌, map, ℕ, T}
+use Rattle.answers.specs.Advice.{BestMove}
+use Rattle.std.specs.Prelude.{◌≡◌, Bool, ◌⊎◌, List, [], ◌∷◌, map, ℕ, T, None, Some}
 use Rattle.std.proofs.Math.Path.{refl, ap, subst⁻¹}
 use Rattle.std.proofs.Common.{sym, ap₂, subst, ◌∙◌, inl, arith}
 use Rattle.std.proofs.Math.Bool.{true, false, cond, not}
@@ -25,7 +26,6 @@ use Rattle.rules.proofs.laws.ChessLaws.{moves-changed, played-changed}
 use Rattle.numbering.specs.Men.{first_black}
 use Rattle.numbering.specs.Number.{normal_by, normalised, number_of}
 use Rattle.numbering.proofs.laws.FitLaws.{few-normal}
-use Rattle.answers.specs.declared.BestMove.{BestMove}
 use Rattle.endings.specs.Ending.{Lone, Ending, byte_of}
 use Rattle.endings.specs.Answers.{advice_of, mapped_advice, chosen_by}
 use Rattle.endings.specs.GamePromise.{given}
@@ -115,18 +115,18 @@ module _ (kind : ℕ) (t : List ℕ) where
 
 -- ---- the chosen move
 
-found : (k : Symmetry) (o : Option Move) (m : Move) → mapped_advice (inverse k) (advice_of o) ≡ BestMove.Play m
+found : (k : Symmetry) (o : Option Move) (m : Move) → mapped_advice (inverse k) (advice_of o) ≡ Some m
     → o ≡ some (mapped_move k m)
 found k none m e = let z : ◌≡◌ {A = ℕ} 0 1 = cc in absurd (omega arith)
 found k (some v) m e =
     let z : mapped_move (inverse k) v ≡ m = cc in ap some (sym (move-forth k v) ∙ ap (mapped_move k) z)
 
-pub given-some : (a : BestMove) (m : Move) → given a ≡ some m → a ≡ BestMove.Play m
-given-some (BestMove.Play v) m e = cc
-given-some BestMove.NoMove m e = let z : ◌≡◌ {A = ℕ} 0 1 = cc in absurd (omega arith)
+pub given-some : (a : BestMove) (m : Move) → given a ≡ some m → a ≡ Some m
+given-some (Some v) m e = cc
+given-some None m e = let z : ◌≡◌ {A = ℕ} 0 1 = cc in absurd (omega arith)
 
 -- on the normal board it is the first that suits
-pub chosen-first : (by : Board → Symmetry) (normal : Board → Board) (reads : Board → ℕ) (b : Board) (m : Move) → chosen_by by normal reads b ≡ BestMove.Play m
+pub chosen-first : (by : Board → Symmetry) (normal : Board → Board) (reads : Board → ℕ) (b : Board) (m : Move) → chosen_by by normal reads b ≡ Some m
     → first_suited chess reads (normal b) ≡ some (mapped_move (by b) m)
 unfolding chosen_by
 chosen-first by normal reads b m e = found (by b) (first_suited chess reads (normal b)) m e
@@ -150,7 +150,7 @@ module _ {by : Board → Symmetry} {normal : Board → Board} (reads : Board →
       ∙ c.next (mapped_move (inverse (by b)) v) i in
       (i, subst T (ap₂ suits c.own e) s.1)
 
-  pub chosen-suits : (m : Move) → chosen_by by normal reads b ≡ BestMove.Play m → Suited reads b m
+  pub chosen-suits : (m : Move) → chosen_by by normal reads b ≡ Some m → Suited reads b m
   chosen-suits m e =
       let v = mapped_move (by b) m in
       subst (Suited reads b) (move-back (by b) m)

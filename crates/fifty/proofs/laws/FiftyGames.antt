@@ -1,7 +1,8 @@
 -- P13, with DEMAND 3 in it: every list of legal moves from any legal position of an ending, of pieces or of a pawn, in
 -- which one side, either one, plays the moves that look-up gives with accepted tables, at whatever counts from 0 to 99.
 -- From a marked position the winner mates before the loser may claim, whatever the replies and captures.
-use Rattle.std.specs.Prelude.{◌≡◌, Bool, true, false, cond, not, ◌&&◌, ◌↔◌, List, [], ◌∷◌, ℕ, ◌+◌, ◌≤◌, T, leb, ltb, length}
+use Rattle.answers.specs.Advice.{BestMove}
+use Rattle.std.specs.Prelude.{◌≡◌, Bool, true, false, cond, not, ◌&&◌, ◌↔◌, List, [], ◌∷◌, ℕ, ◌+◌, ◌≤◌, T, leb, ltb, length, None, Some, Err, Ok, Result}
 use Rattle.std.proofs.Math.Path.{refl, ap}
 use Rattle.std.proofs.Common.{sym, subst, ◌∙◌, inl, arith, leb→le, le→leb, le-ltb}
 use Rattle.std.proofs.Math.Option.{Option, none}
@@ -17,7 +18,6 @@ use Rattle.rules.specs.Pawn.{pawn}
 use Rattle.rules.specs.Rules.{Board, empty, legal}
 use Rattle.rules.proofs.laws.Legal.{legal-pawnless}
 use Rattle.rules.specs.Chess.{chess}
-use Rattle.answers.specs.declared.BestMove.{BestMove}
 use Rattle.answers.specs.declared.Answer.{Answer}
 use Rattle.answers.specs.declared.Checked.{Checked}
 use Rattle.endings.specs.Ending.{Lone, byte_of}
@@ -45,29 +45,29 @@ use Rattle.fifty.specs.FiftyPromise.{zeroing, answer_at, answer_at_with, move_at
 use Rattle.fifty.proofs.laws.Pawnless.{both_of, within-at, keyed-pawnless, stays-pawnless}
 
 -- at a count from 0 to 99 the answer is look-up's own
-at-99 : (c : ℕ) (a : Answer) → c ≤ 99 → at_count c a ≡ a
+at-99 : (c : ℕ) (a : Result Answer ℕ) → c ≤ 99 → at_count c a ≡ a
 unfolding at_count
 at-99 c a h = go (is_refused a)
   where
-    go : (r : Bool) → cond r a (cond (ltb 99 c) (Answer.Refused 19) a) ≡ a
+    go : (r : Bool) → cond r a (cond (ltb 99 c) (Err 19) a) ≡ a
     go true = refl
     go false = rw (le-ltb 99 c h)
 
 -- ---- one answer and its mark
 
 -- what a true answer calls a board, without its move
-data Called (b : Board) (a : Answer) : Type 0 where
-  won : (n : ℕ) (x : BestMove) → WonIn chess n b → a ≡ Answer.Win n x → Called b a
-  lost : (n : ℕ) (x : BestMove) → LostIn chess n b → a ≡ Answer.Loss n x → Called b a
-  drawn : (x : BestMove) → Drawn chess b → a ≡ Answer.Draw x → Called b a
+data Called (b : Board) (a : Result Answer ℕ) : Type 0 where
+  won : (n : ℕ) (x : BestMove) → WonIn chess n b → a ≡ Ok (Answer.Win n x) → Called b a
+  lost : (n : ℕ) (x : BestMove) → LostIn chess n b → a ≡ Ok (Answer.Loss n x) → Called b a
+  drawn : (x : BestMove) → Drawn chess b → a ≡ Ok (Answer.Draw x) → Called b a
 
-called-by : {by : Board → Symmetry} {normal : Board → Board} (b : Board) (a : Answer) → TrueAnswerBy by normal b a
+called-by : {by : Board → Symmetry} {normal : Board → Board} (b : Board) (a : Result Answer ℕ) → TrueAnswerBy by normal b a
     → Called b a
-called-by b a (TrueAnswerBy.won n m w f e) = Called.won n (BestMove.Play m) w e
-called-by b a (TrueAnswerBy.lost n m w f e) = Called.lost n (BestMove.Play m) w e
-called-by b a (TrueAnswerBy.mate w o e) = Called.lost 0 BestMove.NoMove w e
-called-by b a (TrueAnswerBy.drawn m w f e) = Called.drawn (BestMove.Play m) w e
-called-by b a (TrueAnswerBy.stalemate w o e) = Called.drawn BestMove.NoMove w e
+called-by b a (TrueAnswerBy.won n m w f e) = Called.won n (Some m) w e
+called-by b a (TrueAnswerBy.lost n m w f e) = Called.lost n (Some m) w e
+called-by b a (TrueAnswerBy.mate w o e) = Called.lost 0 None w e
+called-by b a (TrueAnswerBy.drawn m w f e) = Called.drawn (Some m) w e
+called-by b a (TrueAnswerBy.stalemate w o e) = Called.drawn None w e
 
 -- a board of depth n is marked exactly where the count and n make at most 100
 depth-within : (b : Board) (n c : ℕ) → DepthIs chess n b → T (leb (c + n) 100) ↔ Timely b c
@@ -76,31 +76,31 @@ depth-within b n c d = (
   λ w. let e = one-depth chess w.0 n b w.1 d in le→leb (c + n) 100 (omega (arith, w.2)),
 )
 
-marks-within : (b : Board) (c : ℕ) (a : Answer) → Called b a → T (marks c a) ↔ Timely b c
+marks-within : (b : Board) (c : ℕ) (a : Result Answer ℕ) → Called b a → T (marks c a) ↔ Timely b c
 marks-within b c a (Called.won n x w e) =
-    subst (λ (z : Answer). T (marks c z) ↔ Timely b c) (sym e) (depth-within b n c (DepthIs.win w))
+    subst (λ (z : Result Answer ℕ). T (marks c z) ↔ Timely b c) (sym e) (depth-within b n c (DepthIs.win w))
 marks-within b c a (Called.lost n x w e) =
-    subst (λ (z : Answer). T (marks c z) ↔ Timely b c) (sym e) (depth-within b n c (DepthIs.loss w))
+    subst (λ (z : Result Answer ℕ). T (marks c z) ↔ Timely b c) (sym e) (depth-within b n c (DepthIs.loss w))
 marks-within b c a (Called.drawn x w e) =
-    subst (λ (z : Answer). T (marks c z) ↔ Timely b c) (sym e)
+    subst (λ (z : Result Answer ℕ). T (marks c z) ↔ Timely b c) (sym e)
     (λ t. absurd t, λ v. absurd ((draw-is chess b).0 w v.0 v.1))
 
 module _ (reads : Board → ℕ) (pick : Board → Option Move) (side : Bool) (b : Board) (ms : List Move)
     (p : Promised chess reads pick side b ms) (c : ℕ) where
-  clear-by : (a : Answer) → Called b a → T (marks c a) → ClearBy a side b ms c
+  clear-by : (a : Result Answer ℕ) → Called b a → T (marks c a) → ClearBy a side b ms c
   clear-by a (Called.won n x w e) t =
-      let h = leb→le (c + n) 100 (subst (λ (z : Answer). T (marks c z)) e t) in
-      subst (λ (z : Answer). ClearBy z side b ms c) (sym e)
+      let h = leb→le (c + n) 100 (subst (λ (z : Result Answer ℕ). T (marks c z)) e t) in
+      subst (λ (z : Result Answer ℕ). ClearBy z side b ms c) (sym e)
       (λ f. won-clear chess zeroing reads pick side b ms p n c h w f)
   clear-by a (Called.lost n x w e) t =
-      let h = leb→le (c + n) 100 (subst (λ (z : Answer). T (marks c z)) e t) in
-      subst (λ (z : Answer). ClearBy z side b ms c) (sym e)
+      let h = leb→le (c + n) 100 (subst (λ (z : Result Answer ℕ). T (marks c z)) e t) in
+      subst (λ (z : Result Answer ℕ). ClearBy z side b ms c) (sym e)
       (λ f. lost-clear chess zeroing reads pick side b ms p n c h w f)
-  clear-by a (Called.drawn x w e) t = absurd (subst (λ (z : Answer). T (marks c z)) e t)
+  clear-by a (Called.drawn x w e) t = absurd (subst (λ (z : Result Answer ℕ). T (marks c z)) e t)
 
 -- ---- the answers at any counts, from what look-up answers without one
 
-module _ (looked : Board → Answer) (answer : Board → ℕ → Marked)
+module _ (looked : Board → Result Answer ℕ) (answer : Board → ℕ → Marked)
     (is : (b : Board) (c : ℕ) → (answer b c).answer ≡ at_count c (looked b)) where
   -- the answer at a count from 0 to 99, and its move, are look-up's own
   same_answer : (b : Board) (c : ℕ) → c ≤ 99 → (answer b c).answer ≡ looked b
@@ -110,7 +110,7 @@ module _ (looked : Board → Answer) (answer : Board → ℕ → Marked)
   own b = cond (empty b.men) none (move_of_answer (looked b))
 
   same_move : (b : Board) (c : ℕ) → c ≤ 99 → move_at answer c b ≡ own b
-  same_move b c h = ap (λ (a : Answer). cond (empty b.men) none (move_of_answer a)) (same_answer b c h)
+  same_move b c h = ap (λ (a : Result Answer ℕ). cond (empty b.men) none (move_of_answer a)) (same_answer b c h)
 
   module _ (pick : Board → Option Move) (by : ℕ → Board → Option Move)
       (counted : (b : Board) (c : ℕ) → c ≤ 99 → by c b ≡ pick b) where
@@ -122,7 +122,7 @@ module _ (looked : Board → Answer) (answer : Board → ℕ → Marked)
     )
 
   -- from the promise of the game
-  module _ (Truly : Board → Answer → Type 0) (tells : (b : Board) (a : Answer) → Truly b a → Called b a)
+  module _ (Truly : Board → Result Answer ℕ → Type 0) (tells : (b : Board) (a : Result Answer ℕ) → Truly b a → Called b a)
       (reads : Board → ℕ) (pick : Board → Option Move) (side : Bool) (b : Board) (ms : List Move)
       (called : Truly b (looked b))
       (answers : (i : ℕ) → i ≤ length ms → empty (at_ply chess b ms i).men ≡ false
@@ -135,7 +135,7 @@ module _ (looked : Board → Answer) (answer : Board → ℕ → Marked)
         ≡ (all (λ a. not (pawn a)) (at_ply chess b ms i).men && marks c (looked (at_ply chess b ms i)))
     same-mark i c h =
         marking i c
-        ∙ ap (λ (a : Answer). all (λ x. not (pawn x)) (at_ply chess b ms i).men && marks c a)
+        ∙ ap (λ (a : Result Answer ℕ). all (λ x. not (pawn x)) (at_ply chess b ms i).men && marks c a)
         (same_answer (at_ply chess b ms i) c h)
 
     at-counts : CountsPromise Truly answer side b ms
@@ -148,14 +148,14 @@ module _ (looked : Board → Answer) (answer : Board → ℕ → Marked)
           (both_of (all (λ a. not (pawn a)) q.men) (marks c (looked q))
           (marks-within q c (looked q) (tells q _ (answers i h n))));
       pawnless = λ f i h. free f i;
-      clear = λ c k x. subst (λ (a : Answer). ClearBy a side b ms c) (sym (same_answer b c k))
+      clear = λ c k x. subst (λ (a : Result Answer ℕ). ClearBy a side b ms c) (sym (same_answer b c k))
           (clear-by reads pick side b ms p c (looked b) (tells b _ called)
           (and_right (all (λ a. not (pawn a)) b.men) (marks c (looked b)) (subst T (same-mark 0 c k) x)));
     }
 
 -- ---- the game with one man
 
-abbrev looked-one : List ℕ → Board → Answer
+abbrev looked-one : List ℕ → Board → Result Answer ℕ
 looked-one t b = look_up_of t (keyed b)
 
 is_one : (t : List ℕ) (b : Board) (c : ℕ) → (answer_at t b c).answer ≡ at_count c (looked-one t b)
@@ -176,7 +176,7 @@ counted-desk t b c h = same_move (looked-one t) (answer_at t) (is_one t) b c h
 
 -- The table is accepted for the ending; b is a legal board of it; ms is a game from b; the side plays the desk's moves
 -- in it, at any counts.
-pub fifty-games : (kind : ℕ) (t : List ℕ) → check_of kind t ≡ Checked.Accepted → (b : Board) → T (legal b) → Lone kind b
+pub fifty-games : (kind : ℕ) (t : List ℕ) → check_of kind t ≡ Ok Checked.Accepted → (b : Board) → T (legal b) → Lone kind b
     → (side : Bool) (ms : List Move) → LegalGame chess b ms → PlaysCounted t side b ms → FiftyPromise t side b ms
 fifty-games kind t ok b l m side ms game plays = record {
   game = g;
@@ -215,7 +215,7 @@ module _ (m : Material) (l : Lent) (t : List ℕ) where
 
   -- The tables are accepted; b is a legal board of the ending; ms is a game from b; the side plays the desk's moves in
   -- it, at any counts.
-  pub fifty-games-with : check_with m l t ≡ Checked.Accepted → (b : Board) → T (legal_in m b) → OfMaterial m b
+  pub fifty-games-with : check_with m l t ≡ Ok Checked.Accepted → (b : Board) → T (legal_in m b) → OfMaterial m b
       → (side : Bool) (ms : List Move) → LegalGame chess b ms → PlaysCountedWith m l t side b ms
       → FiftyPromiseWith m l t side b ms
   fifty-games-with ok b g e side ms game plays = record {

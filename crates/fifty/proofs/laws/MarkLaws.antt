@@ -1,5 +1,5 @@
 -- What the code's steps make of an answer at a count.
-use Rattle.std.specs.Prelude.{◌≡◌, Bool, ◌&&◌, ℕ, ◌≤◌, ◌<◌}
+use Rattle.std.specs.Prelude.{◌≡◌, Bool, ◌&&◌, ℕ, ◌≤◌, ◌<◌, Err, Result}
 use Rattle.std.proofs.Math.Path.{sym}
 use Rattle.std.proofs.Common.{ap, ◌∙◌}
 use Rattle.std.proofs.Math.Bool.{true, false}
@@ -8,12 +8,12 @@ use Rattle.answers.specs.declared.Answer.{Answer}
 use Rattle.fifty.specs.declared.Marked.{Marked}
 use Rattle.fifty.specs.Marks.{marks, is_refused, at_count, marked_for}
 
-module _ (c : ℕ) (a : Answer) (r : Bool) (e : r ≡ is_refused a) where
+module _ (c : ℕ) (a : Result Answer ℕ) (r : Bool) (e : r ≡ is_refused a) where
   pub kept-refused : r ≡ true → a ≡ at_count c a
   unfolding at_count
   kept-refused t = let f : is_refused a ≡ true = sym e ∙ t in sym (rw f)
 
-  pub refused-19 : r ≡ false → 99 < c → Answer.Refused 19 ≡ at_count c a
+  pub refused-19 : r ≡ false → 99 < c → Err 19 ≡ at_count c a
   unfolding at_count
   refused-19 t h = let f : is_refused a ≡ false = sym e ∙ t in sym (rw (f, lt-ltb 99 c h))
 
@@ -22,14 +22,14 @@ module _ (c : ℕ) (a : Answer) (r : Bool) (e : r ≡ is_refused a) where
   kept-counted t h = let f : is_refused a ≡ false = sym e ∙ t in sym (rw (f, le-ltb 99 c h))
 
 -- an answer found, brought to the count, and marked
-pub marked-with : (free : Bool) (c : ℕ) (found answer : Answer) (mark : Bool) → answer ≡ at_count c found
+pub marked-with : (free : Bool) (c : ℕ) (found answer : Result Answer ℕ) (mark : Bool) → answer ≡ at_count c found
     → mark ≡ marks c answer
     → ◌≡◌ {A = Marked} (record { answer = answer; within_fifty = free && mark }) (marked_for free c (at_count c found))
 marked-with free c found answer mark f g =
     ap (λ (b : Bool). record { answer = answer; within_fifty = free && b }) g ∙ ap (marked_for free c) f
 
-pub marked-found : (free is : Bool) (c : ℕ) (found looked : Answer) (r : Marked) → free ≡ is → found ≡ looked
+pub marked-found : (free is : Bool) (c : ℕ) (found looked : Result Answer ℕ) (r : Marked) → free ≡ is → found ≡ looked
     → r ≡ marked_for free c (at_count c found) → r ≡ marked_for is c (at_count c looked)
 marked-found free is c found looked r f e h =
-    h ∙ ap (λ (a : Answer). marked_for free c (at_count c a)) e
+    h ∙ ap (λ (a : Result Answer ℕ). marked_for free c (at_count c a)) e
     ∙ ap (λ (x : Bool). marked_for x c (at_count c looked)) f

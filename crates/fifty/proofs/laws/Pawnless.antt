@@ -1,5 +1,5 @@
 -- Whether a position has a pawn, slot by slot and in a game.
-use Rattle.std.specs.Prelude.{◌≡◌, refl, Bool, true, false, ◌&&◌, ◌⊎◌, ◌↔◌, ℕ, take}
+use Rattle.std.specs.Prelude.{◌≡◌, refl, Bool, true, false, ◌&&◌, ◌⊎◌, ◌↔◌, ℕ, take, None, Option, Some}
 use Rattle.std.proofs.Common.{ap, inl, inr}
 use Rattle.std.proofs.Math.Path.{subst, subst⁻¹}
 use Rattle.std.proofs.Math.Bool.{not}
@@ -18,8 +18,6 @@ use Rattle.rules.proofs.laws.Legal.{legal-pawnless}
 use Rattle.rules.specs.Chess.{chess, played}
 use Rattle.numbering.specs.declared.Material.{Material}
 use Rattle.numbering.specs.Material.{given, OfMaterial}
-use Rattle.position.specs.declared.Slot.{Slot}
-use Rattle.position.specs.declared.Slot.TheVariants.{Absent, Present}
 use Rattle.position.specs.declared.Position.{Position}
 use Rattle.position.specs.Keyed.{slot_men, board_of, keyed}
 use Rattle.four_men.specs.Reading.{Fewer}
@@ -41,11 +39,11 @@ free-by-slots p = go p.first p.second
     last true = refl
     last false = refl
 
-    go : (f s : Slot) → (slot_free f && slot_free s) ≡ all (λ a. not (pawn a)) (slot_men f ++ slot_men s)
-    go Absent Absent = refl
-    go Absent (Present c) = last (not (pawn c))
-    go (Present a) Absent = refl
-    go (Present a) (Present c) = ap (λ (x : Bool). not (pawn a) && x) (last (not (pawn c)))
+    go : (f s : Option Piece) → (slot_free f && slot_free s) ≡ all (λ a. not (pawn a)) (slot_men f ++ slot_men s)
+    go None None = refl
+    go None (Some c) = last (not (pawn c))
+    go (Some a) None = refl
+    go (Some a) (Some c) = ap (λ (x : Bool). not (pawn a) && x) (last (not (pawn c)))
 
 -- ---- a pawn and a mark
 

@@ -1,7 +1,7 @@
 -- 100 is sharp where captures lead to nothing decided, as with one man, or with two whose lent tables hold no depth:
 -- from every decided board and count that make 101 there is a game, both sides playing the desk's moves, in which the
 -- loser comes to a turn at which he may claim.
-use Rattle.std.specs.Prelude.{◌≡◌, refl, Bool, true, false, ◌⊎◌, List, [], ◌∷◌, ℕ, ◌+◌, ◌-◌, ◌≤◌, T, leb, length}
+use Rattle.std.specs.Prelude.{◌≡◌, refl, Bool, true, false, ◌⊎◌, List, [], ◌∷◌, ℕ, ◌+◌, ◌-◌, ◌≤◌, T, leb, length, Ok}
 use Rattle.std.proofs.Common.{ap, subst, ◌∙◌, inl, inr, ⊎_elim, arith, leb→le, le→leb}
 use Rattle.finite.specs.Truth.{refuted, or_left, or_right, or_cases}
 use Rattle.finite.specs.Members.{◌∈◌, any, map-in}
@@ -76,7 +76,7 @@ most-there m b (inr f) = go m f
     go (Material.Two j k r) (inr (inl w)) = let z = ap length w.1.1 in omega arith
     go (Material.Two j k r) (inr (inr w)) = let z = ap length w.1.1 in omega arith
 
-module _ (m : Material) (is_Known : T (known m)) (l : Lent) (t : List ℕ) (ok : check_with m l t ≡ Checked.Accepted)
+module _ (m : Material) (is_Known : T (known m)) (l : Lent) (t : List ℕ) (ok : check_with m l t ≡ Ok Checked.Accepted)
     (none : holds_depth (borrowed m l) 0 ≡ false) where
   fewer-undecided : (b : Board) → Within m b → Fewer m b → (n : ℕ) → DepthIs chess n b → ⊥
   fewer-undecided b d f n h =
@@ -111,7 +111,7 @@ module _ (m : Material) (is_Known : T (known m)) (l : Lent) (t : List ℕ) (ok :
       (record { legality = of-legal m is_Known b g; men = inl w }) (subst (λ (d : ℕ). DepthIs chess d b) (omega arith) h) (omega arith)
 
 -- b is legal without a pawn, and so of an ending of pieces
-pub sharp-games-with : (m : Material) (l : Lent) (t : List ℕ) → check_with m l t ≡ Checked.Accepted
+pub sharp-games-with : (m : Material) (l : Lent) (t : List ℕ) → check_with m l t ≡ Ok Checked.Accepted
     → holds_depth (borrowed m l) 0 ≡ false → (b : Board) → T (legal b) → OfMaterial m b → (n c : ℕ)
     → DepthIs chess n b → 2 ≤ n → c + n ≡ 101 → Spoilt chess zeroing (desk_move_with m l t) c b
 sharp-games-with m l t ok none b g w = sharp-of m (known_of m b g w) l t ok none b g w
@@ -121,7 +121,7 @@ none_lent : holds_depth [] 0 ≡ false
 unfolding holds_depth any
 none_lent = refl
 
-pub sharp-games : (kind : ℕ) (t : List ℕ) → check_of kind t ≡ Checked.Accepted → (b : Board) → T (legal b) → Lone kind b
+pub sharp-games : (kind : ℕ) (t : List ℕ) → check_of kind t ≡ Ok Checked.Accepted → (b : Board) → T (legal b) → Lone kind b
     → (n c : ℕ) → DepthIs chess n b → 2 ≤ n → c + n ≡ 101 → Spoilt chess zeroing (desk_move t) c b
 sharp-games kind t ok b l m n c h k e =
     let s = sharp-games-with (Material.One kind) nothing t (check-alone kind nothing t ∙ ok) none_lent b l

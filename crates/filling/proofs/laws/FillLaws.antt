@@ -1,5 +1,5 @@
 -- Laws by which the code of the whole fill is proved: what the steps come to, and what is promised of it.
-use Rattle.std.specs.Prelude.{◌≡◌, refl, Bool, true, false, cond, ◌⊎◌, length, take, drop, get_or}
+use Rattle.std.specs.Prelude.{◌≡◌, refl, Bool, true, false, cond, ◌⊎◌, length, take, drop, get_or, Err, Option, Result}
 use Rattle.std.proofs.Math.Path.{sym, ap, ap₂, subst⁻¹, fun_ext}
 use Rattle.std.proofs.Common.{subst, ◌∙◌, inl, inr, arith, length-take, get_or-take, get_or-drop}
 use mathlib.Core.List.Memᴰ
@@ -12,7 +12,6 @@ use Rattle.finite.specs.Mapped.{map_from, length-map_from}
 use Rattle.table_theory.specs.Tables.{Outcome, undecided, ended, start_byte}
 use Rattle.table_theory.specs.Lending.{passes_until, filled_until}
 use Rattle.rules.specs.Chess.{chess}
-use Rattle.answers.specs.declared.Filled.{Filled}
 use Rattle.endings.specs.Answers.{result_of, Fill}
 use Rattle.endings.specs.FilledTrue.{FillPromise}
 use Rattle.endings.proofs.laws.FilledTrue.{fill-promised}
@@ -47,7 +46,7 @@ module _ (m : Men) (first second t u : List ℕ)
       subst⁻¹ (Ready chess (over m first second) 0) (s ∙ start-any (material_for m) (lent first second) t)
       (ready-start chess (over m first second) t)
 
-  pub filled-so : (deepest k last : ℕ) (v : List ℕ) (f : Filled) (w : List ℕ) → Deepest m first second deepest
+  pub filled-so : (deepest k last : ℕ) (v : List ℕ) (f : Result (Option ℕ) ℕ) (w : List ℕ) → Deepest m first second deepest
       → passes_until chess (over m first second) (deeper_than deepest) (254 - k) k (ended last) v
       ≡ passes_until chess (over m first second) (deeper_than deepest) 254 0 undecided u
       → (f ≡ result_of
@@ -102,7 +101,7 @@ lent-bytes Material.Pawn first second f s t (Memᴰ.tail (Memᴰ.tail (Memᴰ.ta
 lent-bytes Material.Pawn first second f s t (Memᴰ.tail (Memᴰ.tail (Memᴰ.tail (Memᴰ.tail i)))) n = elim i [ ]
 
 module _ (m : Material) (l : Lent) (t : List ℕ) (small : LentBytes m l) where
-  promised : (a : Filled) (u : List ℕ) → a ≡ (fill_with m l t).answer → u ≡ (fill_with m l t).bytes
+  promised : (a : Result (Option ℕ) ℕ) (u : List ℕ) → a ≡ (fill_with m l t).answer → u ≡ (fill_with m l t).bytes
       → FillPromiseWith m l t a u
   promised a u e f = record {
     answered = e;
@@ -111,27 +110,27 @@ module _ (m : Material) (l : Lent) (t : List ℕ) (small : LentBytes m l) where
     refused-7 = λ w n. both (filled-7 m l t w n);
     refused-17 = λ w n x. both (filled-17 m l t w n x);
     else-true = λ w n x. subst (FillTrueOf m)
-        (ap₂ (λ (x : Filled) (y : List ℕ). record { answer = x; bytes = y }) (sym e) (sym f))
+        (ap₂ (λ (x : Result (Option ℕ) ℕ) (y : List ℕ). record { answer = x; bytes = y }) (sym e) (sym f))
         (filled-true-with m l t w n x small);
   }
     where
-      both : {k : Filled} → fill_with m l t ≡ record { answer = k; bytes = t } → (a ≡ k) × (u ≡ t)
+      both : {k : Result (Option ℕ) ℕ} → fill_with m l t ≡ record { answer = k; bytes = t } → (a ≡ k) × (u ≡ t)
       both z = (e ∙ ap (λ (o : Fill). o.answer) z, f ∙ ap (λ (o : Fill). o.bytes) z)
 
-  is : (a : Filled) (u : List ℕ) → fill_with m l t ≡ record { answer = a; bytes = u } → FillPromiseWith m l t a u
+  is : (a : Result (Option ℕ) ℕ) (u : List ℕ) → fill_with m l t ≡ record { answer = a; bytes = u } → FillPromiseWith m l t a u
   is a u z = promised a u (sym (ap (λ (o : Fill). o.answer) z)) (sym (ap (λ (o : Fill). o.bytes) z))
 
-  pub promised-1 : given m ≡ false → FillPromiseWith m l t (Filled.Refused 1) t
-  promised-1 w = is (Filled.Refused 1) t (filled-1 m l t w)
+  pub promised-1 : given m ≡ false → FillPromiseWith m l t (Err 1) t
+  promised-1 w = is (Err 1) t (filled-1 m l t w)
 
-  pub promised-7 : given m ≡ true → lengths_fit m l t ≡ false → FillPromiseWith m l t (Filled.Refused 7) t
-  promised-7 w n = is (Filled.Refused 7) t (filled-7 m l t (of-true w) n)
+  pub promised-7 : given m ≡ true → lengths_fit m l t ≡ false → FillPromiseWith m l t (Err 7) t
+  promised-7 w n = is (Err 7) t (filled-7 m l t (of-true w) n)
 
   pub promised-17 : given m ≡ true → lengths_fit m l t ≡ true → lent_accepted m l ≡ false
-      → FillPromiseWith m l t (Filled.Refused 17) t
-  promised-17 w n x = is (Filled.Refused 17) t (filled-17 m l t (of-true w) (of-true n) x)
+      → FillPromiseWith m l t (Err 17) t
+  promised-17 w n x = is (Err 17) t (filled-17 m l t (of-true w) (of-true n) x)
 
-pub promised-filled : (m : Material) (men : Men) (first second t : List ℕ) (a : Filled) (u : List ℕ)
+pub promised-filled : (m : Material) (men : Men) (first second t : List ℕ) (a : Result (Option ℕ) ℕ) (u : List ℕ)
     → LentBytes m (lent first second) → given m ≡ true → lengths_fit m (lent first second) t ≡ true
     → lent_accepted m (lent first second) ≡ true → material_for men ≡ m
     → Fills (filled_until chess (over men first second)
@@ -148,7 +147,7 @@ promised-filled m men first second t a u small w n x e f =
 
 -- ---- one man
 
-pub promised-one : (kind : ℕ) (first second t : List ℕ) (a : Filled) (u : List ℕ)
+pub promised-one : (kind : ℕ) (first second t : List ℕ) (a : Result (Option ℕ) ℕ) (u : List ℕ)
     → FillPromiseWith (Material.One kind) (lent first second) t a u → FillPromise kind t a u
 promised-one kind first second t a u p =
     let z = fill-alone kind (lent first second) t in
@@ -157,7 +156,7 @@ promised-one kind first second t a u p =
 -- ---- working back: of pieces
 
 module _ (m : Material) (l : Lent) (t : List ℕ) where
-  pub back-refused : known m ≡ false → FillBackPromise m l t (Filled.Refused 1) t
+  pub back-refused : known m ≡ false → FillBackPromise m l t (Err 1) t
   unfolding fill_back_with
   back-refused e = record {
     answered = sym (rw e);
@@ -166,7 +165,7 @@ module _ (m : Material) (l : Lent) (t : List ℕ) where
     pieces = λ w. absurd (refuted e w);
   }
 
-  pub back-pieces : known m ≡ true → (a : Filled) (u : List ℕ) → FillPromiseWith m l t a u → FillBackPromise m l t a u
+  pub back-pieces : known m ≡ true → (a : Result (Option ℕ) ℕ) (u : List ℕ) → FillPromiseWith m l t a u → FillBackPromise m l t a u
   unfolding fill_back_with
   back-pieces e a u p = record {
     answered = rw e p.answered;
@@ -176,7 +175,7 @@ module _ (m : Material) (l : Lent) (t : List ℕ) where
   }
 
 -- one man is a piece, or refused
-pub back_one : (kind : ℕ) (first second t : List ℕ) (a : Filled) (u : List ℕ)
+pub back_one : (kind : ℕ) (first second t : List ℕ) (a : Result (Option ℕ) ℕ) (u : List ℕ)
     → FillBackPromise (Material.One kind) (lent first second) t a u → FillPromise kind t a u
 unfolding fill_back_with
 back_one kind first second t a u p =
@@ -186,7 +185,7 @@ back_one kind first second t a u p =
     (p.left ∙ ap (λ (o : Fill). o.bytes) (same ∙ z))
   where
     same-one : (x : Bool) → known (Material.One kind) ≡ x
-        → cond x (fill_with (Material.One kind) (lent first second) t) (record { answer = Filled.Refused 1; bytes = t })
+        → cond x (fill_with (Material.One kind) (lent first second) t) (record { answer = Err 1; bytes = t })
         ≡ fill_with (Material.One kind) (lent first second) t
     same-one true e = refl
     same-one false e = sym (filled-1 (Material.One kind) (lent first second) t e)

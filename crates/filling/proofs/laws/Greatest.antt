@@ -1,5 +1,5 @@
 -- The greatest byte of a table tells which depths it holds.
-use Rattle.std.specs.Prelude.{◌≡◌, refl, Bool, true, false, cond, ◌⊎◌, List, [], ◌∷◌, ℕ, zero, suc, ◌+◌, ◌<◌, ◌≤◌, T, ltb, length, get_or, take, drop}
+use Rattle.std.specs.Prelude.{◌≡◌, refl, Bool, true, false, cond, ◌⊎◌, List, [], ◌∷◌, ℕ, zero, suc, ◌+◌, ◌<◌, ◌≤◌, max, T, ltb, length, get_or, take, drop}
 use Rattle.std.proofs.Math.Path.{sym, ap, ap₂}
 use Rattle.std.proofs.Common.{subst, ◌∙◌, inl, inr, arith, leb→le, le→leb, take-append-drop, drop_of_length-le, drop-drop, le-leb, le-ltb, lt-ltb}
 use Rattle.std.proofs.Math.Bool.{◌||◌}
@@ -170,13 +170,13 @@ module _ (m : Men) (first second : List ℕ) where
       holds = λ k. rw (lt-leb 4 m.second low) (both k ∙ or-other (leb (2 + k) a) (leb (2 + k) c) ∙ either c a k h);
     }
 
-    pub deepest-both : (r : ℕ) → r ≡ cond (ltb a c) c a → r < 256 → Deepest m first second r
+    pub deepest-both : (r : ℕ) → r ≡ max a c → r < 256 → Deepest m first second r
     deepest-both r e b = go (le-or-lt c a)
       where
         go : (c ≤ a) ⊎ (a < c) → Deepest m first second r
         go (inl h) =
-            let z : r ≡ a = e ∙ ap (λ (x : Bool). cond x c a) (le-ltb a c h) in
+            let z : r ≡ a = omega (arith, e) in
             subst (Deepest m first second) (sym z) (deepest-first h (subst (λ (x : ℕ). x < 256) z b))
         go (inr h) =
-            let z : r ≡ c = e ∙ ap (λ (x : Bool). cond x c a) (lt-ltb a c h) in
+            let z : r ≡ c = omega (arith, e) in
             subst (Deepest m first second) (sym z) (deepest-second h (subst (λ (x : ℕ). x < 256) z b))

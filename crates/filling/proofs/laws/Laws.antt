@@ -1,6 +1,6 @@
 -- Laws by which filling's code is proved, over any numbering: one turn of a pass in place, and what a whole pass comes
 -- to.
-use Rattle.std.specs.Prelude.{◌≡◌, Bool, cond, List, ℕ, zero, suc, ◌+◌, ◌-◌, ◌<◌, ◌≤◌, get_or, set}
+use Rattle.std.specs.Prelude.{◌≡◌, Bool, cond, List, ℕ, zero, suc, ◌+◌, ◌-◌, ◌<◌, ◌≤◌, get_or, set, None, Ok, Some}
 use Rattle.std.proofs.Math.Path.{refl, sym, ap, subst}
 use Rattle.std.proofs.Common.{ap₂, ◌∙◌, add-one, zero-add, add-zero, arith}
 use Rattle.std.proofs.Math.Bool.{true, false, not}
@@ -16,7 +16,6 @@ use Rattle.theory.specs.Game.{Game}
 use Rattle.table_theory.specs.Tables.{Numbering, settles, some_settles, pass_byte, passed, ended}
 use Rattle.table_theory.specs.Steps.{settled_by}
 use Rattle.table_theory.proofs.laws.Passing.{settles-in-place}
-use Rattle.answers.specs.declared.Filled.{Filled}
 use Rattle.endings.specs.Answers.{result_of}
 use Rattle.filling.specs.Settling.{Settle}
 
@@ -121,9 +120,9 @@ module _ (G : Game) (N : Numbering G) (k : ℕ) (t : List ℕ) where
 
 -- ---- the answer
 
-pub ended-none : (k : ℕ) → k ≡ 0 → Filled.NoneDecided ≡ result_of (ended k)
+pub ended-none : (k : ℕ) → k ≡ 0 → Ok None ≡ result_of (ended k)
 ended-none k e = rw e
 
-pub ended_some : (k : ℕ) → (k ≡ 0 → ⊥) → Filled.Greatest (k - 1) ≡ result_of (ended k)
+pub ended_some : (k : ℕ) → (k ≡ 0 → ⊥) → Ok (Some (k - 1)) ≡ result_of (ended k)
 ended_some zero n = absurd (n refl)
 ended_some (suc k) n = let z : suc k - 1 ≡ k = omega arith in rw z

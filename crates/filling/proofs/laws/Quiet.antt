@@ -1,8 +1,8 @@
 -- Where a pass settles nothing: a depth above 0 is required only where a successor holds the depth before it, and
 -- successors' numbers lie in the other half of the table, or in a lent one; the men being of one side, in its other
 -- half too.
-use Rattle.std.specs.Prelude.{◌≡◌, refl, Bool, true, false, not, ◌&&◌, ◌⊎◌, ℕ, ◌+◌, ◌-◌, ◌/◌, ◌<◌, ◌≤◌, leb, length, get_or}
-use Rattle.std.proofs.Common.{sym, ◌∙◌, inl, inr, le-leb, eqb-true}
+use Rattle.std.specs.Prelude.{◌≡◌, refl, Bool, true, false, not, ◌&&◌, ◌⊎◌, ℕ, ◌+◌, ◌-◌, ◌/◌, ◌<◌, ◌≤◌, leb, length, get_or, take, drop, nat_eq}
+use Rattle.std.proofs.Common.{sym, ◌∙◌, inl, inr, le-leb, eqb-true, eq-eqb}
 use Rattle.std.proofs.Math.Path.{ap, subst, subst⁻¹}
 use Rattle.std.proofs.Math.Bool.{cond}
 use mathlib.Core.List.Memᴰ
@@ -10,7 +10,7 @@ use mathlib.Core.List.{List, [], ◌∷◌, map}
 use native.Mathlib.Omega.{arith}
 use Rattle.std.proofs.Math.Dec.{T, eqb, eqb→eq}
 use Rattle.std.proofs.lemmas.Bool.{lt-leb}
-use Rattle.finite.specs.Truth.{decided, and_left, and_right, fails, le-or-lt, false_of}
+use Rattle.finite.specs.Truth.{decided, and_left, and_right, fails, le-or-lt, false_of, true-not-false}
 use Rattle.finite.specs.Members.{◌∈◌, map-out, none_in}
 use Rattle.theory.specs.Game.{next}
 use Rattle.theory.specs.Required.{required_at}
@@ -40,6 +40,8 @@ use Rattle.working_back.specs.Admitted.{over, Admitted}
 use Rattle.filling.specs.Quiet.{Absent, Quiet, low_of, high_of}
 use Rattle.working_back.proofs.laws.Admitted.{long}
 use Rattle.filling.proofs.laws.Halves.{side-below, side-above, below-side, above-side, number-side-with, standard-next, white-left}
+use Rattle.std.specs.List.{IsAnyAnswer}
+use Rattle.std.proofs.lemmas.List.{get_or-take, get_or-drop, length-take, length-drop}
 
 -- the men of one side: what is left of them is White's
 abbrev pub OneSide : Material → Type 0
@@ -305,3 +307,18 @@ module _ (t : List ℕ) (byte from : ℕ) where
 
   pub absent-upto : (n to : ℕ) → to ≤ n → Absent t byte from n → Absent t byte from to
   absent-upto n to h f = record { none = λ m a b e. f.none m a (omega arith) e }
+
+pub absent-part : (t : List ℕ) (byte from to : ℕ) → to ≤ length t → (r : Bool)
+    → IsAnyAnswer (λ b x. nat_eq b byte ≡ x) (take (to - from) (drop from t)) r → r ≡ false → Absent t byte from to
+absent-part t byte from to h true a e = absurd (true-not-false refl e)
+absent-part t byte from to h false a e = record { none = none }
+  where
+    none : (n : ℕ) → from ≤ n → n < to → get_or t n 0 ≡ byte → ⊥
+    none n x y q =
+        let i : from + (n - from) ≡ n = omega arith in
+        let same : get_or (take (to - from) (drop from t)) (n - from) 0 ≡ byte =
+        get_or-take (to - from) (drop from t) (n - from) 0 (omega arith) ∙ get_or-drop from t (n - from) 0
+        ∙ ap (λ (k : ℕ). get_or t k 0) i ∙ q in
+        let long : n - from < length (take (to - from) (drop from t)) =
+        let a = length-take (to - from) (drop from t) in let b = length-drop from t in omega (arith, h) in
+        true-not-false (eq-eqb _ _ same) (a (n - from) 0 (omega arith) long)

@@ -1,5 +1,5 @@
 -- Laws by which the code of a step, of the calls over it and of the fill is proved.
-use Rattle.std.specs.Prelude.{◌≡◌, refl, Bool, true, false, cond, not, ◌⊎◌, List, ℕ, zero, suc, ◌+◌, ◌-◌, ◌<◌, ◌≤◌, min, leb, eqb, length}
+use Rattle.std.specs.Prelude.{◌≡◌, refl, Bool, true, false, cond, not, ◌⊎◌, List, ℕ, zero, suc, ◌+◌, ◌-◌, ◌<◌, ◌≤◌, min, leb, eqb, length, Err, Option, Result}
 use Rattle.std.proofs.Common.{sym, ap₂, subst, ◌∙◌, inl, inr, add-one, arith, le-leb, ne_eqb}
 use Rattle.std.proofs.Math.Path.{ap, subst⁻¹, fun_ext}
 use Rattle.std.proofs.lemmas.Bool.{lt-leb}
@@ -12,7 +12,6 @@ use Rattle.table_theory.proofs.laws.LendingLaws.{until-done, until-more, until_s
 use Rattle.table_theory.specs.Steps.{going_on, said_done, gave_ten, settled_by, last_before, step_from}
 use Rattle.table_theory.proofs.laws.StepLaws.{settled-some, step-done, step-more, step_skip, step-deep, from-going, from-done, from-ten}
 use Rattle.rules.specs.Chess.{chess}
-use Rattle.answers.specs.declared.Filled.{Filled}
 use Rattle.endings.specs.Answers.{result_of}
 use Rattle.filling.specs.declared.steps.Stepped.{Stepped}
 use Rattle.filling.specs.declared.steps.Step.{Step}
@@ -79,7 +78,7 @@ module _ (N : Numbering chess) (deepest k last : ℕ) (t : List ℕ) where
 
   over-deep : 254 ≤ k → some_settles chess N k t ≡ true
       → step_over N deepest k last t
-      ≡ says (Stepped.Says (Filled.Refused 10)) (gave_ten k before) (map_from (λ n b. 0) 0 t)
+      ≡ says (Stepped.Says (Err 10)) (gave_ten k before) (map_from (λ n b. 0) 0 t)
   unfolding step_over
   over-deep h e = ap taken_of (step-deep chess N (deeper_than deepest) k last t h e) ∙ rw last-is
 
@@ -97,7 +96,7 @@ module _ (N : Numbering chess) (deepest k last : ℕ) (t : List ℕ) where
       hands _ _ _ _ _ _ _ (over-more h (some_of n e z)) (ap Stepped.Settled e)
       (b ∙ ap (λ (j : ℕ). going_on j j) (add-one k)) q
 
-  pub code-done : (n : ℕ) (w : List ℕ) (so : ℕ) (r : Filled) (p : Progress) → length t ≡ N.size
+  pub code-done : (n : ℕ) (w : List ℕ) (so : ℕ) (r : Result (Option ℕ) ℕ) (p : Progress) → length t ≡ N.size
       → n ≡ settled_by chess N k t → n ≡ 0 → w ≡ passed chess N k t → deepest < 2 + k → so ≡ before
       → r ≡ result_of (ended so) → p ≡ said_done k so
       → Hands (step_over N deepest k last t) (record { said = Stepped.Says r; progress = p }) w
@@ -118,11 +117,11 @@ module _ (N : Numbering chess) (deepest k last : ℕ) (t : List ℕ) where
 module _ (N : Numbering chess) (deepest last : ℕ) (t : List ℕ) where
   pub code-deep : (s : Bool) (w : List ℕ) (so : ℕ) (p : Progress) → s ≡ some_settles chess N 254 t → s ≡ true
       → w ≡ map_from (λ (n b : ℕ). 0) 0 t → so ≡ last_of 254 last deepest → p ≡ gave_ten 254 so
-      → Hands (step_over N deepest 254 last t) (record { said = Stepped.Says (Filled.Refused 10); progress = p }) w
+      → Hands (step_over N deepest 254 last t) (record { said = Stepped.Says (Err 10); progress = p }) w
   code-deep s w so p e z q f b =
       hands _ _ _ _ _ _ _ (over-deep N deepest 254 last t (omega arith) (sym e ∙ z)) refl (b ∙ ap (gave_ten 254) f) q
 
-  pub code-last : (s : Bool) (so : ℕ) (r : Filled) (p : Progress) → s ≡ some_settles chess N 254 t → s ≡ false
+  pub code-last : (s : Bool) (so : ℕ) (r : Result (Option ℕ) ℕ) (p : Progress) → s ≡ some_settles chess N 254 t → s ≡ false
       → deepest < 256 → so ≡ last_of 254 last deepest → r ≡ result_of (ended so) → p ≡ said_done 254 so
       → Hands (step_over N deepest 254 last t) (record { said = Stepped.Says r; progress = p }) t
   code-last s so r p e z d f a b =
@@ -145,7 +144,7 @@ module _ (N : Numbering chess) (deeper : ℕ → Bool) (p : Progress) (t : List 
       let f : deeper ≡ deeper_than deepest = fun_ext d in
       rw (from-going chess N deeper p t e, f, ← z) h
 
-  pub from-done-code : (r : Filled) → p.stage ≡ 1 → r ≡ result_of (ended p.last)
+  pub from-done-code : (r : Result (Option ℕ) ℕ) → p.stage ≡ 1 → r ≡ result_of (ended p.last)
       → Hands (taken_of (step_from chess N deeper p t)) (record { said = Stepped.Says r; progress = p }) t
   from-done-code r e a =
       hands _ _ _ _ _ _ _ (ap taken_of (from-done chess N deeper p t e)) (ap Stepped.Says a) refl refl
@@ -192,7 +191,7 @@ module _ (N : Numbering chess) (deepest k last : ℕ) (t : List ℕ) (low : k �
   step_went m f =
       subst Went (sym (add-one k)) (go (some_settles chess N k t) refl (le-or-lt 254 k) (le-or-lt (2 + k) deepest))
     where
-      no : (a : Filled) (p : Progress) (u : List ℕ) → step_over N deepest k last t ≡ says (Stepped.Says a) p u → ⊥
+      no : (a : Result (Option ℕ) ℕ) (p : Progress) (u : List ℕ) → step_over N deepest k last t ≡ says (Stepped.Says a) p u → ⊥
       no a p u e = let g : Stepped.Says a ≡ Stepped.Settled m = sym (said (Stepped.Says a) p u e) ∙ f in
           let z : ◌≡◌ {A = ℕ} 0 1 = cc in omega arith
 
@@ -233,10 +232,10 @@ module _ (N : Numbering chess) (deepest k last : ℕ) (t : List ℕ) (low : k �
           went _ (suc k) x (over-more N deepest k last t x e) (again (leb (2 + k) deepest)) (left-more x e)
 
   -- a step that says how filling ends
-  pub step-ended : (f : Filled) → r.said ≡ Stepped.Says f → (f ≡ result_of left.result) × (w ≡ left.bytes)
+  pub step-ended : (f : Result (Option ℕ) ℕ) → r.said ≡ Stepped.Says f → (f ≡ result_of left.result) × (w ≡ left.bytes)
   step-ended f g = go (some_settles chess N k t) refl (le-or-lt 254 k) (le-or-lt (2 + k) deepest)
     where
-      same : (a : Filled) (p : Progress) (u : List ℕ) (o : Outcome) → step_over N deepest k last t ≡ says (Stepped.Says a) p u
+      same : (a : Result (Option ℕ) ℕ) (p : Progress) (u : List ℕ) (o : Outcome) → step_over N deepest k last t ≡ says (Stepped.Says a) p u
           → left ≡ o → a ≡ result_of o.result → u ≡ o.bytes → (f ≡ result_of left.result) × (w ≡ left.bytes)
       same a p u o e q x y =
           let z : Stepped.Says f ≡ Stepped.Says a = sym g ∙ said (Stepped.Says a) p u e in

@@ -2,7 +2,7 @@
 -- settles. From a start: n steps leave the true byte wherever the depth is less than n and the starting byte elsewhere,
 -- no 10 given; a run that has ended leaves what the single fill leaves, and stays so; it gives 10 exactly where the
 -- single fill does.
-use Rattle.std.specs.Prelude.{◌≡◌, Bool, cond, not, ◌⊎◌, ◌↔◌, leb, eqb, length}
+use Rattle.std.specs.Prelude.{◌≡◌, Bool, cond, not, ◌⊎◌, ◌↔◌, leb, eqb, length, Err, Option, Result}
 use Rattle.std.proofs.Math.Path.{refl, sym, ap, subst}
 use Rattle.std.proofs.Common.{◌∙◌, inl, inr, zero-add}
 use Rattle.std.proofs.Math.Bool.{true, false}
@@ -19,7 +19,7 @@ use Rattle.theory.proofs.laws.Depth.{draw-is}
 use Rattle.theory.proofs.laws.Alike.{flip, alike-depth}
 use Rattle.theory.proofs.laws.Passes.{Settled}
 use Rattle.table_theory.specs.declared.Progress.{Progress}
-use Rattle.table_theory.specs.Tables.{Result, too_deep, Outcome, ended, settles, some_settles, start_byte, pass_byte, passed}
+use Rattle.table_theory.specs.Tables.{Result as FillEnd, too_deep, Outcome, ended, settles, some_settles, start_byte, pass_byte, passed}
 use Rattle.table_theory.specs.Lending.{filled_until}
 use Rattle.table_theory.proofs.laws.LendingLaws.{filled-same}
 use Rattle.table_theory.specs.Steps as over
@@ -33,7 +33,6 @@ use Rattle.position.specs.declared.Position.{Position}
 use Rattle.position.specs.Keyed.{board_of, man_kind}
 use Rattle.position.specs.Refusals.{standing_refusal}
 use Rattle.numbering.specs.Number.{number_of}
-use Rattle.answers.specs.declared.Filled.{Filled}
 use Rattle.endings.specs.Ending.{Ending, table_size, lone_board_at, legal_number, ending}
 use Rattle.endings.proofs.laws.EndingLaws.{Turned, turned-alike, lawful, outer-true, outer-drawn}
 use Rattle.endings.proofs.laws.Checking.{keyed-lone, keyed-ending}
@@ -171,7 +170,7 @@ module _ (kind : ℕ) (t : List ℕ) (known : kind < 4) (long : length t ≡ tab
   outcome = filled_until chess (ending kind) none_deeper t
 
   -- what was said, from what the code's answer shows
-  ends_of : (a : Said) (f : Filled) → said_of a ≡ Stepped.Says f → (r : Result) × (a ≡ ends r) × (f ≡ result_of r)
+  ends_of : (a : Said) (f : Result (Option ℕ) ℕ) → said_of a ≡ Stepped.Says f → (r : FillEnd) × (a ≡ ends r) × (f ≡ result_of r)
   ends_of (settled m) f e = let z : ◌≡◌ {A = ℕ} 0 1 = cc in absurd (omega arith)
   ends_of (ends r) f e = let z : f ≡ result_of r = cc in (r, refl, z)
 
@@ -183,7 +182,7 @@ module _ (kind : ℕ) (t : List ℕ) (known : kind < 4) (long : length t ≡ tab
   said n a e = sym (ap (λ (s : Taken). s.step.said) (run_is n)) ∙ e
 
   -- A RUN THAT SAYS DONE LEAVES WHAT THE SINGLE FILL LEAVES, answer and every byte; so does one that gives 10.
-  pub steps-fill : (n : ℕ) (f : Filled) → (run n).step.said ≡ Stepped.Says f
+  pub steps-fill : (n : ℕ) (f : Result (Option ℕ) ℕ) → (run n).step.said ≡ Stepped.Says f
       → (f ≡ (fill_of kind t).answer) × ((run n).bytes ≡ (fill_of kind t).bytes)
   unfolding ending lawful
   steps-fill n f e =
@@ -204,17 +203,17 @@ module _ (kind : ℕ) (t : List ℕ) (known : kind < 4) (long : length t ≡ tab
       (settled-of (ran n).said m (said n (Stepped.Settled m) e))
 
   -- THE SINGLE FILL GIVES 10 EXACTLY WHERE A RUN DOES.
-  pub steps-ten : ((fill_of kind t).answer ≡ Filled.Refused 10) ↔ ((n : ℕ)
-      × ((run n).step.said ≡ Stepped.Says (Filled.Refused 10)))
-  steps-ten = (λ e. (255, go e (run 255).step.said refl), λ x. sym (steps-fill x.0 (Filled.Refused 10) x.1).0)
+  pub steps-ten : ((fill_of kind t).answer ≡ Err 10) ↔ ((n : ℕ)
+      × ((run n).step.said ≡ Stepped.Says (Err 10)))
+  steps-ten = (λ e. (255, go e (run 255).step.said refl), λ x. sym (steps-fill x.0 (Err 10) x.1).0)
     where
-      go : (fill_of kind t).answer ≡ Filled.Refused 10 → (a : Stepped) → (run 255).step.said ≡ a
-          → (run 255).step.said ≡ Stepped.Says (Filled.Refused 10)
+      go : (fill_of kind t).answer ≡ Err 10 → (a : Stepped) → (run 255).step.said ≡ a
+          → (run 255).step.said ≡ Stepped.Says (Err 10)
       go e (Stepped.Settled m) f = absurd (steps-end 255 m (omega arith) f)
       go e (Stepped.Says g) f = f ∙ ap Stepped.Says ((steps-fill 255 g f).0 ∙ e)
 
   -- STEPS PAST THE END CHANGE NOTHING: neither the answer, nor the progress, nor a byte.
-  pub steps-past : (n : ℕ) (f : Filled) → (run n).step.said ≡ Stepped.Says f → (m : ℕ) → steps_of kind m (run n) ≡ run n
+  pub steps-past : (n : ℕ) (f : Result (Option ℕ) ℕ) → (run n).step.said ≡ Stepped.Says f → (m : ℕ) → steps_of kind m (run n) ≡ run n
   unfolding ending lawful
   steps-past n f e m =
       let x = ends_of (ran n).said f (said n (Stepped.Says f) e) in
@@ -223,7 +222,7 @@ module _ (kind : ℕ) (t : List ℕ) (known : kind < 4) (long : length t ≡ tab
       (runs.steps-past chess (ending kind) (lawful kind) none_deeper (outer-true kind) none_lent refl t sized n
       x.0 x.1 m) ∙ sym (run_is n)
 
-  module _ (n : ℕ) (no-ten : (run n).step.said ≡ Stepped.Says (Filled.Refused 10) → ⊥) where
+  module _ (n : ℕ) (no-ten : (run n).step.said ≡ Stepped.Says (Err 10) → ⊥) where
     never : (ran n).said ≡ ends too_deep → ⊥
     never e = no-ten (ap (λ (s : Taken). s.step.said) (run_is n) ∙ ap said_of e)
 

@@ -1,5 +1,5 @@
 -- One man is an instance: what is defined here for both sizes is what stands for one man, on every input.
-use Rattle.std.specs.Prelude.{◌≡◌, refl, Bool, true, false, cond, not, ◌&&◌, ◌⊎◌, List, [], ◌++◌, ℕ, ◌≤◌, ◌<◌, T, leb, ltb, eqb, length}
+use Rattle.std.specs.Prelude.{◌≡◌, refl, Bool, true, false, cond, not, ◌&&◌, ◌⊎◌, List, [], ◌++◌, ℕ, ◌≤◌, ◌<◌, T, leb, ltb, eqb, length, Err, None, Ok, Option, Some, Result}
 use Rattle.std.proofs.Common.{sym, ap₂, subst, ◌∙◌, inl, inr, arith, le-leb, le-ltb, lt-ltb, leb-false, eqb-true, eq-eqb}
 use Rattle.std.proofs.Math.Path.{ap, fun_ext}
 use Rattle.std.proofs.lemmas.Bool.{lt-leb}
@@ -17,8 +17,6 @@ use Rattle.rules.proofs.laws.Legal.{legal-pawnless}
 use Rattle.rules.specs.Chess.{chess}
 use Rattle.numbering.specs.Keys.{board_at}
 use Rattle.numbering.specs.Number.{number_of, used}
-use Rattle.position.specs.declared.Slot.{Slot}
-use Rattle.position.specs.declared.Slot.TheVariants.{Absent, Present}
 use Rattle.position.specs.declared.Position.{Position}
 use Rattle.position.specs.Keyed.{slot_men, board_of, man_in, man_kind, slot_of, keyed}
 use Rattle.position.specs.Refusals.{bad_men, bad_man, later_refusal, placing_refusal, standing_refusal}
@@ -35,7 +33,6 @@ use Rattle.endings.proofs.laws.Checking.{byte_reads}
 use Rattle.numbering.specs.declared.Material.{Material}
 use Rattle.numbering.specs.Material.{material_in}
 use Rattle.numbering.proofs.laws.MaterialLaws.{one_piece}
-use Rattle.index.specs.declared.NumberAnswer.{NumberAnswer}
 use Rattle.index.specs.Endings.{number_in, normal_in, map_in}
 use Rattle.four_men.specs.Lending.{Lent}
 use Rattle.four_men.specs.Reading.{full, legal_number_of, numbered, holds_depth}
@@ -113,18 +110,18 @@ step-alone kind l t p = rw (not_known kind, numbered-alone kind l, none_lent)
 
 -- ---- looking up, and numbers
 
-bad-alone : (p : Position) → p.second ≡ Absent → (man_kind p ≡ 4 → ⊥) → bad_men_of p.first p.second ≡ bad_man p
+bad-alone : (p : Position) → p.second ≡ None → (man_kind p ≡ 4 → ⊥) → bad_men_of p.first p.second ≡ bad_man p
 bad-alone p e n = rw e (go p.first n)
   where
     other-kind : (k : ℕ) → (k ≡ 4 → ⊥) → (4 ≤ k) ⊎ (k < 4) → leb 5 k ≡ leb 4 k
     other-kind k n (inl h) = let g : 5 ≤ k = omega arith in rw (le-leb 4 k h, le-leb 5 k g)
     other-kind k n (inr h) = rw (lt-leb 4 k h, lt-leb 5 k (omega arith))
 
-    go : (s : Slot) → ((man_in s).kind ≡ 4 → ⊥) → bad_men_of s Absent ≡ bad_men s Absent
-    go Absent n = refl
-    go (Present m) n = other-kind m.kind n (le-or-lt 4 m.kind)
+    go : (s : Option Piece) → ((man_in s).kind ≡ 4 → ⊥) → bad_men_of s None ≡ bad_men s None
+    go None n = refl
+    go (Some m) n = other-kind m.kind n (le-or-lt 4 m.kind)
 
-placing-alone : (p : Position) → p.second ≡ Absent → (man_kind p ≡ 4 → ⊥) → placing_with p ≡ placing_refusal p
+placing-alone : (p : Position) → p.second ≡ None → (man_kind p ≡ 4 → ⊥) → placing_with p ≡ placing_refusal p
 unfolding placing_with placing_refusal
 placing-alone p e n = ap (λ (x : Bool). cond x 1 (later_refusal p)) (bad-alone p e n)
 
@@ -137,7 +134,7 @@ lone-piece kind b g w e =
     subst (λ (x : Bool). T (not x)) (eq-eqb kind 4 k) (and_left (not (eqb kind 4)) true t)
 
 -- a pawn alone is refused 1 there
-pub standing-alone : (p : Position) → p.second ≡ Absent → (man_kind p ≡ 4 → ⊥) → standing_with p ≡ standing_refusal p
+pub standing-alone : (p : Position) → p.second ≡ None → (man_kind p ≡ 4 → ⊥) → standing_with p ≡ standing_refusal p
 unfolding standing_with standing_refusal
 standing-alone p e n = rw (placing-alone p e n)
 
@@ -145,56 +142,56 @@ pub pawn-refused : (p : Position) → man_kind p ≡ 4 → standing_refusal p �
 unfolding standing_refusal placing_refusal
 pawn-refused p e = rw (bad p.first p.second e)
   where
-    bad : (f s : Slot) → (man_in f).kind ≡ 4 → bad_men f s ≡ true
-    bad Absent s e = refl
-    bad (Present m) Absent e = le-leb 4 m.kind (omega arith)
-    bad (Present m) (Present n) e = refl
+    bad : (f s : Option Piece) → (man_in f).kind ≡ 4 → bad_men f s ≡ true
+    bad None s e = refl
+    bad (Some m) None e = le-leb 4 m.kind (omega arith)
+    bad (Some m) (Some n) e = refl
 
-pub number-alone : (p : Position) → p.second ≡ Absent → (man_kind p ≡ 4 → ⊥) → number_with p ≡ number_answer p
+pub number-alone : (p : Position) → p.second ≡ None → (man_kind p ≡ 4 → ⊥) → number_with p ≡ number_answer p
 unfolding number_with number_answer
 number-alone p e n = rw (placing-alone p e n) (go (eqb (placing_refusal p) 0) refl)
   where
     go : (x : Bool) → eqb (placing_refusal p) 0 ≡ x
-        → cond x (NumberAnswer.Number (number_in (material_in (board_of p).men) (board_of p)))
-        (NumberAnswer.Refused (placing_refusal p))
-        ≡ cond x (NumberAnswer.Number (number_of (board_of p))) (NumberAnswer.Refused (placing_refusal p))
-    go true h = ap NumberAnswer.Number (index.number-alone p (eqb-true (placing_refusal p) 0 h))
+        → cond x (Ok (number_in (material_in (board_of p).men) (board_of p)))
+        (Err (placing_refusal p))
+        ≡ cond x (Ok (number_of (board_of p))) (Err (placing_refusal p))
+    go true h = ap Ok (index.number-alone p (eqb-true (placing_refusal p) 0 h))
     go false h = refl
 
 pub reads-alone : (kind : ℕ) (l : Lent) (t : List ℕ) → reads chess (numbered (Material.One kind) l) t ≡ byte_of t
 reads-alone kind l t = ap (λ (n : Numbering chess). reads chess n t) (numbered-alone kind l) ∙ sym (byte_reads kind t)
 
 -- what is answered where 1 to 6 do not refuse
-abbrev rest_of : Lent → List ℕ → Material → Board → Answer
+abbrev rest_of : Lent → List ℕ → Material → Board → Result Answer ℕ
 rest_of l t m b =
     let bytes = reads chess (numbered m l) t in
-    cond (not (lengths_fit m l t)) (Answer.Refused 7)
-    (cond (not (eqb (bytes b) (required_at chess bytes b))) (Answer.Refused 11)
+    cond (not (lengths_fit m l t)) (Err 7)
+    (cond (not (eqb (bytes b) (required_at chess bytes b))) (Err 11)
     (answer_of (bytes b) (chosen_by (map_in m) (normal_in m) bytes b)))
 
 rest-alone : (kind : ℕ) (l : Lent) (t : List ℕ) (b : Board) → rest_of l t (Material.One kind) b
-    ≡ cond (not (eqb (length t) table_size)) (Answer.Refused 7)
-    (cond (not (eqb (byte_of t b) (required_at chess (byte_of t) b))) (Answer.Refused 11)
+    ≡ cond (not (eqb (length t) table_size)) (Err 7)
+    (cond (not (eqb (byte_of t b) (required_at chess (byte_of t) b))) (Err 11)
     (answer_of (byte_of t b) (chosen (byte_of t) b)))
 rest-alone kind l t b = rw (reads-alone kind l t)
 
 -- the ending of one man whom 1 does not refuse
-one_in : (f s : Slot) → s ≡ Absent → bad_men f s ≡ false
+one_in : (f s : Option Piece) → s ≡ None → bad_men f s ≡ false
     → (kind : ℕ) × (material_in (slot_men f ++ slot_men s) ≡ Material.One kind)
-one_in Absent s e z = absurd (refuted z tt)
-one_in (Present m) Absent e z = (m.kind, one_piece m.kind (leb-false 4 m.kind z))
-one_in (Present m) (Present n) e z = absurd (refuted z tt)
+one_in None s e z = absurd (refuted z tt)
+one_in (Some m) None e z = (m.kind, one_piece m.kind (leb-false 4 m.kind z))
+one_in (Some m) (Some n) e z = absurd (refuted z tt)
 
-pub look-up-alone : (l : Lent) (t : List ℕ) (p : Position) → p.second ≡ Absent → (man_kind p ≡ 4 → ⊥)
+pub look-up-alone : (l : Lent) (t : List ℕ) (p : Position) → p.second ≡ None → (man_kind p ≡ 4 → ⊥)
     → look_up_with l t p ≡ look_up_of t p
 unfolding look_up_with look_up_of
 look-up-alone l t p e n = rw (standing-alone p e n) (go (eqb (standing_refusal p) 0) refl)
   where
     go : (x : Bool) → eqb (standing_refusal p) 0 ≡ x
-        → cond (not x) (Answer.Refused (standing_refusal p)) (rest_of l t (material_in (board_of p).men) (board_of p))
-        ≡ cond (not x) (Answer.Refused (standing_refusal p))
-        (cond (not (eqb (length t) table_size)) (Answer.Refused 7)
-        (cond (not (eqb (byte_of t (board_of p)) (required_at chess (byte_of t) (board_of p)))) (Answer.Refused 11)
+        → cond (not x) (Err (standing_refusal p)) (rest_of l t (material_in (board_of p).men) (board_of p))
+        ≡ cond (not x) (Err (standing_refusal p))
+        (cond (not (eqb (length t) table_size)) (Err 7)
+        (cond (not (eqb (byte_of t (board_of p)) (required_at chess (byte_of t) (board_of p)))) (Err 11)
         (answer_of (byte_of t (board_of p)) (chosen (byte_of t) (board_of p)))))
     go false h = refl
     go true h =

@@ -1,5 +1,5 @@
 -- Games of one man are the instance of the theorem about games in which nothing is lent.
-use Rattle.std.specs.Prelude.{◌≡◌, Bool, false, not, ◌⊎◌, ℕ, T, take}
+use Rattle.std.specs.Prelude.{◌≡◌, Bool, false, not, ◌⊎◌, ℕ, T, take, Ok, Result}
 use Rattle.std.proofs.Math.Path.{refl, ap, subst⁻¹}
 use Rattle.std.proofs.Common.{sym, subst, ◌∙◌, inl, inr}
 use Rattle.std.proofs.Math.Bool.{cond}
@@ -84,17 +84,17 @@ module _ (kind : ℕ) (t : List ℕ) where
           subst⁻¹ (λ (ms : List Piece). cond (empty ms) none
           (move_of_answer (looked_up (Material.One kind) nothing t b))
           ≡ cond (empty ms) none (move_of_answer (look_up_of t (keyed b)))) e refl
-      go (inr w) = ap (λ (a : Answer). cond (empty b.men) none (move_of_answer a)) (looked-alone b d.legality w)
+      go (inr w) = ap (λ (a : Result Answer ℕ). cond (empty b.men) none (move_of_answer a)) (looked-alone b d.legality w)
 
   pub closed : (b q : Board) → Ending kind b → (v : Move) → v ∈ moves b → q ≡ played b v → Ending kind q
   closed b q d v i e = subst⁻¹ (Ending kind) e (ending-closed kind b (played b v) d (map-in (played b) i))
 
   -- THREE-MAN GAMES FOLLOW: what is promised of a game with one man and his table.
-  pub games-alone : check_of kind t ≡ Checked.Accepted → (b : Board) → T (legal b) → Lone kind b → (side : Bool)
+  pub games-alone : check_of kind t ≡ Ok Checked.Accepted → (b : Board) → T (legal b) → Lone kind b → (side : Bool)
       (ms : List Move) → LegalGame chess b ms → Follows chess (desk_move t) side b ms → GamePromise t side b ms
   games-alone ok b g w side ms game follows = record {
     called = answer b g w whole.called;
-    told = subst (λ (a : Answer). Told a side b ms) (looked-alone b g w) whole.told;
+    told = subst (λ (a : Result Answer ℕ). Told a side b ms) (looked-alone b g w) whole.told;
     answers = λ i h n. answer (at_ply chess b ms i) (there i).legality (man i n) (whole.answers i h n);
     bare = whole.bare;
     promised = promised-same (Ending kind) closed (desk_move_with (Material.One kind) nothing t) (desk_move t) desk-alone

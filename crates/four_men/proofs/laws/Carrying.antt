@@ -1,6 +1,6 @@
 -- What is read of a board, its moves and what they leave go to the normal board by the ending then on the board: by king
 -- rule and key without a pawn, by a flip with one.
-use Rattle.std.specs.Prelude.{◌≡◌, refl, ◌⊎◌, List, [], ◌∷◌, ℕ, ◌<◌, T, ltb}
+use Rattle.std.specs.Prelude.{◌≡◌, refl, ◌⊎◌, List, [], ◌∷◌, ℕ, ◌<◌, T, ltb, Result}
 use Rattle.std.proofs.Math.Path.{sym, ap, subst⁻¹}
 use Rattle.std.proofs.Common.{◌∙◌}
 use Rattle.std.proofs.Math.Logic.{inl, inr}
@@ -82,7 +82,7 @@ carries-plain reads b g c =
     subst⁻¹ (λ (by : Board → Symmetry). CarriesBy by (normal_in (material_in b.men)) reads b) w.0
     (subst⁻¹ (λ (normal : Board → Board). CarriesBy normal_by normal reads b) w.1 c)
 
-pub answer-plain : (b : Board) (a : Answer) → T (legal b) → TrueAnswer b a → TrueAnswerIn b a
+pub answer-plain : (b : Board) (a : Result Answer ℕ) → T (legal b) → TrueAnswer b a → TrueAnswerIn b a
 answer-plain b a g c =
     let w = plain_in b g in
     subst⁻¹ (λ (by : Board → Symmetry). TrueAnswerBy by (normal_in (material_in b.men)) b a) w.0

@@ -1,6 +1,6 @@
 -- Checking accepts a table exactly when it is the true one and the lent ones are accepted; 17 is given exactly where
 -- one of these is not (demand 2).
-use Rattle.std.specs.Prelude.{◌≡◌, refl, Bool, true, false, cond, not, ◌↔◌, List, ℕ, ◌≤◌, ltb, eqb, length, get_or}
+use Rattle.std.specs.Prelude.{◌≡◌, refl, Bool, true, false, cond, not, ◌↔◌, List, ℕ, ◌≤◌, ltb, eqb, length, get_or, Err, Ok, Result}
 use Rattle.std.proofs.Common.{sym, ◌∙◌, eqb→eq, le-ltb, ltb-false}
 use Rattle.std.proofs.Math.Path.{subst}
 use Rattle.std.proofs.Math.Logic.{inl}
@@ -59,9 +59,9 @@ module _ (m : Material) (w : T (given m)) (l : Lent) (t : List ℕ) (ok : T (len
 -- ---- the checker's answer
 
 accepted-by : (a b c d : Bool) (n : ℕ)
-    → cond {A = Checked} (not a) (Checked.Refused 1)
-    (cond (not b) (Checked.Refused 7)
-    (cond (not c) (Checked.Refused 17) (cond d (Checked.Wrong n) Checked.Accepted))) ≡ Checked.Accepted
+    → cond {A = (Result Checked ℕ)} (not a) (Err 1)
+    (cond (not b) (Err 7)
+    (cond (not c) (Err 17) (cond d (Ok (Checked.Wrong n)) (Ok Checked.Accepted)))) ≡ Ok Checked.Accepted
     → (a ≡ true) × (b ≡ true) × (c ≡ true) × (d ≡ false)
 accepted-by false b c d n e = let z : ◌≡◌ {A = ℕ} 0 1 = cc in absurd (omega arith)
 accepted-by true false c d n e = let z : ◌≡◌ {A = ℕ} 0 1 = cc in absurd (omega arith)
@@ -70,9 +70,9 @@ accepted-by true true true true n e = let z : ◌≡◌ {A = ℕ} 0 1 = cc in ab
 accepted-by true true true false n e = (refl, refl, refl, refl)
 
 seventeen-by : (a b c d : Bool) (n : ℕ)
-    → cond {A = Checked} (not a) (Checked.Refused 1)
-    (cond (not b) (Checked.Refused 7)
-    (cond (not c) (Checked.Refused 17) (cond d (Checked.Wrong n) Checked.Accepted))) ≡ Checked.Refused 17
+    → cond {A = (Result Checked ℕ)} (not a) (Err 1)
+    (cond (not b) (Err 7)
+    (cond (not c) (Err 17) (cond d (Ok (Checked.Wrong n)) (Ok Checked.Accepted)))) ≡ Err 17
     → (a ≡ true) × (b ≡ true) × (c ≡ false)
 seventeen-by false b c d n e = let z : ◌≡◌ {A = ℕ} 1 17 = cc in absurd (omega arith)
 seventeen-by true false c d n e = let z : ◌≡◌ {A = ℕ} 7 17 = cc in absurd (omega arith)
@@ -92,7 +92,7 @@ module _ (m : Material) (l : Lent) (t : List ℕ) where
     λ ok. let e = lowest-none (wrong_at chess (numbered m l) t) (size_of m) (λ n h w. refuted (ok n h) w) in omega arith,
   )
 
-  pub accepted-with : check_with m l t ≡ Checked.Accepted
+  pub accepted-with : check_with m l t ≡ Ok Checked.Accepted
       → T (given m) × T (lengths_fit m l t) × T (lent_accepted m l) × Accepted chess (numbered m l) t
   unfolding check_with
   accepted-with e =
@@ -100,12 +100,12 @@ module _ (m : Material) (l : Lent) (t : List ℕ) where
       (of-true r.0, of-true r.1, of-true r.2, none-wrong.0 (ltb-false low (size_of m) r.3))
 
   -- CHECKING ACCEPTS A TABLE IF AND ONLY IF IT IS THE TRUE ONE, the lent tables being accepted.
-  pub accepts-true-with : (check_with m l t ≡ Checked.Accepted)
+  pub accepts-true-with : (check_with m l t ≡ Ok Checked.Accepted)
       ↔ (T (given m) × T (lengths_fit m l t) × T (lent_accepted m l) × TrueTableOf m t)
   unfolding check_with
   accepts-true-with = (forth, back)
     where
-      forth : check_with m l t ≡ Checked.Accepted
+      forth : check_with m l t ≡ Ok Checked.Accepted
           → T (given m) × T (lengths_fit m l t) × T (lent_accepted m l) × TrueTableOf m t
       forth e =
           let r = accepted-with e in (
@@ -118,7 +118,7 @@ module _ (m : Material) (l : Lent) (t : List ℕ) where
           )
 
       back : T (given m) × T (lengths_fit m l t) × T (lent_accepted m l) × TrueTableOf m t
-          → check_with m l t ≡ Checked.Accepted
+          → check_with m l t ≡ Ok Checked.Accepted
       back x =
           rw (
             true_of {b = given m} x.0,
@@ -131,7 +131,7 @@ module _ (m : Material) (l : Lent) (t : List ℕ) where
           )
 
   -- 17 IS GIVEN EXACTLY WHERE A LENT TABLE IS NOT ACCEPTED, 1 and 7 not refusing.
-  pub checked-17 : (check_with m l t ≡ Checked.Refused 17)
+  pub checked-17 : (check_with m l t ≡ Err 17)
       ↔ (T (given m) × T (lengths_fit m l t) × (lent_accepted m l ≡ false))
   unfolding check_with
   checked-17 = (
@@ -141,7 +141,7 @@ module _ (m : Material) (l : Lent) (t : List ℕ) where
   )
 
   -- the definition's answer keeps the promise
-  pub check-promised-with : (r : Checked) → r ≡ check_with m l t → CheckPromiseWith m l t r
+  pub check-promised-with : (r : Result Checked ℕ) → r ≡ check_with m l t → CheckPromiseWith m l t r
   check-promised-with r e = record {
     answered = e;
     true-only = (λ a. accepts-true-with.0 (sym e ∙ a), λ x. e ∙ accepts-true-with.1 x);
@@ -149,8 +149,8 @@ module _ (m : Material) (l : Lent) (t : List ℕ) where
   }
 
 -- the checker accepts one table for each ending
-pub one-accepted-with : (m : Material) (l : Lent) (t u : List ℕ) → check_with m l t ≡ Checked.Accepted
-    → check_with m l u ≡ Checked.Accepted → t ≡ u
+pub one-accepted-with : (m : Material) (l : Lent) (t u : List ℕ) → check_with m l t ≡ Ok Checked.Accepted
+    → check_with m l u ≡ Ok Checked.Accepted → t ≡ u
 unfolding numbered
 one-accepted-with m l t u a b =
     let x = (accepts-true-with m l t).0 a in

@@ -1,7 +1,7 @@
 -- DEMAND 3, in one theorem for one man, for two and for a pawn: every list of legal moves from any legal position of an
 -- ending, through captures and promotions until bare kings, in which one side, either one, plays the moves that look-up
 -- gives with tables that checking accepted and that stay as they are.
-use Rattle.std.specs.Prelude.{◌≡◌, refl, Bool, ◌⊎◌, ℕ, ◌<◌, T, take}
+use Rattle.std.specs.Prelude.{◌≡◌, refl, Bool, ◌⊎◌, ℕ, ◌<◌, T, take, None, Ok, Result}
 use Rattle.std.proofs.Math.Path.{sym, ap, subst⁻¹}
 use Rattle.std.proofs.Common.{subst, ◌∙◌, inl, inr, arith, ne_eqb}
 use Rattle.std.proofs.Math.Bool.{false, cond}
@@ -20,7 +20,6 @@ use Rattle.rules.specs.declared.Move.{Move}
 use Rattle.rules.specs.Rules.{Board, empty, legal, moves}
 use Rattle.rules.specs.Chess.{chess, played}
 use Rattle.numbering.specs.Number.{normal_by, normalised}
-use Rattle.position.specs.declared.Slot.TheVariants.{Absent}
 use Rattle.position.specs.Keyed.{board_of, slot_of, others, keyed}
 use Rattle.position.specs.Refusals.{standing_with}
 use Rattle.answers.specs.declared.Answer.{Answer}
@@ -54,7 +53,7 @@ use Rattle.four_men.proofs.laws.Standing.{keyed-back, keyed-standing-with}
 use Rattle.four_men.proofs.laws.LookingUp.{bytes_of, accepted-bytes-with, within-carries, chosen-chooses-with, look-up-with-answers, look-up-true-with}
 
 -- a board with one man, keyed, has no second
-pub second_none : (kind : ℕ) (b : Board) → Lone kind b → (keyed b).second ≡ Absent
+pub second_none : (kind : ℕ) (b : Board) → Lone kind b → (keyed b).second ≡ None
 second_none kind b w = ap (λ (ms : List Piece). slot_of (others ms)) w.1.1
 
 manned-not-empty : (l : List Piece) → Manned l → empty l ≡ false
@@ -73,7 +72,7 @@ unfolding first
 first-same f g [] h = refl
 first-same f g (v ∷ l) h = rw (h v (Memᴰ.head refl), first-same f g l (λ y m. h y (Memᴰ.tail m)))
 
-module _ (m : Material) (l : Lent) (t : List ℕ) (ok : check_with m l t ≡ Checked.Accepted) where
+module _ (m : Material) (l : Lent) (t : List ℕ) (ok : check_with m l t ≡ Ok Checked.Accepted) where
   abbrev bytes : Board → ℕ
   bytes = bytes_of m l t ok
 
@@ -133,7 +132,7 @@ module _ (m : Material) (l : Lent) (t : List ℕ) (ok : check_with m l t ≡ Che
 
   -- ---- a man alone, left by a capture or made by a promotion: he is looked up in his own ending's table
 
-  module _ (kind : ℕ) (small : List ℕ) (small-ok : check_of kind small ≡ Checked.Accepted)
+  module _ (kind : ℕ) (small : List ℕ) (small-ok : check_of kind small ≡ Ok Checked.Accepted)
       (lone-byte : (c : Board) → Ending kind c → bytes c ≡ byte_of small c) (b : Board) (g : T (legal b)) (w : Lone kind b)
       (own : table_then m l t b.men ≡ small) where
     lone-ending : Ending kind b
@@ -165,7 +164,7 @@ module _ (m : Material) (l : Lent) (t : List ℕ) (ok : check_with m l t ≡ Che
     lone-desk : desk_move_with m l t b ≡ pick b
     unfolding desk_move_with desk_move chosen_by
     lone-desk =
-        ap (λ (a : Answer). cond (empty b.men) none (move_of_answer a)) lone-looked
+        ap (λ (a : Result Answer ℕ). cond (empty b.men) none (move_of_answer a)) lone-looked
         ∙ desk-chosen kind small small-ok b lone-ending
         ∙ ap (λ (o : Option Move). given (mapped_advice (inverse (normal_by b)) (advice_of o))) lone-first
         ∙ ap given (sym (chosen_plain bytes b g))
@@ -176,10 +175,10 @@ module _ (m : Material) (l : Lent) (t : List ℕ) (ok : check_with m l t ≡ Che
 -- ---- which table he is looked up in
 
 -- what is promised of a board with a man: the desk's move is the chosen one, and the answer is true
-abbrev Served : (m : Material) (l : Lent) (t : List ℕ) → check_with m l t ≡ Checked.Accepted → Board → Type 0
+abbrev Served : (m : Material) (l : Lent) (t : List ℕ) → check_with m l t ≡ Ok Checked.Accepted → Board → Type 0
 Served m l t ok b = (desk_move_with m l t b ≡ pick m l t ok b) × TrueAnswerIn b (looked_up m l t b)
 
-module _ (j k : ℕ) (r : Bool) (l : Lent) (t : List ℕ) (ok : check_with (Material.Two j k r) l t ≡ Checked.Accepted)
+module _ (j k : ℕ) (r : Bool) (l : Lent) (t : List ℕ) (ok : check_with (Material.Two j k r) l t ≡ Ok Checked.Accepted)
     (kind : ℕ) (s : (kind ≡ j) ⊎ (kind ≡ k)) where
   -- what is read of his ending is read in the lent table of his kind
   lent-byte : (b : Board) → Ending kind b → bytes_of (Material.Two j k r) l t ok b ≡ byte_of (lent_for j l kind) b
@@ -198,7 +197,7 @@ module _ (j k : ℕ) (r : Bool) (l : Lent) (t : List ℕ) (ok : check_with (Mate
       (ap (table_then (Material.Two j k r) l t) w.1.1)
 
 -- what the pawn has become is looked up in the part of its kind
-part-served : (l : Lent) (t : List ℕ) (ok : check_with Material.Pawn l t ≡ Checked.Accepted) (kind : ℕ) → kind < 4
+part-served : (l : Lent) (t : List ℕ) (ok : check_with Material.Pawn l t ≡ Ok Checked.Accepted) (kind : ℕ) → kind < 4
     → (b : Board) → T (legal b) → Lone kind b → Served Material.Pawn l t ok b
 part-served l t ok kind h b g w =
     lone-both Material.Pawn l t ok kind (part_of kind l.first)
@@ -206,7 +205,7 @@ part-served l t ok kind h b g w =
     (ap (table_then Material.Pawn l t) w.1.1
     ∙ ap (λ (x : Bool). cond x t (part_of kind l.first)) (ne_eqb kind 4 (λ q. omega arith)))
 
-fewer-served : (m : Material) (l : Lent) (t : List ℕ) (ok : check_with m l t ≡ Checked.Accepted) (b : Board)
+fewer-served : (m : Material) (l : Lent) (t : List ℕ) (ok : check_with m l t ≡ Ok Checked.Accepted) (b : Board)
     → T (legal_in m b) → Fewer m b → (b.men ≡ [] → ⊥) → Served m l t ok b
 fewer-served (Material.One kind) l t ok b g f n = absurd (n f)
 fewer-served (Material.Two j k r) l t ok b g (inl e) n = absurd (n e)
@@ -218,7 +217,7 @@ fewer-served Material.Pawn l t ok b g (inr (kind, h, w)) n =
 
 -- ---- every board of a game
 
-module _ (m : Material) (l : Lent) (t : List ℕ) (ok : check_with m l t ≡ Checked.Accepted) where
+module _ (m : Material) (l : Lent) (t : List ℕ) (ok : check_with m l t ≡ Ok Checked.Accepted) where
   served : (b : Board) → Within m b → (b.men ≡ [] → ⊥) → Served m l t ok b
   served b d n = go d.men
     where

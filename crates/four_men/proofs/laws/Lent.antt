@@ -1,5 +1,5 @@
 -- What is read in accepted lent tables is true, and a depth read there is one that they hold.
-use Rattle.std.specs.Prelude.{◌≡◌, refl, Bool, ◌⊎◌, ℕ, zero, suc, ◌+◌, T, eqb, leb, get_or}
+use Rattle.std.specs.Prelude.{◌≡◌, refl, Bool, ◌⊎◌, ℕ, zero, suc, ◌+◌, T, eqb, leb, get_or, Err, Ok, Result}
 use Rattle.std.proofs.Common.{sym, ◌∙◌, inl, inr, arith, eqb→eq, le→leb, eq-eqb}
 use Rattle.std.proofs.Math.Path.{ap, subst⁻¹}
 use Rattle.std.proofs.Math.Bool.{true, false, cond}
@@ -18,7 +18,6 @@ use Rattle.rules.specs.Rules.{Board, empty}
 use Rattle.rules.specs.Chess.{chess}
 use Rattle.numbering.specs.Number.{number_of}
 use Rattle.answers.specs.declared.Checked.{Checked}
-use Rattle.answers.specs.declared.Checked.TheVariants.{Accepted, Wrong, Refused}
 use Rattle.endings.specs.Ending.{Lone, Ending, byte_of}
 use Rattle.endings.specs.Answers.{check_of}
 use Rattle.endings.proofs.laws.EndingDrawn.{ending-closed, bare-drawn}
@@ -34,10 +33,10 @@ use Rattle.four_men.proofs.laws.Numbered.{lawful_with}
 
 -- ---- the lent table of a kind
 
-pub accepted-is : (c : Checked) → T (accepts c) → c ≡ Checked.Accepted
-accepted-is Accepted t = refl
-accepted-is (Wrong n) t = absurd t
-accepted-is (Refused n) t = absurd t
+pub accepted-is : (c : Result Checked ℕ) → T (accepts c) → c ≡ Ok Checked.Accepted
+accepted-is (Ok Checked.Accepted) t = refl
+accepted-is (Ok (Checked.Wrong n)) t = absurd t
+accepted-is (Err n) t = absurd t
 
 module _ (j k : ℕ) (r : Bool) (l : Lent) where
   -- a man left alone, of one of the two kinds, or bare kings
@@ -64,19 +63,19 @@ module _ (j k : ℕ) (r : Bool) (l : Lent) where
 
   module _ (ok : T (lent_accepted (Material.Two j k r) l)) where
     -- each kind's table is accepted for it
-    pub own-accepted : (kind : ℕ) → (kind ≡ j) ⊎ (kind ≡ k) → check_of kind (lent_for j l kind) ≡ Checked.Accepted
+    pub own-accepted : (kind : ℕ) → (kind ≡ j) ⊎ (kind ≡ k) → check_of kind (lent_for j l kind) ≡ Ok Checked.Accepted
     own-accepted kind s = go (eqb kind j) refl s
       where
-        one : check_of j l.first ≡ Checked.Accepted
+        one : check_of j l.first ≡ Ok Checked.Accepted
         one = accepted-is (check_of j l.first)
             (and_left (accepts (check_of j l.first)) (accepts (check_of k l.second)) ok)
 
-        other : check_of k l.second ≡ Checked.Accepted
+        other : check_of k l.second ≡ Ok Checked.Accepted
         other = accepted-is (check_of k l.second)
             (and_right (accepts (check_of j l.first)) (accepts (check_of k l.second)) ok)
 
         go : (x : Bool) → eqb kind j ≡ x → (kind ≡ j) ⊎ (kind ≡ k)
-            → check_of kind (cond x l.first l.second) ≡ Checked.Accepted
+            → check_of kind (cond x l.first l.second) ≡ Ok Checked.Accepted
         go true e s = ap (λ (i : ℕ). check_of i l.first) (eqb→eq kind j (subst⁻¹ T e tt)) ∙ one
         go false e (inl h) = absurd (refuted e (subst⁻¹ T (eq-eqb kind j h) tt))
         go false e (inr h) = ap (λ (i : ℕ). check_of i l.second) h ∙ other

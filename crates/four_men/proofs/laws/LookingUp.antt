@@ -1,6 +1,6 @@
 -- Look-up on accepted tables never refuses a legal position of the ending, and answers its true value and depth, of
 -- pieces or of a pawn (demand 2).
-use Rattle.std.specs.Prelude.{◌≡◌, List, ℕ, T}
+use Rattle.std.specs.Prelude.{◌≡◌, List, ℕ, T, Ok}
 use Rattle.std.proofs.Common.{sym, ap, subst}
 use Rattle.std.proofs.Math.Path.{subst⁻¹}
 use Rattle.std.proofs.Math.Logic.{inl}
@@ -66,7 +66,7 @@ normal-within m w b g e = go m w g e
           men = inl (pawn-alone (flipped s b) (h.colour, (h.square, h.men)));
         }
 
-module _ (m : Material) (l : Lent) (t : List ℕ) (ok : check_with m l t ≡ Checked.Accepted) where
+module _ (m : Material) (l : Lent) (t : List ℕ) (ok : check_with m l t ≡ Ok Checked.Accepted) where
   abbrev pub bytes_of : Board → ℕ
   bytes_of = reads chess (numbered m l) t
 

@@ -1,7 +1,8 @@
 -- Turning a position turns its move, but for the mirror pair where two maps fit: once for all eight maps, the men in
 -- either slot, the colours exchanged or not where that is allowed, every table and every position with one man or two
 -- (02, P5, P9 and P10).
-use Rattle.std.specs.Prelude.{◌≡◌, Bool, true, false, cond, not, List, ℕ, T, eqb}
+use Rattle.rules.specs.declared.Move.{Move}
+use Rattle.std.specs.Prelude.{◌≡◌, Bool, true, false, cond, not, List, ℕ, T, eqb, Option, Err, Result}
 use Rattle.std.proofs.Math.Path.{refl, ap}
 use Rattle.std.proofs.Common.{sym, ◌∙◌, eqb-true}
 use Rattle.theory.specs.Required.{required_at}
@@ -25,7 +26,6 @@ use Rattle.numbering.proofs.laws.FitLaws.{same-normal, turn-plain, turn-mirrored
 use Rattle.position.specs.declared.Position.{Position}
 use Rattle.position.specs.Keyed.{board_of}
 use Rattle.position.specs.Refusals.{standing_with}
-use Rattle.answers.specs.declared.BestMove.{BestMove}
 use Rattle.answers.specs.declared.Answer.{Answer}
 use Rattle.endings.specs.Answers.{advice_of, answer_of, mapped_advice, mapped_answer, chosen_by, chosen}
 use Rattle.endings.proofs.laws.MoveTurned.{advice-by, advice-by-three, MovesOnly, mapped-only, twice-only}
@@ -81,19 +81,19 @@ module _ (l : Lent) (t : List ℕ) where
   bytes_for m = reads chess (numbered m l) t
 
   -- what is answered where 1 to 6 do not refuse
-  abbrev answered : Material → Board → Answer
+  abbrev answered : Material → Board → Result Answer ℕ
   answered m b =
-      cond (not (lengths_fit m l t)) (Answer.Refused 7)
-      (cond (not (eqb (bytes_for m b) (required_at chess (bytes_for m) b))) (Answer.Refused 11)
+      cond (not (lengths_fit m l t)) (Err 7)
+      (cond (not (eqb (bytes_for m b) (required_at chess (bytes_for m) b))) (Err 11)
       (answer_of (bytes_for m b) (chosen_by (map_in m) (normal_in m) (bytes_for m) b)))
 
   looked : (p : Position) → look_up_with l t p
-      ≡ cond (not (eqb (standing_with p) 0)) (Answer.Refused (standing_with p))
+      ≡ cond (not (eqb (standing_with p) 0)) (Err (standing_with p))
       (answered (material_in (board_of p).men) (board_of p))
   unfolding look_up_with
   looked p = refl
 
-  module _ (f : Answer → Answer) (g : BestMove → BestMove) (only : MovesOnly f g) (s : Change) (p : Position)
+  module _ (f : Result Answer ℕ → Result Answer ℕ) (g : Option Move → Option Move) (only : MovesOnly f g) (s : Change) (p : Position)
       (pieces : material_in (board_of p).men ≡ Material.Pawn → ⊥) where
     abbrev b : Board
     b = board_of p
@@ -127,10 +127,10 @@ module _ (l : Lent) (t : List ℕ) where
           )
           (go (lengths_fit m l t) (eqb (bytes_for m b) (required_at chess (bytes_for m) b)))
         where
-          go : (x y : Bool) → cond (not x) (Answer.Refused 7)
-              (cond (not y) (Answer.Refused 11) (answer_of (bytes_for m b) (g (chosen (bytes_for m) b))))
-              ≡ f (cond (not x) (Answer.Refused 7)
-              (cond (not y) (Answer.Refused 11) (answer_of (bytes_for m b) (chosen (bytes_for m) b))))
+          go : (x y : Bool) → cond (not x) (Err 7)
+              (cond (not y) (Err 11) (answer_of (bytes_for m b) (g (chosen (bytes_for m) b))))
+              ≡ f (cond (not x) (Err 7)
+              (cond (not y) (Err 11) (answer_of (bytes_for m b) (chosen (bytes_for m) b))))
           go false y = sym (only.refused 7)
           go true false = sym (only.refused 11)
           go true true = sym (only.valued (bytes_for m b) (chosen (bytes_for m) b))
@@ -143,9 +143,9 @@ module _ (l : Lent) (t : List ℕ) where
         ∙ ap f (sym (looked p))
       where
         go : (x : Bool) → eqb (standing_with p) 0 ≡ x
-            → cond (not x) (Answer.Refused (standing_with p))
+            → cond (not x) (Err (standing_with p))
             (answered (material_in (changed_by s b).men) (changed_by s b))
-            ≡ f (cond (not x) (Answer.Refused (standing_with p)) (answered m b))
+            ≡ f (cond (not x) (Err (standing_with p)) (answered m b))
         go false e = sym (only.refused (standing_with p))
         go true e =
             let z = eqb-true (standing_with p) 0 e in

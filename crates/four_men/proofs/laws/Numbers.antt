@@ -1,6 +1,6 @@
 -- Numbers, for one man and for two, and for a pawn: positions of one ending have one number exactly if a change makes one into the
 -- other, and each used number leads back to a position that bears it (demand 2).
-use Rattle.std.specs.Prelude.{◌≡◌, refl, Bool, true, false, cond, ◌&&◌, ◌↔◌, map, ℕ, ◌<◌, leb}
+use Rattle.std.specs.Prelude.{◌≡◌, refl, Bool, true, false, cond, ◌&&◌, ◌↔◌, map, ℕ, ◌<◌, leb, Err, Ok, Result}
 use Rattle.std.proofs.Common.{sym, subst, ◌∙◌, arith, lt→ltb}
 use Rattle.std.proofs.Math.Path.{ap, subst⁻¹}
 use Rattle.std.proofs.Math.Bool.{not}
@@ -20,8 +20,6 @@ use Rattle.numbering.proofs.laws.Numberable.{Numberable, separate-white, separat
 use Rattle.numbering.proofs.laws.ChangeLaws.{HasNumber, coloured}
 use Rattle.numbering.proofs.laws.ClassLaws as classes
 use Rattle.numbering.proofs.laws.AtLaws.{numberable-at, used-number}
-use Rattle.index.specs.declared.NumberAnswer.{NumberAnswer}
-use Rattle.index.specs.declared.Placed.{Placed}
 use Rattle.index.specs.NumberLaws.{SameClass}
 use Rattle.index.proofs.laws.CompleteLaws.{PlacedOf, placed-facts-with, facts-placed-with}
 use Rattle.position.specs.Keyed.{slot_of, others, keyed}
@@ -60,7 +58,7 @@ placed-has-with p z =
 -- ---- demand 2's sameness
 
 number-with-is : (m : Material) (p : Position) → material_in (board_of p).men ≡ m → placing_with p ≡ 0
-    → number_with p ≡ NumberAnswer.Number (number_in m (board_of p))
+    → number_with p ≡ Ok (number_in m (board_of p))
 unfolding number_with
 number-with-is m p e z = rw (eq-eqb (placing_with p) 0 z, e)
 
@@ -74,8 +72,8 @@ module _ (p q : Position) (y : placing_with p ≡ 0) (z : placing_with q ≡ 0) 
   module _ (m : Material) (e : material_in (board_of p).men ≡ m) (f : material_in (board_of q).men ≡ m)
       (by : number_in m ≡ number_of) where
     is_number : (r : Position) → material_in (board_of r).men ≡ m → placing_with r ≡ 0
-        → number_with r ≡ NumberAnswer.Number (number_of (board_of r))
-    is_number r k x = number-with-is m r k x ∙ ap (λ (g : Board → ℕ). NumberAnswer.Number (g (board_of r))) by
+        → number_with r ≡ Ok (number_of (board_of r))
+    is_number r k x = number-with-is m r k x ∙ ap (λ (g : Board → ℕ). Ok (g (board_of r))) by
 
     same-pieces : (number_with p ≡ number_with q) ↔ SameClass p q
     same-pieces = (there, here)
@@ -91,7 +89,7 @@ module _ (p q : Position) (y : placing_with p ≡ 0) (z : placing_with q ≡ 0) 
         here : SameClass p q → number_with p ≡ number_with q
         here s =
             is_number p e y
-            ∙ ap NumberAnswer.Number
+            ∙ ap Ok
             (sym (ap number_of s.1 ∙ classes.number-along s.0 (board_of p) (placed-has-with p y)))
             ∙ sym (is_number q f z)
 
@@ -101,7 +99,7 @@ module _ (p q : Position) (y : placing_with p ≡ 0) (z : placing_with q ≡ 0) 
   same-pawn e f =
       let w = pawns.same_number (board_of p) (board_of q) (placed-pawn p y e) (placed-pawn q z f) in (
         λ g. let s = w.0 (one_number Material.Pawn e f g) in (s.0, sym s.1),
-        λ s. number-with-is Material.Pawn p e y ∙ ap NumberAnswer.Number (w.1 (s.0, sym s.1))
+        λ s. number-with-is Material.Pawn p e y ∙ ap Ok (w.1 (s.0, sym s.1))
             ∙ sym (number-with-is Material.Pawn q f z),
       )
 
@@ -214,8 +212,8 @@ used-bears-with Material.Pawn w n h u = record {
 }
 
 found : (a b c : Bool) (p q : Position)
-    → cond (not a) (Placed.Refused 1) (cond b (Placed.Refused 8) (cond c (Placed.At q) (Placed.Refused 9)))
-    ≡ Placed.At p
+    → cond {A = Result Position ℕ} (not a) (Err 1) (cond b (Err 8) (cond c (Ok q) (Err 9)))
+    ≡ Ok p
     → (a ≡ true) × (b ≡ false) × (c ≡ true) × (q ≡ p)
 found false b c p q e = let z : ◌≡◌ {A = ℕ} 0 1 = cc in absurd (omega arith)
 found true true c p q e = let z : ◌≡◌ {A = ℕ} 0 1 = cc in absurd (omega arith)
@@ -223,7 +221,7 @@ found true false false p q e = let z : ◌≡◌ {A = ℕ} 0 1 = cc in absurd (o
 found true false true p q e = let z : q ≡ p = cc in (refl, refl, refl, z)
 
 -- EACH USED NUMBER LEADS BACK TO A POSITION THAT BEARS IT.
-pub number-back-with : (m : Material) (n : ℕ) (p : Position) → placed_with m n ≡ Placed.At p → BearsOf m n p
+pub number-back-with : (m : Material) (n : ℕ) (p : Position) → placed_with m n ≡ Ok p → BearsOf m n p
 unfolding placed_with
 number-back-with m n p e =
     let f = found (given m) (leb (size_of m) n) (used_in m n) p (keyed (board_for m n)) e in

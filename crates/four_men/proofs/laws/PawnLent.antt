@@ -1,6 +1,6 @@
 -- What is read after a promotion, in an accepted part of the lent run, is true, and a depth read there is one that the
 -- part holds.
-use Rattle.std.specs.Prelude.{◌≡◌, refl, Bool, List, [], ◌∷◌, ℕ, zero, suc, ◌+◌, ◌<◌, T, get_or}
+use Rattle.std.specs.Prelude.{◌≡◌, refl, Bool, List, [], ◌∷◌, ℕ, zero, suc, ◌+◌, ◌<◌, T, get_or, Ok}
 use Rattle.std.proofs.Common.{sym, ◌∙◌, arith}
 use Rattle.std.proofs.Math.Path.{subst⁻¹}
 use Rattle.std.proofs.Math.Bool.{true, false, cond}
@@ -43,7 +43,7 @@ part-lent l (suc (suc (suc (suc n)))) h = absurd (omega arith)
 
 module _ (l : Lent) (ok : T (lent_accepted Material.Pawn l)) where
   -- each kind's part is accepted for it
-  pub part-accepted : (kind : ℕ) → kind < 4 → check_of kind (part_of kind l.first) ≡ Checked.Accepted
+  pub part-accepted : (kind : ℕ) → kind < 4 → check_of kind (part_of kind l.first) ≡ Ok Checked.Accepted
   part-accepted kind h =
       accepted-is (check_of kind (part_of kind l.first))
       (all-out (λ k. accepts (check_of k (part_of k l.first))) (below-four kind h) ok)

@@ -1,6 +1,7 @@
 -- Turning a position with a pawn turns its move, with no exception: the reversal of the files and the exchange of
 -- colours, which turns the ranks round, on every table (02, P5, P9 and P12).
-use Rattle.std.specs.Prelude.{◌≡◌, refl, Bool, true, false, cond, not, List, [], ◌∷◌, map, ℕ, T, eqb}
+use Rattle.rules.specs.declared.Move.{Move}
+use Rattle.std.specs.Prelude.{◌≡◌, refl, Bool, true, false, cond, not, List, [], ◌∷◌, map, ℕ, T, eqb, Option, Err, Result}
 use Rattle.std.proofs.Common.{sym, ap₂, ◌∙◌, inl, arith, eqb-true}
 use Rattle.std.proofs.Math.Path.{ap, subst⁻¹}
 use Rattle.std.proofs.Math.Bool.{xor}
@@ -27,7 +28,6 @@ use Rattle.position.specs.Refusals.{standing_with}
 use Rattle.position.specs.Maps.{changed_position}
 use Rattle.position.proofs.laws.ChangedRefusals.{change-board, standing-with-changed}
 use Rattle.position.proofs.laws.StandingWith.{standing-with-pawn}
-use Rattle.answers.specs.declared.BestMove.{BestMove}
 use Rattle.answers.specs.declared.Answer.{Answer}
 use Rattle.endings.specs.Answers.{advice_of, answer_of, mapped_advice, mapped_answer, chosen_by}
 use Rattle.endings.proofs.laws.MoveTurned.{advice-by, mapped-only}
@@ -102,14 +102,14 @@ module _ (l : Lent) (t : List ℕ) where
   bytes = pawn_bytes l t
 
   -- what is answered where 1 to 6 do not refuse
-  abbrev answered : Board → Answer
+  abbrev answered : Board → Result Answer ℕ
   answered b =
-      cond (not (lengths_fit Material.Pawn l t)) (Answer.Refused 7)
-      (cond (not (eqb (bytes b) (required_at chess bytes b))) (Answer.Refused 11)
+      cond (not (lengths_fit Material.Pawn l t)) (Err 7)
+      (cond (not (eqb (bytes b) (required_at chess bytes b))) (Err 11)
       (answer_of (bytes b) (chosen_by (map_in Material.Pawn) (normal_in Material.Pawn) bytes b)))
 
   looked : (p : Position) → material_in (board_of p).men ≡ Material.Pawn → look_up_with l t p
-      ≡ cond (not (eqb (standing_with p) 0)) (Answer.Refused (standing_with p)) (answered (board_of p))
+      ≡ cond (not (eqb (standing_with p) 0)) (Err (standing_with p)) (answered (board_of p))
   unfolding look_up_with
   looked p e = rw e
 
@@ -129,13 +129,13 @@ module _ (l : Lent) (t : List ℕ) where
       )
       (go (lengths_fit Material.Pawn l t) (eqb (bytes b) (required_at chess bytes b)))
     where
-      advice : BestMove
+      advice : Option Move
       advice = chosen_by (map_in Material.Pawn) (normal_in Material.Pawn) bytes b
 
-      go : (x y : Bool) → cond (not x) (Answer.Refused 7)
-          (cond (not y) (Answer.Refused 11) (answer_of (bytes b) (mapped_advice (map_by s) advice)))
-          ≡ mapped_answer (map_by s) (cond (not x) (Answer.Refused 7)
-          (cond (not y) (Answer.Refused 11) (answer_of (bytes b) advice)))
+      go : (x y : Bool) → cond (not x) (Err 7)
+          (cond (not y) (Err 11) (answer_of (bytes b) (mapped_advice (map_by s) advice)))
+          ≡ mapped_answer (map_by s) (cond (not x) (Err 7)
+          (cond (not y) (Err 11) (answer_of (bytes b) advice)))
       go false y = refl
       go true false = refl
       go true true = sym ((mapped-only (map_by s)).valued (bytes b) advice)
@@ -164,7 +164,7 @@ module _ (l : Lent) (t : List ℕ) where
         ∙ ap (mapped_answer (map_by s)) (sym (looked p e))
       where
         go : (x : Bool) → eqb (standing_with p) 0 ≡ x
-            → cond (not x) (Answer.Refused (standing_with p)) (answered (flipped s (board_of p)))
-            ≡ mapped_answer (map_by s) (cond (not x) (Answer.Refused (standing_with p)) (answered (board_of p)))
+            → cond (not x) (Err (standing_with p)) (answered (flipped s (board_of p)))
+            ≡ mapped_answer (map_by s) (cond (not x) (Err (standing_with p)) (answered (board_of p)))
         go false f = refl
         go true f = answered-flipped s (board_of p) (standing-with-pawn p (eqb-true (standing_with p) 0 f)) here

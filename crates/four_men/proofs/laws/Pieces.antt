@@ -1,6 +1,6 @@
 -- Of pieces, what is chosen on the normal board of the ending is what is chosen on the normal board by king rule and
 -- key.
-use Rattle.std.specs.Prelude.{◌≡◌, ℕ, T}
+use Rattle.std.specs.Prelude.{◌≡◌, ℕ, T, Result}
 use Rattle.std.proofs.Common.{ap₂, subst}
 use Rattle.std.proofs.Math.Path.{subst⁻¹}
 use Rattle.symmetry.specs.Symmetry.{Symmetry}
@@ -30,7 +30,7 @@ pieces-known m b g e =
     let w = known_of m b g e in
     subst⁻¹ (λ (x : Material). T (known x)) (material-in m (known-given m w) b.men e) w
 
-module _ (m : Material) (b : Board) (g : T (legal b)) (e : OfMaterial m b) (a : Answer) where
+module _ (m : Material) (b : Board) (g : T (legal b)) (e : OfMaterial m b) (a : Result Answer ℕ) where
   abbrev own : Material
   own = material_in b.men
 

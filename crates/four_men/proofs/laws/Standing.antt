@@ -1,6 +1,6 @@
 -- A position with one man or two, or with a pawn, is legal exactly where no refusal applies; a legal board, keyed, is
 -- not refused.
-use Rattle.std.specs.Prelude.{◌≡◌, refl, Bool, true, false, cond, not, List, [], ◌∷◌, ◌++◌, ℕ, min, max, T, leb, ltb, eqb}
+use Rattle.std.specs.Prelude.{◌≡◌, refl, Bool, true, false, cond, not, List, [], ◌∷◌, ◌++◌, ℕ, min, max, T, leb, ltb, eqb, None, Option, Some}
 use Rattle.std.proofs.Common.{sym, ap, subst, ◌∙◌, ⊎_elim, arith, ltb→lt, eqb-true}
 use Rattle.std.proofs.Math.Path.{subst⁻¹}
 use Rattle.std.proofs.lemmas.Bool.{lt-leb}
@@ -16,8 +16,6 @@ use Rattle.numbering.specs.Men.{material_of}
 use Rattle.numbering.specs.Material.{men_of, material_in, legal_in, OfMaterial}
 use Rattle.numbering.specs.Material as materials
 use Rattle.numbering.proofs.laws.MaterialLaws.{one-men}
-use Rattle.position.specs.declared.Slot.{Slot}
-use Rattle.position.specs.declared.Slot.TheVariants.{Absent, Present}
 use Rattle.position.specs.declared.Position.{Position}
 use Rattle.position.specs.Keyed.{slot_men, board_of, slot_of, others, keyed}
 use Rattle.position.specs.Refusals.{bad_men_of, standing_with}
@@ -39,12 +37,12 @@ men-known p e n = ⊎_elim (λ f. absurd (n f)) (λ t. t) (pawn-or-pieces p e)
 -- ---- where no refusal applies
 
 -- one man or two have a material
-pub has-material : (f s : Slot) → bad_men_of f s ≡ false
+pub has-material : (f s : Option Piece) → bad_men_of f s ≡ false
     → material_of (slot_men f ++ slot_men s) ≡ men_of (material_in (slot_men f ++ slot_men s))
 unfolding material_of
-has-material Absent s e = absurd (refuted e tt)
-has-material (Present a) Absent e = sym (one-men a.kind)
-has-material (Present a) (Present c) e =
+has-material None s e = absurd (refuted e tt)
+has-material (Some a) None e = sym (one-men a.kind)
+has-material (Some a) (Some c) e =
     ap (λ (n : ℕ). piece_of (min a.kind c.kind) 0 0 ∷ piece_of (max a.kind c.kind) n 0 ∷ [])
     (flip (eqb a.colour c.colour))
   where

@@ -1,5 +1,5 @@
 -- Filling in steps with lent tables (02, P8 and P10): when a step says done, and what a run from a start comes to.
-use Rattle.std.specs.Prelude.{◌≡◌, Bool, true, false, ◌⊎◌, ◌↔◌, List, T, length, get_or}
+use Rattle.std.specs.Prelude.{◌≡◌, Bool, true, false, ◌⊎◌, ◌↔◌, List, T, length, get_or, Err}
 use Rattle.std.proofs.Math.Path.{refl, sym, ap}
 use Rattle.std.proofs.Common.{◌∙◌, inl, inr, arith}
 use Prim.Native.Nat.{ℕ, zero, suc, ◌<◌, ◌≤◌, min}
@@ -8,12 +8,11 @@ use Rattle.finite.specs.Truth.{true_of, le-or-lt}
 use Rattle.finite.specs.Mapped.{length-map_from}
 use Rattle.theory.proofs.laws.Passes.{Settled}
 use Rattle.table_theory.specs.declared.Progress.{Progress}
-use Rattle.table_theory.specs.Tables.{Result, undecided, deepest, too_deep, ended, some_settles, start_byte}
+use Rattle.table_theory.specs.Tables.{Result as FillEnd, undecided, deepest, too_deep, ended, some_settles, start_byte}
 use Rattle.table_theory.specs.Steps.{Said, settled, ends, Stepped, started, last_before, step_at, step_from, steps}
 use Rattle.table_theory.proofs.laws.StepLaws.{step-done, step-more, step_skip, step-deep, from-going, from-length}
 use Rattle.table_theory.proofs.laws.StepsTrue as runs
 use Rattle.rules.specs.Chess.{chess}
-use Rattle.answers.specs.declared.Filled.{Filled}
 use Rattle.endings.specs.Answers.{result_of, Fill}
 use Rattle.numbering.specs.declared.Material.{Material}
 use Rattle.numbering.specs.Material.{given, size_of}
@@ -50,7 +49,7 @@ module _ (m : Material) (l : Lent) (t : List ℕ) (p : Progress) (on : p.stage �
 
   -- A STEP SAYS DONE EXACTLY WHEN IT SETTLES NONE AND NO LENT TABLE HOLDS A DEPTH OF k OR MORE, whatever the bytes and
   -- the progress.
-  pub done-exactly : ((r : Result) × (step.said ≡ ends r) × (r ≡ too_deep → ⊥))
+  pub done-exactly : ((r : FillEnd) × (step.said ≡ ends r) × (r ≡ too_deep → ⊥))
       ↔ ((some_settles chess (numbered m l) k t ≡ false) × (holds_depth (borrowed m l) k ≡ false))
   done-exactly = (
     λ x. forth x.0 x.1 x.2 (some_settles chess (numbered m l) k t) refl (deeper k) refl (le-or-lt 254 k),
@@ -65,13 +64,13 @@ module _ (m : Material) (l : Lent) (t : List ℕ) (p : Progress) (on : p.stage �
       never zero e = let z : ◌≡◌ {A = ℕ} 0 1 = cc in omega arith
       never (suc n) e = let z : ◌≡◌ {A = ℕ} 0 1 = cc in omega arith
 
-      not-settled : (n : ℕ) (r : Result) → settled n ≡ ends r → ⊥
+      not-settled : (n : ℕ) (r : FillEnd) → settled n ≡ ends r → ⊥
       not-settled n r e = let z : ◌≡◌ {A = ℕ} 0 1 = cc in omega arith
 
-      same_end : (r : Result) → ends too_deep ≡ ends r → r ≡ too_deep
+      same_end : (r : FillEnd) → ends too_deep ≡ ends r → r ≡ too_deep
       same_end r e = cc
 
-      forth : (r : Result) → step.said ≡ ends r → (r ≡ too_deep → ⊥) → (a : Bool)
+      forth : (r : FillEnd) → step.said ≡ ends r → (r ≡ too_deep → ⊥) → (a : Bool)
           → some_settles chess (numbered m l) k t ≡ a → (d : Bool) → deeper k ≡ d → (254 ≤ k) ⊎ (k < 254)
           → (some_settles chess (numbered m l) k t ≡ false) × (deeper k ≡ false)
       forth r e no? false f false g x = (f, g)
@@ -117,7 +116,7 @@ module _ (m : Material) (l : Lent) (t : List ℕ) (w : T (given m)) (long : T (l
 
   module _ (ok : T (lent_accepted m l)) (small : LentBytes m l) where
     -- A RUN THAT SAYS DONE LEAVES WHAT THE SINGLE FILL LEAVES, answer and every byte; so does one that gives 10.
-    pub steps-fill-with : (n : ℕ) (r : Result) → (ran n).said ≡ ends r
+    pub steps-fill-with : (n : ℕ) (r : FillEnd) → (ran n).said ≡ ends r
         → (result_of r ≡ (fill_with m l t).answer) × ((ran n).bytes ≡ (fill_with m l t).bytes)
     unfolding numbered lawful_for
     steps-fill-with n r e =
@@ -134,24 +133,24 @@ module _ (m : Material) (l : Lent) (t : List ℕ) (w : T (given m)) (long : T (l
         (lent-held-for m w l ok) (bytes-end m l small) t (sized m l t w long ok) n k h e
 
     -- THE SINGLE FILL GIVES 10 EXACTLY WHERE A RUN DOES.
-    pub steps-ten-with : ((fill_with m l t).answer ≡ Filled.Refused 10) ↔ ((n : ℕ) × ((ran n).said ≡ ends too_deep))
+    pub steps-ten-with : ((fill_with m l t).answer ≡ Err 10) ↔ ((n : ℕ) × ((ran n).said ≡ ends too_deep))
     steps-ten-with = (
       λ e. (255, go e (ran 255).said refl),
       λ x. sym (steps-fill-with x.0 too_deep x.1).0,
     )
       where
-        ten : (r : Result) → result_of r ≡ Filled.Refused 10 → r ≡ too_deep
+        ten : (r : FillEnd) → result_of r ≡ Err 10 → r ≡ too_deep
         ten undecided e = let z : ◌≡◌ {A = ℕ} 0 1 = cc in absurd (omega arith)
         ten (deepest n) e = let z : ◌≡◌ {A = ℕ} 0 1 = cc in absurd (omega arith)
         ten too_deep e = refl
 
-        go : (fill_with m l t).answer ≡ Filled.Refused 10 → (a : Said) → (ran 255).said ≡ a
+        go : (fill_with m l t).answer ≡ Err 10 → (a : Said) → (ran 255).said ≡ a
             → (ran 255).said ≡ ends too_deep
         go e (settled k) f = absurd (steps-end-with 255 k (omega arith) f)
         go e (ends r) f = f ∙ ap ends (ten r ((steps-fill-with 255 r f).0 ∙ e))
 
     -- STEPS PAST THE END CHANGE NOTHING.
-    pub steps-past-with : (n : ℕ) (r : Result) → (ran n).said ≡ ends r → (k : ℕ)
+    pub steps-past-with : (n : ℕ) (r : FillEnd) → (ran n).said ≡ ends r → (k : ℕ)
         → steps chess (numbered m l) (holds_depth (borrowed m l)) k (ran n) ≡ ran n
     unfolding numbered lawful_for
     steps-past-with n r e k =

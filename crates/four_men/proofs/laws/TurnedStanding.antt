@@ -1,6 +1,7 @@
 -- A position turned, its men in either slot and the colours exchanged or not, stands for the board so changed and, but
 -- for a pawn, meets the same refusal.
-use Rattle.std.specs.Prelude.{◌≡◌, Bool, false, cond, ◌&&◌, ◌||◌, ◌++◌, ℕ, ◌-◌, ◌<◌, leb, eqb}
+use Rattle.rules.specs.declared.Piece.{Piece}
+use Rattle.std.specs.Prelude.{◌≡◌, Bool, false, cond, ◌&&◌, ◌||◌, ◌++◌, ℕ, ◌-◌, ◌<◌, leb, eqb, None, Option, Some}
 use Rattle.std.proofs.Math.Path.{refl, sym, ap, ap₂, subst⁻¹}
 use Rattle.std.proofs.Common.{◌∙◌, arith, leb-false}
 use Rattle.std.proofs.Math.Bool.{true, not}
@@ -19,8 +20,6 @@ use Rattle.numbering.specs.declared.Material.{Material}
 use Rattle.numbering.specs.Material.{material_in}
 use Rattle.numbering.specs.Men.{exchangeable}
 use Rattle.numbering.specs.Change.{Change, changed_by}
-use Rattle.position.specs.declared.Slot.{Slot}
-use Rattle.position.specs.declared.Slot.TheVariants.{Absent, Present}
 use Rattle.position.specs.declared.Position.{Position}
 use Rattle.position.specs.Keyed.{slot_men, board_of}
 use Rattle.position.specs.Refusals.{bad_men_of, bad_side, bad_square, bad_pawn, shared_square, placing_with, standing_with}
@@ -36,13 +35,13 @@ slots-board : (e : Bool) (p : Position) → board_of (in_slots e p) ≡ reordere
 unfolding board_of in_slots
 slots-board e p = board-eq refl refl refl (go e p.first p.second)
   where
-    go : (e : Bool) (f s : Slot)
+    go : (e : Bool) (f s : Option Piece)
         → slot_men (first_slot e f s) ++ slot_men (second_slot e f s) ≡ crossed e (slot_men f ++ slot_men s)
     go false f s = unfold crossed in refl
-    go true Absent Absent = unfold crossed in refl
-    go true Absent (Present c) = unfold crossed in refl
-    go true (Present a) Absent = unfold crossed in refl
-    go true (Present a) (Present c) = unfold crossed in refl
+    go true None None = unfold crossed in refl
+    go true None (Some c) = unfold crossed in refl
+    go true (Some a) None = unfold crossed in refl
+    go true (Some a) (Some c) = unfold crossed in refl
 
 pub turned-board : (s : Change) (p : Position) → board_of (turned_position s p) ≡ changed_by s (board_of p)
 unfolding turned_position changed_by
@@ -63,11 +62,11 @@ crossed-men e p = go e p.first p.second
     swap false true = refl
     swap false false = refl
 
-    go : (e : Bool) (f s : Slot) → bad_men_of (first_slot e f s) (second_slot e f s) ≡ bad_men_of f s
+    go : (e : Bool) (f s : Option Piece) → bad_men_of (first_slot e f s) (second_slot e f s) ≡ bad_men_of f s
     go false f s = refl
-    go true Absent s = refl
-    go true (Present a) Absent = refl
-    go true (Present a) (Present c) = swap (leb 4 c.kind) (leb 4 a.kind)
+    go true None s = refl
+    go true (Some a) None = refl
+    go true (Some a) (Some c) = swap (leb 4 c.kind) (leb 4 a.kind)
 
 turned-men : (s : Change) (p : Position)
     → bad_men_of (turned_position s p).first (turned_position s p).second ≡ bad_men_of p.first p.second

@@ -1,5 +1,5 @@
 -- An ending's word is read back, and no two words are one ending's; the word of a position's men is its ending's.
-use Rattle.std.specs.Prelude.{◌≡◌, refl, Bool, true, false, cond, not, ◌&&◌, ◌||◌, [], ◌∷◌, ◌++◌, ℕ, zero, suc, ◌+◌, ◌-◌, ◌*◌, ◌/◌, ◌%◌, ◌^◌, ◌≤◌, ◌<◌, min, max, T, leb, ltb, eqb}
+use Rattle.std.specs.Prelude.{◌≡◌, refl, Bool, true, false, cond, not, ◌&&◌, ◌||◌, [], ◌∷◌, ◌++◌, ℕ, zero, suc, ◌+◌, ◌-◌, ◌*◌, ◌/◌, ◌%◌, ◌^◌, ◌≤◌, ◌<◌, min, max, T, leb, ltb, eqb, None, Option, Some}
 use Rattle.std.proofs.Common.{sym, ap, ◌∙◌, arith, leb→le, ltb→lt, le→leb, lt→ltb, ne_eqb, eqb-true, leb-false}
 use Rattle.std.proofs.lemmas.Bool.{eqb-false}
 use Rattle.finite.specs.Truth.{and_left, and_right, and_both, true_of, refuted}
@@ -7,8 +7,6 @@ use Rattle.rules.specs.declared.Piece.{Piece}
 use Rattle.numbering.specs.declared.Material.{Material}
 use Rattle.numbering.specs.Material.{given, one_of, material_in, size_of}
 use Rattle.numbering.proofs.laws.MaterialLaws.{one_piece}
-use Rattle.position.specs.declared.Slot.{Slot}
-use Rattle.position.specs.declared.Slot.TheVariants.{Absent, Present}
 use Rattle.position.specs.Keyed.{slot_men, board_of}
 use Rattle.position.specs.Refusals.{bad_men_of, placing_with}
 use Rattle.position.proofs.laws.BothSizes.{placed-men-with}
@@ -144,10 +142,10 @@ kind-given kind h = go (eqb kind 4) refl
         under : (k : ℕ) → k < 5 → (k ≡ 4 → ⊥) → k < 4
         under k h n = omega (arith, n)
 
-men-given : (f s : Slot) → bad_men_of f s ≡ false → T (given (material_in (slot_men f ++ slot_men s)))
-men-given Absent s e = absurd (refuted e tt)
-men-given (Present a) Absent e = kind-given a.kind (leb-false 5 a.kind e)
-men-given (Present a) (Present c) e = go (leb 4 a.kind) refl (leb 4 c.kind) refl e
+men-given : (f s : Option Piece) → bad_men_of f s ≡ false → T (given (material_in (slot_men f ++ slot_men s)))
+men-given None s e = absurd (refuted e tt)
+men-given (Some a) None e = kind-given a.kind (leb-false 5 a.kind e)
+men-given (Some a) (Some c) e = go (leb 4 a.kind) refl (leb 4 c.kind) refl e
   where
     go : (x : Bool) → leb 4 a.kind ≡ x → (y : Bool) → leb 4 c.kind ≡ y → (x || y) ≡ false
         → T (leb (min a.kind c.kind) (max a.kind c.kind) && ltb (max a.kind c.kind) 4)
@@ -191,21 +189,21 @@ module _ (word : ℕ) where
   read-two n s e = sym (rw (ne_eqb (word / 256 % 16777216) 0 n, ne_eqb (word / 256 % 256) 0 s, e, whole_word))
 
 module _ (a : Piece) where
-  pub joined-none : (s : Slot) (r : Material) → s ≡ Absent → r ≡ one_of a.kind → r ≡ material_in (a ∷ slot_men s)
+  pub joined-none : (s : Option Piece) (r : Material) → s ≡ None → r ≡ one_of a.kind → r ≡ material_in (a ∷ slot_men s)
   joined-none s r e f = f ∙ sym (rw e)
 
-  pub joined-some : (s : Slot) (c : Piece) (r : Material) → s ≡ Present c → r ≡ material_in (a ∷ c ∷ [])
+  pub joined-some : (s : Option Piece) (c : Piece) (r : Material) → s ≡ Some c → r ≡ material_in (a ∷ c ∷ [])
       → r ≡ material_in (a ∷ slot_men s)
   joined-some s c r e f = f ∙ sym (rw e)
 
-  pub alone-some : (s : Slot) (r : Material) → s ≡ Present a → r ≡ one_of a.kind → r ≡ material_in (slot_men s)
+  pub alone-some : (s : Option Piece) (r : Material) → s ≡ Some a → r ≡ one_of a.kind → r ≡ material_in (slot_men s)
   alone-some s r e f = f ∙ sym (rw e)
 
-  pub in_some : (f s : Slot) (r : Material) → f ≡ Present a → r ≡ material_in (a ∷ slot_men s)
+  pub in_some : (f s : Option Piece) (r : Material) → f ≡ Some a → r ≡ material_in (a ∷ slot_men s)
       → r ≡ material_in (slot_men f ++ slot_men s)
   in_some f s r e g = g ∙ sym (rw e)
 
-  pub in-none : (f s : Slot) (r : Material) → f ≡ Absent → r ≡ material_in (slot_men s)
+  pub in-none : (f s : Option Piece) (r : Material) → f ≡ None → r ≡ material_in (slot_men s)
       → r ≡ material_in (slot_men f ++ slot_men s)
   in-none f s r e g = g ∙ sym (rw e)
 
@@ -237,7 +235,7 @@ pub two-word-is : (m : Material) (j k x : ℕ) (r : Bool) → m ≡ Material.Two
 two-word-is m j k x r e f = rw (e, f)
 
 -- the ending of two words, by the test
-module _ (first second : ℕ) (f s : Slot) (m : Material) (e : f ≡ man_read first) (g : s ≡ man_read second)
+module _ (first second : ℕ) (f s : Option Piece) (m : Material) (e : f ≡ man_read first) (g : s ≡ man_read second)
     (h : m ≡ material_in (slot_men f ++ slot_men s)) where
   word-is : ending_word m ≡ ending_of first second
   word-is = rw (h, e, g)

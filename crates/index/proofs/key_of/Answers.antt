@@ -1,6 +1,5 @@
 -- `index::key_of` meets its contract: the kings' digits, and then a digit for each man. Assumes nothing.
 use native.Mathlib.Omega.{arith}
-use borrow.Author.Rules.{rules}
 use Rattle.index.proofs.laws.AnswerLaws.{by_slots}
 use Rattle.index.proofs.key_of.Goals as goal
 

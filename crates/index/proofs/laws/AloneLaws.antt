@@ -1,5 +1,6 @@
 -- One man is an instance: what is answered for both sizes is what stands for one man.
-use Rattle.std.specs.Prelude.{◌≡◌, ◌⊎◌, Bool, true, false, cond, not, ℕ, ◌≤◌, ◌<◌, leb, ltb}
+use Rattle.rules.specs.declared.Piece.{Piece}
+use Rattle.std.specs.Prelude.{◌≡◌, ◌⊎◌, Bool, true, false, cond, not, ℕ, ◌≤◌, ◌<◌, leb, ltb, Err, None, Ok, Option, Result, Some}
 use Rattle.std.proofs.Math.Path.{refl}
 use Rattle.std.proofs.Common.{ap, ◌∙◌, inl, inr, arith, le-leb, leb-false, le-ltb, lt-ltb}
 use Rattle.std.proofs.lemmas.Bool.{lt-leb}
@@ -8,14 +9,11 @@ use Rattle.numbering.specs.declared.Material.{Material}
 use Rattle.numbering.specs.Material.{material_in}
 use Rattle.numbering.proofs.laws.MaterialLaws.{one_piece}
 use Rattle.numbering.specs.Number.{number_of}
-use Rattle.position.specs.declared.Slot.{Slot}
-use Rattle.position.specs.declared.Slot.TheVariants.{Absent, Present}
 use Rattle.position.specs.declared.Position.{Position}
 use Rattle.position.specs.Keyed.{board_of, man_kind, keyed}
 use Rattle.position.specs.Refusals.{bad_men, bad_men_of, placing_refusal, placing_with}
 use Rattle.position.proofs.laws.Legality.{man-pawnless, pawnless-placed, one-men}
 use Rattle.position.proofs.laws.PlacedLaws.{placed-facts, placed-kind}
-use Rattle.index.specs.declared.Placed.{Placed}
 use Rattle.index.specs.Answers.{position_at, unused, placed_at, placed_with}
 use Rattle.index.specs.Endings.{number_in}
 use Rattle.index.proofs.laws.AnswerLaws.{board-at, unused-exactly}
@@ -37,10 +35,10 @@ placing-with p z =
       kings = w.kings;
     })
   where
-    men : (f s : Slot) → bad_men f s ≡ false → bad_men_of f s ≡ false
-    men Absent s e = e
-    men (Present m) Absent e = let h = leb-false 4 m.kind e in lt-leb 5 m.kind (omega arith)
-    men (Present m) (Present n) e = absurd (refuted e tt)
+    men : (f s : Option Piece) → bad_men f s ≡ false → bad_men_of f s ≡ false
+    men None s e = e
+    men (Some m) None e = let h = leb-false 4 m.kind e in lt-leb 5 m.kind (omega arith)
+    men (Some m) (Some n) e = absurd (refuted e tt)
 
 -- the number is one man's
 pub number-alone : (p : Position) → placing_refusal p ≡ 0
@@ -64,11 +62,11 @@ unfolding placed_with placed_at
 placed-alone kind n = rw (not_known kind, ← board-at kind n, unused-exactly kind n)
     (go (unused (position_at kind n)))
   where
-    go : (x : Bool) → cond {A = Placed} (leb 4 kind) (Placed.Refused 1)
-        (cond (leb 59136 n) (Placed.Refused 8)
-        (cond (not x) (Placed.At (keyed (board_of (position_at kind n)))) (Placed.Refused 9)))
-        ≡ cond (leb 4 kind) (Placed.Refused 1)
-        (cond (leb 59136 n) (Placed.Refused 8)
-        (cond x (Placed.Refused 9) (Placed.At (position_at kind n))))
+    go : (x : Bool) → cond {A = (Result Position ℕ)} (leb 4 kind) (Err 1)
+        (cond (leb 59136 n) (Err 8)
+        (cond (not x) (Ok (keyed (board_of (position_at kind n)))) (Err 9)))
+        ≡ cond (leb 4 kind) (Err 1)
+        (cond (leb 59136 n) (Err 8)
+        (cond x (Err 9) (Ok (position_at kind n))))
     go true = refl
     go false = unfold board_of position_at in refl

@@ -1,5 +1,5 @@
 -- What the answers are, by the tests that lead to them, and the board at a number.
-use Rattle.std.specs.Prelude.{◌≡◌, Bool, true, false, not, ◌&&◌, ◌||◌, List, [], ◌∷◌, ◌++◌, ℕ, ◌+◌, ◌*◌, ◌/◌, ◌%◌, ◌<◌, ◌≤◌, T, eqb}
+use Rattle.std.specs.Prelude.{◌≡◌, Bool, true, false, not, ◌&&◌, ◌||◌, List, [], ◌∷◌, ◌++◌, ℕ, ◌+◌, ◌*◌, ◌/◌, ◌%◌, ◌<◌, ◌≤◌, T, eqb, Err, None, Ok, Option, Some}
 use Rattle.std.proofs.Math.Path.{refl}
 use Rattle.std.proofs.Common.{sym, ap, ◌∙◌, arith}
 use borrow.Author.Tests.{le-leb, lt-leb, eq-eqb, ne_eqb}
@@ -13,14 +13,10 @@ use Rattle.numbering.proofs.laws.PairLaws.{KingsOf, kings-of}
 use Rattle.numbering.proofs.laws.Numberable.{separate-apart, ruled-separate}
 use Rattle.numbering.proofs.laws.LoneLaws.{lone-bears}
 use Rattle.rules.specs.declared.Piece.{Piece}
-use Rattle.position.specs.declared.Slot.{Slot}
-use Rattle.position.specs.declared.Slot.TheVariants.{Absent, Present}
 use Rattle.position.specs.declared.Position.{Position}
 use Rattle.position.specs.Keyed.{slot_men, board_of, lone}
 use Rattle.position.specs.Refusals.{placing_refusal}
 use Rattle.position.proofs.laws.PlacedLaws.{ending_with}
-use Rattle.index.specs.declared.NumberAnswer.{NumberAnswer}
-use Rattle.index.specs.declared.Placed.{Placed}
 use Rattle.index.specs.Answers.{number_answer, position_at, unused, placed_at}
 
 -- ---- numbering
@@ -32,7 +28,7 @@ key-append n [] l = refl
 key-append n (m ∷ k) l = key-append (n * 64 + m.square) k l
 
 -- the digits slot by slot
-pub by_slots : (n one two : ℕ) (f s : Slot) → one ≡ key_from n (slot_men f) → two ≡ key_from one (slot_men s)
+pub by_slots : (n one two : ℕ) (f s : Option Piece) → one ≡ key_from n (slot_men f) → two ≡ key_from one (slot_men s)
     → two ≡ key_from n (slot_men f ++ slot_men s)
 by_slots n one two f s g h = h ∙ ap (λ (k : ℕ). key_from k (slot_men s)) g ∙ sym (key-append n (slot_men f) (slot_men s))
 
@@ -51,20 +47,20 @@ position-key p n pair key e f g =
     key-slots q = unfold key_of board_of in refl
 
 -- a man's digit, by what is found in his slot
-pub no_digit : (n : ℕ) (slot : Slot) → slot ≡ Absent → n ≡ key_from n (slot_men slot)
+pub no_digit : (n : ℕ) (slot : Option Piece) → slot ≡ None → n ≡ key_from n (slot_men slot)
 unfolding key_from
-no_digit n slot e = sym (ap (λ (s : Slot). key_from n (slot_men s)) e)
+no_digit n slot e = sym (ap (λ (s : Option Piece). key_from n (slot_men s)) e)
 
-pub one-digit : (n : ℕ) (slot : Slot) (m : Piece) → slot ≡ Present m → n * 64 + m.square ≡ key_from n (slot_men slot)
+pub one-digit : (n : ℕ) (slot : Option Piece) (m : Piece) → slot ≡ Some m → n * 64 + m.square ≡ key_from n (slot_men slot)
 unfolding key_from
-one-digit n slot m e = sym (ap (λ (s : Slot). key_from n (slot_men s)) e)
+one-digit n slot m e = sym (ap (λ (s : Option Piece). key_from n (slot_men s)) e)
 
-pub numbered_is : (p : Position) → placing_refusal p ≡ 0 → number_answer p ≡ NumberAnswer.Number (number_of (board_of p))
+pub numbered_is : (p : Position) → placing_refusal p ≡ 0 → number_answer p ≡ Ok (number_of (board_of p))
 unfolding number_answer
 numbered_is p z = rw (eq-eqb (placing_refusal p) 0 z)
 
 pub numbered-refused : (p : Position) → (placing_refusal p ≡ 0 → ⊥)
-    → number_answer p ≡ NumberAnswer.Refused (placing_refusal p)
+    → number_answer p ≡ Err (placing_refusal p)
 unfolding number_answer
 numbered-refused p f = rw (ne_eqb (placing_refusal p) 0 f)
 
@@ -79,16 +75,16 @@ module _ (kind n : ℕ) where
   pub kings-at : KingsOf (n / 64 % 462)
   kings-at = kings-of (n / 64 % 462) (omega arith)
 
-  pub placed-above : kind < 4 → 59136 ≤ n → placed_at kind n ≡ Placed.Refused 8
+  pub placed-above : kind < 4 → 59136 ≤ n → placed_at kind n ≡ Err 8
   unfolding placed_at
   placed-above h k = rw (lt-leb 4 kind h, le-leb 59136 n k)
 
-  pub placed-unused : kind < 4 → n < 59136 → unused (position_at kind n) ≡ true → placed_at kind n ≡ Placed.Refused 9
+  pub placed-unused : kind < 4 → n < 59136 → unused (position_at kind n) ≡ true → placed_at kind n ≡ Err 9
   unfolding placed_at
   placed-unused h k u = rw (lt-leb 4 kind h, lt-leb 59136 n k, u)
 
   pub placed-used : kind < 4 → n < 59136 → unused (position_at kind n) ≡ false
-      → placed_at kind n ≡ Placed.At (position_at kind n)
+      → placed_at kind n ≡ Ok (position_at kind n)
   unfolding placed_at
   placed-used h k u = rw (lt-leb 4 kind h, lt-leb 59136 n k, u)
 

@@ -1,6 +1,6 @@
 -- The men in standard order and colours, as code puts them, are the numbering's arrangement; and the least key then
 -- leads to the normal place and the map.
-use Rattle.std.specs.Prelude.{◌≡◌, Bool, ◌&&◌, ◌||◌, T, leb}
+use Rattle.std.specs.Prelude.{◌≡◌, Bool, ◌&&◌, ◌||◌, T, leb, None, Option, Some}
 use Rattle.std.proofs.Math.Path.{refl, ap, ap₂, subst, subst⁻¹, sym}
 use Rattle.std.proofs.Common.{◌∙◌, arith, le→leb, lt→ltb, ltb→lt}
 use Rattle.std.proofs.Math.Bool.{true, false, cond, not}
@@ -24,8 +24,6 @@ use Rattle.numbering.proofs.laws.MaterialLaws.{one_piece, one_known}
 use Rattle.numbering.specs.Change.{changed_by}
 use Rattle.numbering.specs.Number.{arranged}
 use Rattle.numbering.proofs.laws.NormalLaws.{stays-diagonal}
-use Rattle.position.specs.declared.Slot.{Slot}
-use Rattle.position.specs.declared.Slot.TheVariants.{Absent, Present}
 use Rattle.position.specs.declared.Position.{Position}
 use Rattle.position.specs.Keyed.{board_of, man_in, nobody}
 use Rattle.position.specs.Refusals.{placing_with}
@@ -102,7 +100,7 @@ module _ (j k x y : ℕ) (hx : x < 64) (hy : y < 64) (hk : k < 4) (h : j ≤ k) 
   two-material d = rw (lt-leb 4 k hk)
 
   -- two men in order, their colours exchanged where the first is Black's
-  owned-two : (c d side white black : ℕ) (first second : Slot) → c < 2 → d < 2 → side < 2 → white < 64 → black < 64
+  owned-two : (c d side white black : ℕ) (first second : Option Piece) → c < 2 → d < 2 → side < 2 → white < 64 → black < 64
       → (j ≡ k → c ≤ d)
       → Owned (changed (swapping false) (eqb c 1 && not (eqb j k && not (eqb c d)))
       (record { side = side; white = white; black = black; men = piece_of j c x ∷ piece_of k d y ∷ [] }))
@@ -149,7 +147,7 @@ seat-one kind colour side white black square hk hc hw hb hx = record {
   second = refl;
 }
 
-owned-one : (kind colour side white black square : ℕ) (first second : Slot) → kind < 4 → colour < 2 → side < 2
+owned-one : (kind colour side white black square : ℕ) (first second : Option Piece) → kind < 4 → colour < 2 → side < 2
     → white < 64 → black < 64 → square < 64
     → Owned (changed (swapping false) (eqb colour 1 && true)
     (record { side = side; white = white; black = black; men = piece_of kind colour square ∷ [] }))
@@ -183,27 +181,27 @@ either-false true b e = absurd (refuted e tt)
 either-false false b e = (refl, e)
 
 module _ (side white black : ℕ) (hs : side < 2) (hw : white < 64) (hb : black < 64) where
-  abbrev keyed_with : Slot → Slot → Position
+  abbrev keyed_with : Option Piece → Option Piece → Position
   keyed_with f s = record { side = side; white_king = white; black_king = black; first = f; second = s }
 
-  abbrev Goal : Slot → Slot → Type 0
+  abbrev Goal : Option Piece → Option Piece → Type 0
   Goal f s = Owned (arranged (board_of (keyed_with f s))) (material_in (board_of (keyed_with f s)).men)
       (arranged_as (keyed_with f s))
 
-  single : (a : Piece) → a.kind < 4 → a.colour < 2 → a.square < 64 → Goal (Present a) Absent
+  single : (a : Piece) → a.kind < 4 → a.colour < 2 → a.square < 64 → Goal (Some a) None
   unfolding arranged crosses crossed first_black changed_by exchangeable board_of
   single a hk hc hx =
-      subst (Owned (arranged (board_of (keyed_with (Present a) Absent))) (one_of a.kind))
-      (arranged-before (keyed_with (Present a) Absent) a nobody refl refl
+      subst (Owned (arranged (board_of (keyed_with (Some a) None))) (one_of a.kind))
+      (arranged-before (keyed_with (Some a) None) a nobody refl refl
       (unfold goes_after in
       rw (ne_eqb a.kind 4 (λ z. absurd (omega (arith, z))), le-ltb 4 a.kind (omega arith))))
-      (owned-one a.kind a.colour side white black a.square (Present a) Absent hk hc hs hw hb hx)
+      (owned-one a.kind a.colour side white black a.square (Some a) None hk hc hs hw hb hx)
 
   -- in order already, or to be crossed
   module _ (a c : Piece) (ka : a.kind < 4) (kc : c.kind < 4) (ca : a.colour < 2) (cc : c.colour < 2)
       (xa : a.square < 64) (xc : c.square < 64) where
     abbrev placing : Position
-    placing = keyed_with (Present a) (Present c)
+    placing = keyed_with (Some a) (Some c)
 
     arranged-by : (e : Bool) → goes_after a c ≡ e
         → arranged (board_of placing)
@@ -237,7 +235,7 @@ module _ (side white black : ℕ) (hs : side < 2) (hw : white < 64) (hb : black 
         go false e t =
             let l = ltb-true c.kind a.kind t in (omega (arith, l), λ z. absurd (omega (arith, l, z)))
 
-    kept : goes_after a c ≡ false → Goal (Present a) (Present c)
+    kept : goes_after a c ≡ false → Goal (Some a) (Some c)
     unfolding board_of crossed first_black
     kept t =
         let o = in-order t in
@@ -249,9 +247,9 @@ module _ (side white black : ℕ) (hs : side < 2) (hw : white < 64) (hb : black 
         (record { side = side; white = white; black = black; men = a ∷ c ∷ [] })) m (white_first a c placing))
         (two-eq (omega arith) (omega arith) refl)
         (owned-two a.kind c.kind a.square c.square xa xc kc l a.colour c.colour side white black
-        (Present a) (Present c) ca cc hs hw hb o.1)))
+        (Some a) (Some c) ca cc hs hw hb o.1)))
 
-    turned : goes_after a c ≡ true → Goal (Present a) (Present c)
+    turned : goes_after a c ≡ true → Goal (Some a) (Some c)
     unfolding board_of crossed first_black
     turned t =
         let o = out_of_order t in
@@ -269,24 +267,24 @@ module _ (side white black : ℕ) (hs : side < 2) (hw : white < 64) (hb : black 
         (record { side = side; white = white; black = black; men = c ∷ a ∷ [] })) m (white_first c a placing))
         (two-eq (omega arith) (omega arith) (ap not (eqb-sym c.colour a.colour)))
         (owned-two c.kind a.kind c.square a.square xc xa ka l c.colour a.colour side white black
-        (Present a) (Present c) cc ca hs hw hb o.1))))
+        (Some a) (Some c) cc ca hs hw hb o.1))))
 
-    both : Goal (Present a) (Present c)
+    both : Goal (Some a) (Some c)
     both = go (goes_after a c) refl
       where
-        go : (e : Bool) → goes_after a c ≡ e → Goal (Present a) (Present c)
+        go : (e : Bool) → goes_after a c ≡ e → Goal (Some a) (Some c)
         go true t = turned t
         go false t = kept t
 
-  arranges : (f s : Slot) → PlacedOf (keyed_with f s) → T (known (material_in (board_of (keyed_with f s)).men)) → Goal f s
+  arranges : (f s : Option Piece) → PlacedOf (keyed_with f s) → T (known (material_in (board_of (keyed_with f s)).men)) → Goal f s
   unfolding board_of all
-  arranges Absent s w t = absurd (refuted w.men tt)
-  arranges (Present a) Absent w t =
+  arranges None s w t = absurd (refuted w.men tt)
+  arranges (Some a) None w t =
       let on = and_right (ltb black 64) (ltb a.square 64 && true)
       (and_right (ltb white 64) (ltb black 64 && (ltb a.square 64 && true)) w.squares) in
       single a (one_known a.kind t) (ltb→lt a.colour 2 (and_left (ltb a.colour 2) true w.colours))
       (ltb→lt a.square 64 (and_left (ltb a.square 64) true on))
-  arranges (Present a) (Present c) w t =
+  arranges (Some a) (Some c) w t =
       let xc = ltb c.square 64 && true in
       let on = and_right (ltb black 64) (ltb a.square 64 && xc)
       (and_right (ltb white 64) (ltb black 64 && (ltb a.square 64 && xc)) w.squares) in

@@ -1,6 +1,6 @@
 -- Numbers and positions, there and back: each used number leads back to a position that is placed and bears it; a
 -- placed position's number is used, and what stands there is of its class; no position bears an unused number.
-use Rattle.std.specs.Prelude.{◌≡◌, refl, ◌⊎◌, Bool, true, false, not, cond, ℕ, ◌%◌, ◌<◌, T, leb, eqb}
+use Rattle.std.specs.Prelude.{◌≡◌, refl, ◌⊎◌, Bool, true, false, not, cond, ℕ, ◌%◌, ◌<◌, T, leb, eqb, Err, Ok, Result}
 use Rattle.std.proofs.Math.Path.{ap}
 use Rattle.std.proofs.Common.{subst, sym, ◌∙◌, inl, inr, arith}
 use borrow.Author.Tests.{leb-false, lt-leb, lt-ltb}
@@ -16,7 +16,6 @@ use Rattle.position.specs.declared.Position.{Position}
 use Rattle.position.specs.Keyed.{board_of, man_kind}
 use Rattle.position.specs.Refusals.{placing_refusal}
 use Rattle.position.proofs.laws.PlacedLaws.{WellPlaced, placed-facts, facts-placed, ending_with, placed-kind}
-use Rattle.index.specs.declared.Placed.{Placed}
 use Rattle.index.specs.Answers.{position_at, unused, placed_at}
 use Rattle.index.proofs.laws.AnswerLaws.{numbered_is, board-at, kings-at, placed-used, unused-exactly}
 use Rattle.index.specs.NumberLaws.{SameClass}
@@ -74,7 +73,7 @@ each_number kind n h k =
 -- ---- numbering back
 
 found : (a b c : Bool) (p q : Position)
-    → cond a (Placed.Refused 1) (cond b (Placed.Refused 8) (cond c (Placed.Refused 9) (Placed.At q))) ≡ Placed.At p
+    → cond {A = Result Position ℕ} a (Err 1) (cond b (Err 8) (cond c (Err 9) (Ok q))) ≡ Ok p
     → (a ≡ false) × (b ≡ false) × (c ≡ false) × (q ≡ p)
 found true b c p q e = let z : ◌≡◌ {A = ℕ} 0 1 = cc in absurd (omega arith)
 found false true c p q e = let z : ◌≡◌ {A = ℕ} 0 1 = cc in absurd (omega arith)
@@ -82,7 +81,7 @@ found false false true p q e = let z : ◌≡◌ {A = ℕ} 0 1 = cc in absurd (o
 found false false false p q e = let z : q ≡ p = cc in (refl, refl, refl, z)
 
 -- demand 2: each used number leads back to a position that bears it
-pub number-back : (kind n : ℕ) (p : Position) → placed_at kind n ≡ Placed.At p → Bears kind n p
+pub number-back : (kind n : ℕ) (p : Position) → placed_at kind n ≡ Ok p → Bears kind n p
 unfolding placed_at
 number-back kind n p e =
     let f = found (leb 4 kind) (leb 59136 n) (unused (position_at kind n)) p (position_at kind n) e in

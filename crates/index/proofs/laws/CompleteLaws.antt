@@ -2,7 +2,7 @@
 -- complete place is so seated.
 use Rattle.std.proofs.Math.Path.{◌≡◌, refl, subst⁻¹}
 use Rattle.std.proofs.Common.{ap, subst, sym, ◌∙◌, arith}
-use Rattle.std.specs.Prelude.{Bool, cond, ◌&&◌, ◌||◌, [], ◌∷◌, ◌++◌, ℕ, zero, suc, ◌<◌, ◌≤◌, min, max, leb, eqb}
+use Rattle.std.specs.Prelude.{Bool, cond, ◌&&◌, ◌||◌, [], ◌∷◌, ◌++◌, ℕ, zero, suc, ◌<◌, ◌≤◌, min, max, leb, eqb, None, Some}
 use Rattle.std.proofs.Math.Bool.{true, false, not}
 use Rattle.std.proofs.Math.Dec.{T, ltb, lt→ltb}
 use borrow.Author.Tests.{lt-leb, leb-false, ne_eqb}
@@ -20,7 +20,6 @@ use Rattle.numbering.specs.Number.{used}
 use Rattle.numbering.proofs.laws.Numberable.{separate-white, separate-black, separate-touching, ruled-separate}
 use Rattle.numbering.proofs.laws.ChangeLaws.{HasNumber, coloured, pieces-eq}
 use Rattle.numbering.proofs.laws.AtLaws.{ruled-at}
-use Rattle.position.specs.declared.Slot.TheVariants.{Absent, Present}
 use Rattle.position.specs.declared.Position.{Position}
 use Rattle.position.specs.declared.Men.{Men}
 use Rattle.position.specs.declared.Place.{Place}
@@ -148,8 +147,8 @@ module _ (m : Men) (q : Place) (s : Seated m q) where
   men-good = rw (lt-leb 64 q.first s.first) (go (alone q) refl)
     where
       go : (e : Bool) → alone q ≡ e
-          → bad_men_of (Present (piece_of m.first 0 q.first))
-          (cond e Absent (Present (piece_of m.second m.colour q.second))) ≡ false
+          → bad_men_of (Some (piece_of m.first 0 q.first))
+          (cond e None (Some (piece_of m.second m.colour q.second))) ≡ false
       go true e =
           let h = (known-one m s.ending (sym s.second ∙ e)).0 in
           lt-leb 5 m.first (omega (arith, h))
@@ -228,7 +227,7 @@ module _ (m : Men) (q : Place) (w : Complete m q) where
   first-there = leb-false 64 q.first (go (leb 64 q.first) facts.men)
     where
       go : (e : Bool)
-          → bad_men_of (cond e Absent (Present (piece_of m.first 0 q.first))) (posed m q).second ≡ false
+          → bad_men_of (cond e None (Some (piece_of m.first 0 q.first))) (posed m q).second ≡ false
           → e ≡ false
       go true z = absurd (refuted z tt)
       go false z = refl
@@ -238,10 +237,10 @@ module _ (m : Men) (q : Place) (w : Complete m q) where
   unfolding board_of posed
   second-there =
       go (leb 64 q.second) (leb 4 m.second) refl
-      (subst (λ (e : Bool). bad_men_of (cond e Absent (Present (piece_of m.first 0 q.first))) (posed m q).second
+      (subst (λ (e : Bool). bad_men_of (cond e None (Some (piece_of m.first 0 q.first))) (posed m q).second
       ≡ false) (lt-leb 64 q.first first-there) facts.men)
       (subst (λ (e : Bool). material_of
-      (slot_men (cond e Absent (Present (piece_of m.first 0 q.first))) ++ slot_men (posed m q).second)
+      (slot_men (cond e None (Some (piece_of m.first 0 q.first))) ++ slot_men (posed m q).second)
       ≡ men_of (material_for m)) (lt-leb 64 q.first first-there) w.men)
     where
       either-false : (a b : Bool) → (a || b) ≡ false → b ≡ false
@@ -249,10 +248,10 @@ module _ (m : Men) (q : Place) (w : Complete m q) where
       either-false false b e = e
 
       go : (e f : Bool) → leb 4 m.second ≡ f
-          → bad_men_of (Present (piece_of m.first 0 q.first))
-          (cond e Absent (Present (piece_of m.second m.colour q.second))) ≡ false
+          → bad_men_of (Some (piece_of m.first 0 q.first))
+          (cond e None (Some (piece_of m.second m.colour q.second))) ≡ false
           → material_of (piece_of m.first 0 q.first
-          ∷ slot_men (cond e Absent (Present (piece_of m.second m.colour q.second))))
+          ∷ slot_men (cond e None (Some (piece_of m.second m.colour q.second))))
           ≡ men_of (cond f (one_of m.first) (Material.Two m.first m.second (eqb m.colour 1)))
           → e ≡ f
       go true true g z n = refl

@@ -1,6 +1,6 @@
 -- Demand 2's sameness: positions of one ending have one number exactly if a change makes one into the other; and the
 -- number as code finds it.
-use Rattle.std.specs.Prelude.{◌≡◌, ◌↔◌, false, ℕ, ◌<◌}
+use Rattle.std.specs.Prelude.{◌≡◌, ◌↔◌, false, ℕ, ◌<◌, Ok}
 use Rattle.std.proofs.Math.Path.{ap, subst⁻¹, sym}
 use Rattle.std.proofs.Common.{subst, ◌∙◌}
 use Rattle.numbering.specs.Normal.{normal_map}
@@ -21,7 +21,6 @@ use Rattle.position.proofs.laws.Legality.{one-men}
 use Rattle.position.proofs.laws.MapLaws.{map-board}
 use Rattle.position.proofs.laws.OwnerLaws.{owned-board, owned-lone}
 use Rattle.position.proofs.laws.PlacedLaws.{placed-facts, ending_with, placed-has, placed-colour}
-use Rattle.index.specs.declared.NumberAnswer.{NumberAnswer}
 use Rattle.index.specs.Answers.{number_answer}
 use Rattle.index.proofs.laws.AnswerLaws.{numbered_is}
 use Rattle.index.specs.NumberLaws.{SameClass}
@@ -52,7 +51,7 @@ same_number p q y z m = (there, here)
         (c.0, sym c.1)
 
     here : SameClass p q → number_answer p ≡ number_answer q
-    here s = numbered_is p y ∙ ap NumberAnswer.Number (sym (same_class p q y s)) ∙ sym (numbered_is q z)
+    here s = numbered_is p y ∙ ap Ok (sym (same_class p q y s)) ∙ sym (numbered_is q z)
 
 -- ---- as code finds it: the key of the normal position with the man White's
 

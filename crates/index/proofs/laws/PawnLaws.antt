@@ -1,5 +1,5 @@
 -- A lone pawn as keyed: its board, its normal place, and its number.
-use Rattle.std.specs.Prelude.{◌≡◌, refl, Bool, false, cond, ◌&&◌, ◌||◌, [], ◌∷◌, ◌++◌, ℕ, ◌<◌, ◌/◌, ◌%◌, leb, eqb}
+use Rattle.std.specs.Prelude.{◌≡◌, refl, Bool, false, cond, ◌&&◌, ◌||◌, [], ◌∷◌, ◌++◌, ℕ, ◌<◌, ◌/◌, ◌%◌, leb, eqb, Err, None, Ok, Option, Some}
 use Rattle.std.proofs.Math.Path.{ap, subst, subst⁻¹, sym}
 use Rattle.std.proofs.Common.{◌∙◌, inl, arith, lt→ltb, le-leb, eqb-true}
 use Rattle.std.proofs.Math.Bool.{true, not}
@@ -24,8 +24,6 @@ use Rattle.pawn_numbers.specs.Places.{pawn_in, seated, place_of, normal_of}
 use Rattle.pawn_numbers.proofs.laws.BackLaws.{board-has}
 use Rattle.pawn_numbers.proofs.laws.FlipLaws.{has-flipped, separated-flipped, flip-upright}
 use Rattle.pawn_numbers.proofs.laws.PlaceLaws.{place-board, normal-seated, normal-number, has-pawn-in}
-use Rattle.position.specs.declared.Slot.{Slot}
-use Rattle.position.specs.declared.Slot.TheVariants.{Absent, Present}
 use Rattle.position.specs.declared.Position.{Position}
 use Rattle.position.specs.Keyed.{slot_men, board_of, keyed, man_in, man_kind, colour_of, man_square}
 use Rattle.position.specs.Refusals.{ranked, bad_men_of, bad_pawn, placing_with}
@@ -34,7 +32,6 @@ use Rattle.position.proofs.laws.PlacedLaws.{passes}
 use Rattle.position.proofs.laws.BothSizes.{placed-men-with}
 use Rattle.position.proofs.laws.StandingWith.{PawnOrPieces, pawn-or-pieces}
 use Rattle.index.specs.declared.NormalPlace.{NormalPlace}
-use Rattle.index.specs.declared.Placed.{Placed}
 use Rattle.index.specs.Answers.{found_at}
 use Rattle.index.specs.Endings.{number_in, normal_in, map_in}
 use Rattle.index.specs.Arranging.{pawn_men, pawn_place, pawn_normal_as, PawnSeated, Normalises}
@@ -52,17 +49,17 @@ pub keyed-pawn : (p : Position) → placing_with p ≡ 0 → man_kind p ≡ 4 �
 unfolding board_of
 keyed-pawn p z e = go p.first p.second (placed-men-with p z) e
   where
-    with : Slot → Slot → Position
+    with : Option Piece → Option Piece → Position
     with f s = record { side = p.side; white_king = p.white_king; black_king = p.black_king; first = f; second = s }
 
-    go : (f s : Slot) → bad_men_of f s ≡ false → (man_in f).kind ≡ 4 → board_of (with f s) ≡ pawn_keyed (with f s)
-    go Absent s w e = absurd (refuted w tt)
-    go (Present a) (Present c) w e = absurd (refuted (first-false (leb 4 a.kind) (leb 4 c.kind) w) (of-true {b = leb 4 a.kind} (le-leb 4 a.kind (omega arith))))
+    go : (f s : Option Piece) → bad_men_of f s ≡ false → (man_in f).kind ≡ 4 → board_of (with f s) ≡ pawn_keyed (with f s)
+    go None s w e = absurd (refuted w tt)
+    go (Some a) (Some c) w e = absurd (refuted (first-false (leb 4 a.kind) (leb 4 c.kind) w) (of-true {b = leb 4 a.kind} (le-leb 4 a.kind (omega arith))))
       where
         first-false : (x y : Bool) → (x || y) ≡ false → x ≡ false
         first-false true y e = absurd (refuted e tt)
         first-false false y e = refl
-    go (Present a) Absent w e =
+    go (Some a) None w e =
         ap (λ (k : ℕ). record {
           side = p.side;
           white = p.white_king;
@@ -76,15 +73,15 @@ is_pawn (Material.One kind) = false
 is_pawn (Material.Two first second rivals) = false
 is_pawn Material.Pawn = true
 
-first_kind : (f s : Slot) → bad_men_of f s ≡ false → material_in (slot_men f ++ slot_men s) ≡ Material.Pawn
+first_kind : (f s : Option Piece) → bad_men_of f s ≡ false → material_in (slot_men f ++ slot_men s) ≡ Material.Pawn
     → (man_in f).kind ≡ 4
-first_kind Absent s w e = refl
-first_kind (Present a) Absent w e = eqb-true a.kind 4 (go (eqb a.kind 4) (ap is_pawn e))
+first_kind None s w e = refl
+first_kind (Some a) None w e = eqb-true a.kind 4 (go (eqb a.kind 4) (ap is_pawn e))
   where
     go : (x : Bool) → is_pawn (cond x Material.Pawn (Material.One a.kind)) ≡ true → x ≡ true
     go true e = refl
     go false e = e
-first_kind (Present a) (Present c) w e = absurd (true-not-false (ap is_pawn e) refl)
+first_kind (Some a) (Some c) w e = absurd (true-not-false (ap is_pawn e) refl)
 
 pub keyed-pieces : (p : Position) → placing_with p ≡ 0 → (man_kind p ≡ 4 → ⊥) → T (known (material_in (board_of p).men))
 keyed-pieces p z n = go (pawn-or-pieces p (placed-men-with p z))
@@ -251,12 +248,12 @@ module _ (n : ℕ) (q : PawnPlace) (e : q ≡ place_of n) (u : Bool) (g : u ≡ 
   unfolding used_pawn
   used-at = sym (g ∙ ap (λ (x : PawnPlace). separated (seated x)) e ∙ ap separated (place-board n))
 
-  pub pawn-unused : not u ≡ true → Placed.Refused 9 ≡ found_at Material.Pawn n
+  pub pawn-unused : not u ≡ true → Err 9 ≡ found_at Material.Pawn n
   pawn-unused z = sym (rw (used-at ∙ not-true u z))
 
-  pub pawn-found : not u ≡ false → Placed.At (posed pawn_men (pawn_place q)) ≡ found_at Material.Pawn n
+  pub pawn-found : not u ≡ false → Ok (posed pawn_men (pawn_place q)) ≡ found_at Material.Pawn n
   pawn-found z =
-      ap Placed.At (ap (λ (x : PawnPlace). posed pawn_men (pawn_place x)) e ∙ posed-at n)
+      ap Ok (ap (λ (x : PawnPlace). posed pawn_men (pawn_place x)) e ∙ posed-at n)
       ∙ sym (rw (used-at ∙ not-false u z))
 
 -- what stands at a used number is placed

@@ -1,5 +1,5 @@
 -- What numbering and numbering back answer with one man or with two, by the tests that lead to it.
-use Rattle.std.specs.Prelude.{◌≡◌, refl, Bool, true, false, cond, not, ◌∷◌, ℕ, ◌<◌, ◌≤◌, T, leb, ltb, eqb}
+use Rattle.std.specs.Prelude.{◌≡◌, refl, Bool, true, false, cond, not, ◌∷◌, ℕ, ◌<◌, ◌≤◌, T, leb, ltb, eqb, Err, None, Ok, Result, Some}
 use Rattle.std.proofs.Math.Path.{ap, subst, subst⁻¹, sym}
 use Rattle.std.proofs.Common.{◌∙◌, arith, leb→le, ltb→lt}
 use borrow.Author.Tests.{le-leb, lt-leb, eq-eqb, ne_eqb, eqb-true, not-true, not-false}
@@ -10,7 +10,6 @@ use Rattle.numbering.specs.Keys.{board_at}
 use Rattle.numbering.specs.Material.{known, given, one_of, men_of, material_in, size_of}
 use Rattle.numbering.proofs.laws.MaterialLaws.{one_piece}
 use Rattle.numbering.specs.Number.{number_of, used}
-use Rattle.position.specs.declared.Slot.TheVariants.{Absent, Present}
 use Rattle.position.specs.declared.Position.{Position}
 use Rattle.position.specs.declared.Men.{Men}
 use Rattle.position.specs.declared.Place.{Place}
@@ -18,8 +17,6 @@ use Rattle.position.specs.Keyed.{slot_men, board_of, keyed}
 use Rattle.position.specs.Refusals.{placing_with}
 use Rattle.position.specs.Posed.{posed, board_in, material_for}
 use Rattle.index.specs.declared.Arranged.{Arranged}
-use Rattle.index.specs.declared.NumberAnswer.{NumberAnswer}
-use Rattle.index.specs.declared.Placed.{Placed}
 use Rattle.index.specs.Answers.{number_with, found_at, placed_with}
 use Rattle.index.specs.Endings.{number_in, used_in}
 use Rattle.index.specs.Seats.{Seated, StandsAt, alone}
@@ -47,11 +44,11 @@ number-pieces p r e t z =
 
 module _ (p : Position) where
   pub with_number : placing_with p ≡ 0
-      → NumberAnswer.Number (number_in (material_in (board_of p).men) (board_of p)) ≡ number_with p
+      → Ok (number_in (material_in (board_of p).men) (board_of p)) ≡ number_with p
   unfolding number_with
   with_number z = sym (rw (eq-eqb (placing_with p) 0 z))
 
-  pub with-refused : (placing_with p ≡ 0 → ⊥) → NumberAnswer.Refused (placing_with p) ≡ number_with p
+  pub with-refused : (placing_with p ≡ 0 → ⊥) → Err (placing_with p) ≡ number_with p
   unfolding number_with
   with-refused f = sym (rw (ne_eqb (placing_with p) 0 f))
 
@@ -67,15 +64,15 @@ posed-keyed m q s = rw (lt-leb 64 q.first s.first) (go (alone q))
           side = q.side;
           white_king = q.white;
           black_king = q.black;
-          first = Present (piece_of m.first 0 q.first);
-          second = cond e Absent (Present (piece_of m.second m.colour q.second));
+          first = Some (piece_of m.first 0 q.first);
+          second = cond e None (Some (piece_of m.second m.colour q.second));
         })
         (keyed (record {
           side = q.side;
           white = q.white;
           black = q.black;
           men = piece_of m.first 0 q.first
-              ∷ slot_men (cond e Absent (Present (piece_of m.second m.colour q.second)));
+              ∷ slot_men (cond e None (Some (piece_of m.second m.colour q.second)));
         }))
     go true = refl
     go false = refl
@@ -113,28 +110,28 @@ module _ (men : Men) (n : ℕ) (t : T (known (material_for men))) (q : Place) (a
   used-same : used_in (material_for men) n ≡ u
   used-same = pieces-used (material_for men) n t ∙ sym (found at)
 
-  pub found-unused : not u ≡ true → Placed.Refused 9 ≡ found_at (material_for men) n
+  pub found-unused : not u ≡ true → Err 9 ≡ found_at (material_for men) n
   found-unused z = sym (rw (used-same ∙ not-true u z))
 
-  pub found-position : not u ≡ false → Placed.At (posed men q) ≡ found_at (material_for men) n
+  pub found-position : not u ≡ false → Ok (posed men q) ≡ found_at (material_for men) n
   found-position z =
-      ap Placed.At
+      ap Ok
       (posed-keyed men q at.seated
       ∙ ap keyed (at.board ∙ ap (λ (f : ℕ → Board). f n) (sym (pieces-board (material_for men) t))))
       ∙ sym (rw (used-same ∙ not-false u z))
 
 module _ (m : Material) (n : ℕ) where
-  pub with-unknown : given m ≡ false → Placed.Refused 1 ≡ placed_with m n
+  pub with-unknown : given m ≡ false → Err 1 ≡ placed_with m n
   unfolding placed_with
   with-unknown e = sym (rw e)
 
-  pub with-above : given m ≡ true → size_of m ≤ n → Placed.Refused 8 ≡ placed_with m n
+  pub with-above : given m ≡ true → size_of m ≤ n → Err 8 ≡ placed_with m n
   unfolding placed_with
   with-above e h = sym (rw (e, le-leb (size_of m) n h))
 
   -- the men made of the material, and what is found at the number
   pub with-found : (men : Men) → given m ≡ true → (size : ℕ) → size ≡ size_of m → n < size
-      → (T (given m) → (material_for men ≡ m) × (men.colour < 2)) → (r : Placed)
+      → (T (given m) → (material_for men ≡ m) × (men.colour < 2)) → (r : Result Position ℕ)
       → (T (given (material_for men)) → men.colour < 2 → n < size_of (material_for men) → r ≡ found_at (material_for men) n)
       → r ≡ placed_with m n
   unfolding placed_with

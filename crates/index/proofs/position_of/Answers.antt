@@ -1,6 +1,5 @@
 -- `index::position_of` meets its contract: one man is an instance.
 use mathlib.Core.Path.{◌∙◌}
-use borrow.Author.Rules.{rules}
 use Rattle.index.proofs.laws.AloneLaws.{placed-alone}
 use Rattle.index.proofs.position_of.Goals as goal
 

@@ -1,11 +1,10 @@
 -- `index::with_man` meets its contract.
 use native.Mathlib.Omega.{arith}
 use Rattle.index.proofs.laws.AnswerLaws.{no_digit, one-digit}
-use borrow.Author.Rules.{rules}
 use Rattle.index.proofs.with_man.Goals as goal
 
-pub returns-in-Absent : goal.returns-in-Absent
-returns-in-Absent c = (no_digit _ _ c.in-Absent.is, omega arith)
+pub returns-in-None : goal.returns-in-None
+returns-in-None c = (no_digit _ _ c.in-None.is, omega arith)
 
-pub returns-in-Present : goal.returns-in-Present
-returns-in-Present c = (one-digit _ _ _ c.in-Present.is, omega arith)
+pub returns-in-Some : goal.returns-in-Some
+returns-in-Some c = (one-digit _ _ _ c.in-Some.is, omega arith)

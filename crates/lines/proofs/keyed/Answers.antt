@@ -1,7 +1,6 @@
 -- `lines::keyed` meets its contract, part by part.
 use mathlib.Core.Path.{◌∙◌}
 use Rattle.lines.specs.Grammar.{keyed_of}
-use borrow.Author.Rules.{rules}
 use Rattle.lines.proofs.keyed.Goals as goal
 
 pub returns : goal.returns

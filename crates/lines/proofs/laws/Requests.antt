@@ -1,5 +1,5 @@
 -- What a number line's request carries is in range.
-use Rattle.std.specs.Prelude.{Bool, true, false, cond, List, ℕ, ◌<◌, ◌≤◌, T, leb, get_or}
+use Rattle.std.specs.Prelude.{Bool, true, false, cond, List, ℕ, ◌<◌, ◌≤◌, T, leb, get_or, Err, Ok, Result}
 use Rattle.std.proofs.Common.{arith, leb-true, leb-false}
 use Rattle.finite.specs.Truth.{by-test, fails, true_of, and_right}
 use Rattle.check_digits.specs.Check.{right_number}
@@ -7,10 +7,10 @@ use Rattle.lines.specs.declared.Request.{Request}
 use Rattle.lines.specs.Grammar.{between, digit_of, kind_named, five_digits, seven_digits, has_shape, position_shape, number_shape, keyed_of, number_request, request_of}
 
 -- what holds of what a request carries; nothing of a refusal, nor of a position, whose refusals are its own
-abbrev pub Carried : Request → Type 0
-Carried (Request.LookUp p) = Unit
-Carried (Request.Back kind number) = (kind < 4) × (number < 100000)
-Carried (Request.Refused n) = Unit
+abbrev pub Carried : Result Request ℕ → Type 0
+Carried (Ok (Request.LookUp p)) = Unit
+Carried (Ok (Request.Back kind number)) = (kind < 4) × (number < 100000)
+Carried (Err n) = Unit
 
 under : (k n : ℕ) → (T (leb k n) → ⊥) → n < k
 under k n f = leb-false k n (fails (leb k n) f)
@@ -47,7 +47,7 @@ unfolding request_of
 carried line = pick (has_shape position_shape line) (has_shape number_shape line)
   where
     pick : (a b : Bool)
-        → Carried (cond a (Request.LookUp (keyed_of line)) (cond b (number_request line) (Request.Refused 12)))
+        → Carried (cond a (Ok (Request.LookUp (keyed_of line))) (cond b (number_request line) (Err 12)))
     pick true b = tt
     pick false true = number-carried line
     pick false false = tt

@@ -1,13 +1,13 @@
 -- Lines and their requests, computed from the definitions.
-use Rattle.std.specs.Prelude.{◌≡◌, refl, List, [], ◌∷◌, map, ℕ}
+use Rattle.std.specs.Prelude.{◌≡◌, refl, List, [], ◌∷◌, map, ℕ, Err, Ok, Result}
 use Rattle.ascii.specs.Bytes.{bytes}
 use Rattle.check_digits.specs.Check.{right_number}
 use Rattle.position.specs.Keyed.{one_man, lone}
 use Rattle.lines.specs.declared.Request.{Request}
 use Rattle.lines.specs.Grammar.{request_of, keyed_of, number_request, five_digits, typed_check, seven_digits, has_shape, fits_place, kind_named, as_white, colour_of, side_of, square_named, digit_of}
 
-abbrev pub at : ℕ → ℕ → ℕ → ℕ → ℕ → Request
-at kind side white square black = Request.LookUp (lone kind side white square black)
+abbrev pub at : ℕ → ℕ → ℕ → ℕ → ℕ → Result Request ℕ
+at kind side white square black = Ok (Request.LookUp (lone kind side white square black))
 
 -- the lines of 01's run, as 02 changes it
 unfoldable pub run_lines : List (List ℕ)
@@ -16,7 +16,7 @@ run_lines = map bytes
     ∷ "Q # 0204962" ∷ [])
 
 pub run : map request_of run_lines ≡ (at 0 0 17 15 0 ∷ at 0 1 17 9 0 ∷ at 0 1 36 17 0 ∷ at 0 1 63 9 0 ∷ at 0 0 17 9
-    0 ∷ at 4 0 17 15 0 ∷ Request.Refused 12 ∷ Request.Back 0 2049 ∷ [])
+    0 ∷ at 4 0 17 15 0 ∷ (Err 12) ∷ (Ok (Request.Back 0 2049)) ∷ [])
 unfolding run_lines request_of keyed_of number_request five_digits typed_check seven_digits right_number has_shape fits_place kind_named as_white colour_of side_of square_named digit_of
 run = refl
 
@@ -27,14 +27,14 @@ edge_lines = map bytes
     ("" ∷ "  w b3 h2 a1" ∷ "Q   b3 h2 a1" ∷ "Q # b3 h2 a1" ∷ "P x b3 h2 a1" ∷ "Q x z3 h2 a1" ∷ "Q w b9 h2 a1"
     ∷ "Q\tw b3 h2 a1" ∷ "Q w b3 h2 a1\r" ∷ [])
 
-pub edges : map request_of edge_lines ≡ (Request.Refused 12 ∷ Request.Refused 12 ∷ Request.Refused 12 ∷ at 0 2 17 15
-    0 ∷ at 4 2 17 15 0 ∷ at 0 2 64 15 0 ∷ at 0 0 64 15 0 ∷ Request.Refused 12 ∷ Request.Refused 12 ∷ [])
+pub edges : map request_of edge_lines ≡ ((Err 12) ∷ (Err 12) ∷ (Err 12) ∷ at 0 2 17 15
+    0 ∷ at 4 2 17 15 0 ∷ at 0 2 64 15 0 ∷ at 0 0 64 15 0 ∷ (Err 12) ∷ (Err 12) ∷ [])
 unfolding edge_lines request_of keyed_of number_request five_digits typed_check seven_digits right_number has_shape fits_place kind_named as_white colour_of side_of square_named digit_of
 edges = refl
 
 -- Black's man: "On a position line `q r b n` mean Black's man" (02, P9), and no other letter does.
-abbrev pub black_at : ℕ → ℕ → ℕ → ℕ → ℕ → Request
-black_at kind side white square black = Request.LookUp (one_man kind 1 side white square black)
+abbrev pub black_at : ℕ → ℕ → ℕ → ℕ → ℕ → Result Request ℕ
+black_at kind side white square black = Ok (Request.LookUp (one_man kind 1 side white square black))
 
 unfoldable pub black_lines : List (List ℕ)
 black_lines =
@@ -52,7 +52,7 @@ shapeless_lines =
     map bytes
     ("Q # 02049" ∷ "Q # 020496" ∷ "Q # 02049620" ∷ "Q w 0204962" ∷ "Q # 020496x" ∷ "P # 020496x" ∷ "Q # 0 04962" ∷ [])
 
-pub shapeless : map request_of shapeless_lines ≡ map (λ line. Request.Refused 12) shapeless_lines
+pub shapeless : map request_of shapeless_lines ≡ map (λ line. (Err 12)) shapeless_lines
 unfolding shapeless_lines request_of keyed_of number_request five_digits typed_check seven_digits right_number has_shape fits_place kind_named as_white colour_of side_of square_named digit_of
 shapeless = refl
 
@@ -61,7 +61,7 @@ unfoldable pub unchecked_lines : List (List ℕ)
 unchecked_lines =
     map bytes ("Q # 0209462" ∷ "P # 0209462" ∷ "q # 0209462" ∷ "Q # 0006500" ∷ "Q # 0000001" ∷ "Q # 0003299" ∷ [])
 
-pub unchecked : map request_of unchecked_lines ≡ map (λ line. Request.Refused 13) unchecked_lines
+pub unchecked : map request_of unchecked_lines ≡ map (λ line. (Err 13)) unchecked_lines
 unfolding unchecked_lines request_of keyed_of number_request five_digits typed_check seven_digits right_number has_shape fits_place kind_named as_white colour_of side_of square_named digit_of
 unchecked = refl
 
@@ -70,7 +70,6 @@ unfoldable pub checked_lines : List (List ℕ)
 checked_lines =
     map bytes ("P # 0204962" ∷ "q # 0204962" ∷ "N # 9999925" ∷ "Q # 0006597" ∷ "Q # 0000098" ∷ "Q # 0003202" ∷ [])
 
-pub checked : map request_of checked_lines ≡ (Request.Refused 1 ∷ Request.Refused 1 ∷ Request.Back 3 99999 ∷ Request.Back
-    0 65 ∷ Request.Back 0 0 ∷ Request.Back 0 32 ∷ [])
+pub checked : map request_of checked_lines ≡ ((Err 1) ∷ (Err 1) ∷ (Ok (Request.Back 3 99999)) ∷ (Ok (Request.Back 0 65)) ∷ (Ok (Request.Back 0 0)) ∷ (Ok (Request.Back 0 32)) ∷ [])
 unfolding checked_lines request_of keyed_of number_request five_digits typed_check seven_digits right_number has_shape fits_place kind_named as_white colour_of side_of square_named digit_of
 checked = refl

@@ -1,7 +1,7 @@
 -- Laws of shapes: a line of a shape is as long as it; the test of a line byte by byte, as the loop makes it; and lines of a shape with a byte
 -- set, or with two neighbours exchanged.
 use Rattle.std.specs.Prelude.{◌≡◌, refl, Bool, true, false, ◌&&◌, ℕ, zero, suc, ◌+◌, ◌<◌, T, get_or, set}
-use Rattle.std.proofs.Common.{ap, sym, le_of_suc-le-suc, not-suc-le-zero}
+use Rattle.std.proofs.Common.{ap, sym, le_of_suc-le-suc, not-suc-le-zero, arith}
 use mathlib.Core.List.{List, [], ◌∷◌}
 use Rattle.std.proofs.Math.Numerals.{add-one}
 use Rattle.std.proofs.Math.ListN.{length, drop}
@@ -9,6 +9,7 @@ use Rattle.std.proofs.Math.Seq.{drop-cons, drop-length}
 use Rattle.finite.specs.Truth.{and_left, and_right, and_both, of-true}
 use Rattle.check_digits.specs.Check.{exchanged}
 use Rattle.lines.specs.Grammar.{fits_place, has_shape}
+use Rattle.std.specs.List.{list_all, zip}
 
 of_length : (shape line : List ℕ) → T (has_shape shape line) → length line ≡ length shape
 unfolding has_shape
@@ -92,3 +93,12 @@ shape-exchanged (p ∷ ps) (x ∷ xs) zero h e t = first-exchanged p x ps xs h e
 shape-exchanged (p ∷ ps) (x ∷ xs) (suc i) h e t =
     and_both (fits_place p x) (has_shape ps (exchanged i xs)) (and_left (fits_place p x) (has_shape ps xs) t)
     (shape-exchanged ps xs i (le_of_suc-le-suc h) e (and_right (fits_place p x) (has_shape ps xs) t))
+
+-- place by place, where the line is as long as the shape
+pub shape-all : (shape line : List ℕ) → length shape ≡ length line
+    → list_all (λ (p : ℕ × ℕ). fits_place p.0 p.1) (zip shape line) ≡ has_shape shape line
+unfolding has_shape
+shape-all [] [] h = refl
+shape-all [] (b ∷ bs) h = absurd (omega (arith, h))
+shape-all (p ∷ ps) [] h = absurd (omega (arith, h))
+shape-all (p ∷ ps) (b ∷ bs) h = rw (shape-all ps bs (omega (arith, h)))

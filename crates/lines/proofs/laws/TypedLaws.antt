@@ -1,6 +1,6 @@
 -- "in a number with its right check one altered digit, or two unequal neighbours exchanged, is always refused": 13, at any of the seven places, of
 -- any number line.
-use Rattle.std.specs.Prelude.{◌≡◌, true, List, [], ◌∷◌, map, ℕ, suc, ◌+◌, ◌-◌, ◌<◌, T, eqb, leb, length, get_or, set, drop}
+use Rattle.std.specs.Prelude.{◌≡◌, true, List, [], ◌∷◌, map, ℕ, suc, ◌+◌, ◌-◌, ◌<◌, T, eqb, leb, length, get_or, set, drop, Err}
 use Rattle.std.proofs.Common.{ap, sym, subst, ◌∙◌, arith, leb→le, eqb→eq, length-set, length-drop, drop-cons, get_or-drop, get_or-set_same}
 use Prim.Native.Char.{code}
 use Rattle.std.proofs.lemmas.List.{length-map, drop-set-add}
@@ -11,7 +11,6 @@ use Rattle.finite.specs.Below.{all_below, below}
 use Rattle.check_digits.specs.Check.{reading, right_number, right, exchanged}
 use Rattle.check_digits.proofs.laws.ListLaws.{set-map, exchanged-length, exchanged-drop, exchanged-map}
 use Rattle.check_digits.proofs.laws.Finding.{Digits, altered-wrong, exchanged-wrong}
-use Rattle.lines.specs.declared.Request.{Request}
 use Rattle.lines.specs.Grammar.{between, fits_place, has_shape, position_shape, number_shape, digit_of, five_digits, typed_check, seven_digits, number_request, request_of}
 use Rattle.lines.proofs.laws.Shapes.{shape-length, shape-longer, shape_at, shape-set, shape-exchanged}
 use Rattle.lines.proofs.laws.Requests.{digit-most}
@@ -82,19 +81,19 @@ typed-right line e t = subst (λ (n : ℕ). T (right_number n)) (seven-reads lin
 
 -- "The old nine-byte line becomes refusal 12", as any other length does
 pub other_length : (line : List ℕ) → (length line ≡ 11 → ⊥) → (length line ≡ 12 → ⊥)
-    → request_of line ≡ Request.Refused 12
+    → request_of line ≡ Err 12
 unfolding request_of
 other_length line a b =
     rw (shape-longer position_shape line (λ e. b (sym e)), shape-longer number_shape line (λ e. a (sym e)))
 
 pub request-12 : (line : List ℕ) → length line ≡ 11 → (T (has_shape number_shape line) → ⊥)
-    → request_of line ≡ Request.Refused 12
+    → request_of line ≡ Err 12
 unfolding request_of
 request-12 line e w =
     rw (shape-longer position_shape line (λ d. absurd (omega (arith, d))), fails (has_shape number_shape line) w)
 
 pub request-13 : (line : List ℕ) → T (has_shape number_shape line) → (T (right_number (seven_digits line)) → ⊥)
-    → request_of line ≡ Request.Refused 13
+    → request_of line ≡ Err 13
 unfolding request_of number_request
 request-13 line t w =
     let s : has_shape number_shape line ≡ true = true_of t in
@@ -112,7 +111,7 @@ module _ (line : List ℕ) (r : RightLine line) where
 
   -- one digit altered: to any other digit, at any of the seven places
   pub altered-refused : (i b : ℕ) → i < 7 → Digit b → (get_or line (4 + i) 0 ≡ b → ⊥)
-      → request_of (set line (4 + i) b) ≡ Request.Refused 13
+      → request_of (set line (4 + i) b) ≡ Err 13
   altered-refused i b h d other =
       request-13 (set line (4 + i) b) (shape-set number_shape line (4 + i) b r.shaped (place-digit i b h d)) wrong
     where
@@ -130,7 +129,7 @@ module _ (line : List ℕ) (r : RightLine line) where
 
   -- two unequal neighbours exchanged: any of the six pairs, number and check alike
   pub exchanged-refused : (i : ℕ) → i < 6 → (get_or line (4 + i) 0 ≡ get_or line (5 + i) 0 → ⊥)
-      → request_of (exchanged (4 + i) line) ≡ Request.Refused 13
+      → request_of (exchanged (4 + i) line) ≡ Err 13
   exchanged-refused i h unequal =
       request-13 (exchanged (4 + i) line) (shape-exchanged number_shape line (4 + i) (omega arith) alike r.shaped)
       wrong
@@ -159,7 +158,7 @@ module _ (line : List ℕ) (r : RightLine line) where
           (rw there at (typed-right (exchanged (4 + i) line) (exchanged-length (4 + i) line ∙ right-length) t))
 
   -- a digit altered to any other byte
-  pub spoilt-refused : (i b : ℕ) → i < 7 → (Digit b → ⊥) → request_of (set line (4 + i) b) ≡ Request.Refused 12
+  pub spoilt-refused : (i b : ℕ) → i < 7 → (Digit b → ⊥) → request_of (set line (4 + i) b) ≡ Err 12
   spoilt-refused i b h other =
       request-12 (set line (4 + i) b) (length-set line (4 + i) b ∙ right-length)
       (λ t. other

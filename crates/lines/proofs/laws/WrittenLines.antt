@@ -1,6 +1,6 @@
 -- A right number line names its man's number, and its check is the one that its number has; a number written with its check is a right number
 -- line, and leads back.
-use Rattle.std.specs.Prelude.{◌≡◌, List, [], ◌∷◌, map, ℕ, suc, ◌+◌, ◌*◌, ◌<◌, ◌≤◌, get_or}
+use Rattle.std.specs.Prelude.{◌≡◌, List, [], ◌∷◌, map, ℕ, suc, ◌+◌, ◌*◌, ◌<◌, ◌≤◌, get_or, Err, Ok}
 use Rattle.std.proofs.Math.Path.{refl, ap}
 use Rattle.std.proofs.Common.{ap₂, subst, ◌∙◌}
 use Rattle.std.proofs.Math.Bool.{true}
@@ -29,7 +29,7 @@ check-most line = omega (arith, digit-most (get_or line 9 0), digit-most (get_or
 module _ (line : List ℕ) (r : RightLine line) where
   -- it asks for the position of its man's number
   pub right-request : kind_named (get_or line 0 0) < 4
-      → request_of line ≡ Request.Back (kind_named (get_or line 0 0)) (five_digits line)
+      → request_of line ≡ Ok (Request.Back (kind_named (get_or line 0 0)) (five_digits line))
   unfolding request_of number_request
   right-request h =
       let s : has_shape number_shape line ≡ true = true_of r.shaped in
@@ -43,7 +43,7 @@ module _ (line : List ℕ) (r : RightLine line) where
       )
 
   -- or is refused 1
-  pub right-refused : 4 ≤ kind_named (get_or line 0 0) → request_of line ≡ Request.Refused 1
+  pub right-refused : 4 ≤ kind_named (get_or line 0 0) → request_of line ≡ Err 1
   unfolding request_of number_request
   right-refused h =
       let s : has_shape number_shape line ≡ true = true_of r.shaped in
@@ -114,6 +114,6 @@ module _ (letter n : ℕ) (h : n < 100000) where
   written-five = let r = check-range n in omega (arith, written-seven, check-most (number_line letter n))
 
   -- and leads back
-  pub written-request : kind_named letter < 4 → request_of (number_line letter n) ≡ Request.Back (kind_named letter) n
+  pub written-request : kind_named letter < 4 → request_of (number_line letter n) ≡ Ok (Request.Back (kind_named letter) n)
   written-request m = right-request (number_line letter n) (written-line (no-space letter m)) m
-      ∙ ap (Request.Back (kind_named letter)) written-five
+      ∙ ap ((λ x0. Ok (Request.Back (kind_named letter) x0))) written-five

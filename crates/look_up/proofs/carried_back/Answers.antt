@@ -3,7 +3,7 @@ use borrow.Author.Rules.{rules}
 use Rattle.look_up.proofs.laws.Laws.{back-on-the-board}
 use Rattle.look_up.proofs.carried_back.Goals as goal
 
-pub returns-in-Play : goal.returns-in-Play
-returns-in-Play c =
-    back-on-the-board _ _ _ _ _ _ c.in-Play.is
-    c.back.ensures c.back-in-Play.ensures c.promotion_of.ensures
+pub returns-in-Some : goal.returns-in-Some
+returns-in-Some c =
+    back-on-the-board _ _ _ _ _ _ c.in-Some.is
+    c.back.ensures c.back-in-Some.ensures c.promotion_of.ensures

@@ -1,5 +1,5 @@
 -- Look-up's answer by the tests that lead to it.
-use Rattle.std.specs.Prelude.{◌≡◌, refl, Bool, true, false, List, ℕ, ◌-◌, T}
+use Rattle.std.specs.Prelude.{◌≡◌, refl, Bool, true, false, List, ℕ, ◌-◌, T, None, Option, Some, Err, Result}
 use Rattle.std.proofs.Math.Path.{sym, ap, subst⁻¹}
 use Rattle.std.proofs.Common.{◌∙◌, arith}
 use borrow.Author.Tests.{ne_eqb}
@@ -13,10 +13,7 @@ use Rattle.rules.specs.Rules.{Board, promotion_of, in_check}
 use Rattle.rules.specs.Chess.{chess}
 use Rattle.numbering.specs.declared.Material.{Material}
 use Rattle.numbering.specs.Material.{known, given, legal_in, OfMaterial, material_in}
-use Rattle.answers.specs.declared.BestMove.{BestMove}
 use Rattle.answers.specs.declared.Answer.{Answer}
-use Rattle.position.specs.declared.Slot.{Slot}
-use Rattle.position.specs.declared.Slot.TheVariants.{Absent, Present}
 use Rattle.position.specs.declared.Position.{Position}
 use Rattle.position.specs.declared.Map.{Map}
 use Rattle.position.specs.declared.Men.{Men}
@@ -47,11 +44,11 @@ use Rattle.look_up.proofs.laws.Checked.{rival_checked, checked-there}
 use Rattle.look_up.proofs.laws.Normal.{given-of, normal-for, reads-for, required-for, seated-of}
 
 -- a move, its two squares carried back
-pub back-on-the-board : (via : Map) (advice : BestMove) (m v : Move) (from to : ℕ) → advice ≡ BestMove.Play m
+pub back-on-the-board : (via : Map) (advice : Option Move) (m v : Move) (from to : ℕ) → advice ≡ Some m
     → from ≡ mapped (inverse (symmetry_of via)) m.from → to ≡ mapped (inverse (symmetry_of via)) m.to
-    → v ≡ promotion_of from to m.takes m.becomes → BestMove.Play v ≡ mapped_advice (inverse (symmetry_of via)) advice
+    → v ≡ promotion_of from to m.takes m.becomes → Some v ≡ mapped_advice (inverse (symmetry_of via)) advice
 back-on-the-board via advice m v from to e f g h =
-    ap BestMove.Play (h ∙ rw (f, g)) ∙ ap (mapped_advice (inverse (symmetry_of via))) (sym e)
+    ap Some (h ∙ rw (f, g)) ∙ ap (mapped_advice (inverse (symmetry_of via))) (sym e)
 
 -- whether the lengths fit, asked of the men's material
 pub fit_of : (l : Lent) (t : List ℕ) (m : Men) (x : Material) (fit : Bool) → x ≡ material_for m → fit ≡ lengths_fit x l t
@@ -89,7 +86,7 @@ check-of p r z n k x rival e f =
     (material_in (board_of p).men) w
 
 module _ (l : Lent) (t : List ℕ) (p : Position) where
-  pub refused-standing : (n : ℕ) → n ≡ standing_with p → (n ≡ 0 → ⊥) → Answer.Refused n ≡ look_up_with l t p
+  pub refused-standing : (n : ℕ) → n ≡ standing_with p → (n ≡ 0 → ⊥) → Err n ≡ look_up_with l t p
   unfolding look_up_with
   refused-standing n e h = sym (rw (← e, ne_eqb n 0 h))
 
@@ -128,7 +125,7 @@ module _ (l : Lent) (t : List ℕ) (p : Position) where
       fits : fit ≡ lengths_fit m l t
       fits = o ∙ ap (λ (x : Material). lengths_fit x l t) there.material
 
-      pub refused-length : fit ≡ false → Answer.Refused 7 ≡ look_up_with l t p
+      pub refused-length : fit ≡ false → Err 7 ≡ look_up_with l t p
       unfolding look_up_with
       refused-length h = sym (rw (stands, sym fits ∙ h))
 
@@ -154,7 +151,7 @@ module _ (l : Lent) (t : List ℕ) (p : Position) where
         required : required_at chess bytes c ≡ required_at chess bytes b
         required = sym (required-for m is-given l t b c same)
 
-        refused-byte : v ≡ Verdict.Wrong → Answer.Refused 11 ≡ look_up_with l t p
+        refused-byte : v ≡ Verdict.Wrong → Err 11 ≡ look_up_with l t p
         unfolding look_up_with
         refused-byte w =
             sym (rw (
@@ -166,7 +163,7 @@ module _ (l : Lent) (t : List ℕ) (p : Position) where
             ))
 
         -- the advice carried back by the map
-        answered : (a d : BestMove) → v ≡ Verdict.Right a → d ≡ mapped_advice (inverse (symmetry_of r.via)) a
+        answered : (a d : Option Move) → v ≡ Verdict.Right a → d ≡ mapped_advice (inverse (symmetry_of r.via)) a
             → answer_of byte d ≡ look_up_with l t p
         unfolding look_up_with chosen_by suited_from first_suited
         answered a d w u =
@@ -177,7 +174,7 @@ module _ (l : Lent) (t : List ℕ) (p : Position) where
             ∙ ap (λ (i : ℕ). mapped_advice (inverse (map_in m b)) (advice_of (suited_from bytes i c))) at-normal in
             sym (rw (stands, sym fits ∙ long, ← at-number, ← required, j.0, ← x))
 
-        pub told-answer : (x : Answer) → x ≡ told_of r.via byte v → x ≡ look_up_with l t p
+        pub told-answer : (x : Result Answer ℕ) → x ≡ told_of r.via byte v → x ≡ look_up_with l t p
         told-answer x i = i ∙ go v refl
           where
             go : (u : Verdict) → v ≡ u → told_of r.via byte u ≡ look_up_with l t p
@@ -187,23 +184,23 @@ module _ (l : Lent) (t : List ℕ) (p : Position) where
 -- ---- the parts that keep to three men
 
 -- two men, or an absent one before a present one, are refused 1
-pub two-refused : (t : List ℕ) (p : Position) (a : Piece) → p.second ≡ Present a → Answer.Refused 1 ≡ look_up_of t p
+pub two-refused : (t : List ℕ) (p : Position) (a : Piece) → p.second ≡ Some a → Err 1 ≡ look_up_of t p
 unfolding look_up_of standing_refusal placing_refusal
 two-refused t p a e = sym (rw (bad p.first p.second a e))
   where
-    bad : (f s : Slot) (a : Piece) → s ≡ Present a → bad_men f s ≡ true
+    bad : (f s : Option Piece) (a : Piece) → s ≡ Some a → bad_men f s ≡ true
     bad f s a e = ap (bad_men f) e ∙ go f
       where
-        go : (f : Slot) → bad_men f (Present a) ≡ true
-        go Absent = refl
-        go (Present x) = refl
+        go : (f : Option Piece) → bad_men f (Some a) ≡ true
+        go None = refl
+        go (Some x) = refl
 
 -- and so is a pawn
 pub pawn-alone-refused : (t : List ℕ) (p : Position) (a : Piece) → a ≡ man_in p.first → a.kind ≡ 4
-    → Answer.Refused 1 ≡ look_up_of t p
+    → Err 1 ≡ look_up_of t p
 unfolding look_up_of
 pawn-alone-refused t p a e k = sym (rw (pawn-refused p (ap (λ (x : Piece). x.kind) (sym e) ∙ k)))
 
-pub one-answered : (l : Lent) (t : List ℕ) (p : Position) (a : Piece) (r : Answer) → a ≡ man_in p.first
-    → (a.kind ≡ 4 → ⊥) → p.second ≡ Absent → r ≡ look_up_with l t p → r ≡ look_up_of t p
+pub one-answered : (l : Lent) (t : List ℕ) (p : Position) (a : Piece) (r : Result Answer ℕ) → a ≡ man_in p.first
+    → (a.kind ≡ 4 → ⊥) → p.second ≡ None → r ≡ look_up_with l t p → r ≡ look_up_of t p
 one-answered l t p a r f n e h = h ∙ look-up-alone l t p e (λ k. n (ap (λ (x : Piece). x.kind) f ∙ k))

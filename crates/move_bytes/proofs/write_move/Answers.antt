@@ -2,7 +2,6 @@
 use native.Mathlib.Omega.{arith}
 use lib.ListN.{length-set}
 use Rattle.move_bytes.proofs.laws.StoreLaws.{four_bytes}
-use borrow.Author.Rules.{rules}
 use Rattle.move_bytes.proofs.write_move.Goals as goal
 
 pub bounds-bytes-at-2 : goal.bounds-bytes-at-2

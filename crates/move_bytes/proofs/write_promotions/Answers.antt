@@ -1,6 +1,5 @@
 -- `move_bytes::write_promotions` meets its contract.
 use Rattle.move_bytes.proofs.laws.StoreLaws.{four-moves}
-use borrow.Author.Rules.{rules}
 use Rattle.move_bytes.proofs.write_promotions.Goals as goal
 
 pub returns : goal.returns

@@ -1,5 +1,5 @@
 -- The answers by what code has found: a refusal, or none and the moves.
-use Rattle.std.specs.Prelude.{◌≡◌, true, false, [], ℕ, eqb}
+use Rattle.std.specs.Prelude.{◌≡◌, true, false, [], ℕ, eqb, Err, Ok}
 use Rattle.std.proofs.Math.Path.{sym, ap}
 use Rattle.std.proofs.Common.{ap₂, ◌∙◌, eq-eqb, ne_eqb}
 use Rattle.std.proofs.Math.ListN.{length}
@@ -9,7 +9,6 @@ use Rattle.position.specs.Keyed.{board_of}
 use Rattle.position.specs.Refusals.{standing_with}
 use Rattle.move_list.specs.declared.MoveList.{MoveList}
 use Rattle.move_list.specs.declared.Listed.{Listed}
-use Rattle.move_list.specs.declared.Counted.TheVariants.{Count, Refused}
 use Rattle.move_list.specs.Lists.{list_of}
 use Rattle.move_list.proofs.laws.Served.{served-moves}
 use Rattle.move_list.specs.Answers.{moves_of, listed, count_answer, Counts}
@@ -32,9 +31,9 @@ module _ (p : Position) (r : ℕ) (e : r ≡ standing_with p) where
     unfolding listed
     refused-list l q = listed-eq e (q ∙ ap list_of (sym no-moves))
 
-    pub refused-count : Counts p (Refused r)
+    pub refused-count : Counts p (Err r)
     unfolding count_answer
-    refused-count = record { answer = rw some-refusal (ap Refused e); refusal = e; count = rw no-moves }
+    refused-count = record { answer = rw some-refusal (ap Err e); refusal = e; count = rw no-moves }
 
   module _ (z : r ≡ 0) where
     no-refusal : eqb (standing_with p) 0 ≡ true
@@ -49,11 +48,11 @@ module _ (p : Position) (r : ℕ) (e : r ≡ standing_with p) where
     unfolding listed
     given-list l q = listed-eq e (q ∙ ap list_of (sym all-moves))
 
-    pub given-count : (n : ℕ) → n ≡ length (all_moves (board_of p)) → Counts p (Count n)
+    pub given-count : (n : ℕ) → n ≡ length (all_moves (board_of p)) → Counts p (Ok n)
     unfolding count_answer
     given-count n q =
         record {
-          answer = rw no-refusal (ap Count (q ∙ ap length (sym (served-moves p (sym e ∙ z)))));
+          answer = rw no-refusal (ap Ok (q ∙ ap length (sym (served-moves p (sym e ∙ z)))));
           refusal = sym z
               ∙ e;
           count = rw all-moves q;

@@ -1,5 +1,5 @@
 -- The count of moves by the sizes of three sets of targets: the king's, the first man's and the second's.
-use Rattle.std.specs.Prelude.{◌≡◌, refl, Bool, cond, ◌||◌, ℕ, ◌+◌, ◌*◌, ◌≤◌, ◌<◌, eqb}
+use Rattle.std.specs.Prelude.{◌≡◌, refl, Bool, cond, ◌||◌, ℕ, ◌+◌, ◌*◌, ◌≤◌, ◌<◌, eqb, None, Option, Some}
 use Rattle.std.proofs.Common.{sym, ap₂, ◌∙◌, arith, eqb→eq, eq-eqb}
 use Rattle.std.proofs.Math.Path.{ap}
 use Rattle.std.proofs.Math.Bool.{true, false, and-true}
@@ -17,8 +17,6 @@ use Rattle.rules.specs.Pawn.{pawn}
 use Rattle.rules.specs.Rules.{Board, king, can_move, promotes, moves_onto, moves_from, all_moves}
 use Rattle.rules.proofs.laws.CanMove.{can-on}
 use Rattle.rules.proofs.laws.MoveLists.{onto-none}
-use Rattle.position.specs.declared.Slot.{Slot}
-use Rattle.position.specs.declared.Slot.TheVariants.{Absent, Present}
 use Rattle.position.specs.declared.Position.{Position}
 use Rattle.position.specs.Keyed.{slot_men, board_of, man_in}
 use Rattle.position.specs.Refusals.{bad_men_of, bad_side, bad_square, bad_pawn, shared_square, kings_touch, slot_on, slots_share, placing_with}
@@ -96,11 +94,11 @@ module _ (p : Position) (w : Placed (board_of p)) where
       ∙ rw (eq-eqb m.square m.square refl) (and-true (pawn m))
 
   -- what a man adds
-  man-counted : (slot : Slot) → Held p slot → (targets : ℕ) → targets ≡ set_of (can_move (board_of p) (man_in slot).square)
+  man-counted : (slot : Option Piece) → Held p slot → (targets : ℕ) → targets ≡ set_of (can_move (board_of p) (man_in slot).square)
       → length (moves_from (board_of p) (man_in slot).square) ≡ man_count slot targets
-  man-counted Absent i targets e =
+  man-counted None i targets e =
       off-from (board_of p) 64 (omega arith) ∙ sym (none-targets (board_of p) 64 targets e (off-board (board_of p) 64 (omega arith)))
-  man-counted (Present m) i targets e = go (pawn m) refl
+  man-counted (Some m) i targets e = go (pawn m) refl
     where
       there : (x : Bool) → pawn m ≡ x
           → (any (pawn_on m.square) (slot_men p.first) || any (pawn_on m.square) (slot_men p.second)) ≡ x
@@ -114,7 +112,7 @@ module _ (p : Position) (w : Placed (board_of p)) where
 
 -- ---- as code counts them
 
-module _ (slot : Slot) (targets : ℕ) where
+module _ (slot : Option Piece) (targets : ℕ) where
   pub count_none : targets ≡ 0 → 0 ≡ man_count slot targets
   count_none z = sym (rw (z, members-none) (go (slot_pawn slot)))
     where
@@ -146,16 +144,16 @@ module _ (p : Position) (z : placing_with p ≡ 0) where
       last false false false d e = e
 
   -- a man who stood on the king's square, or on the other man's, would have no moves
-  on-king : (slot : Slot) → Held p slot → (man_in slot).square ≡ king (board_of p) p.side
+  on-king : (slot : Option Piece) → Held p slot → (man_in slot).square ≡ king (board_of p) p.side
       → length (moves_from (board_of p) (man_in slot).square) ≡ 0
-  on-king Absent i e = off-from (board_of p) 64 (omega arith)
-  on-king (Present m) i e = absurd (no-king (board_of p) (placed-board p z) m (i m refl) p.side (sym e))
+  on-king None i e = off-from (board_of p) 64 (omega arith)
+  on-king (Some m) i e = absurd (no-king (board_of p) (placed-board p z) m (i m refl) p.side (sym e))
 
-  on-first : (f s : Slot) → slots_share f s ≡ false → (man_in s).square ≡ (man_in f).square
+  on-first : (f s : Option Piece) → slots_share f s ≡ false → (man_in s).square ≡ (man_in f).square
       → length (moves_from (board_of p) (man_in s).square) ≡ 0
-  on-first f Absent q e = off-from (board_of p) 64 (omega arith)
-  on-first Absent (Present n) q e = off-from (board_of p) n.square (omega (arith, e))
-  on-first (Present m) (Present n) q e = absurd (eqb-false m.square n.square q (sym e))
+  on-first f None q e = off-from (board_of p) 64 (omega arith)
+  on-first None (Some n) q e = off-from (board_of p) n.square (omega (arith, e))
+  on-first (Some m) (Some n) q e = absurd (eqb-false m.square n.square q (sym e))
 
   all_three : length (all_moves (board_of p))
       ≡ length (moves_from (board_of p) (king (board_of p) p.side))

@@ -1,5 +1,5 @@
 -- Where a move from a square promotes, by the two slots.
-use Rattle.std.specs.Prelude.{◌≡◌, refl, Bool, true, false, ◌&&◌, ℕ, eqb}
+use Rattle.std.specs.Prelude.{◌≡◌, refl, Bool, true, false, ◌&&◌, ℕ, eqb, None, Option, Some}
 use Rattle.std.proofs.Math.Path.{sym, ap}
 use Rattle.std.proofs.Common.{ap₂, ◌∙◌}
 use Rattle.std.proofs.Math.Bool.{◌||◌, or-false}
@@ -9,19 +9,17 @@ use Rattle.board.specs.Sets.{pack, set_of}
 use Rattle.rules.specs.declared.Piece.{Piece}
 use Rattle.rules.specs.Pawn.{pawn, outer}
 use Rattle.rules.specs.Rules.{promotes}
-use Rattle.position.specs.declared.Slot.{Slot}
-use Rattle.position.specs.declared.Slot.TheVariants.{Absent, Present}
 use Rattle.position.specs.declared.Position.{Position}
 use Rattle.position.specs.Keyed.{slot_men, board_of}
 
 abbrev pub pawn_on : ℕ → Piece → Bool
 pawn_on square m = pawn m && eqb m.square square
 
-pub pawn-absent : (slot : Slot) (square : ℕ) → slot ≡ Absent → false ≡ any (pawn_on square) (slot_men slot)
+pub pawn-absent : (slot : Option Piece) (square : ℕ) → slot ≡ None → false ≡ any (pawn_on square) (slot_men slot)
 unfolding any
 pawn-absent slot square e = sym (rw e)
 
-pub pawn-present : (slot : Slot) (square : ℕ) (m : Piece) → slot ≡ Present m
+pub pawn-present : (slot : Option Piece) (square : ℕ) (m : Piece) → slot ≡ Some m
     → (pawn m && eqb m.square square) ≡ any (pawn_on square) (slot_men slot)
 unfolding any
 pawn-present slot square m e = sym (rw e (or-false (pawn_on square m)))

@@ -1,6 +1,6 @@
 -- The moves to some targets, by the sets of the squares where a move takes and where it promotes: stored one target at a
 -- time, and how many they are.
-use Rattle.std.specs.Prelude.{◌≡◌, Bool, ◌&&◌, set}
+use Rattle.std.specs.Prelude.{◌≡◌, Bool, ◌&&◌}
 use Rattle.std.proofs.Math.Path.{refl, sym, ap, ap₂}
 use Rattle.std.proofs.Common.{◌∙◌, arith, length-append}
 use Rattle.std.proofs.Math.Bool.{true, false, cond}
@@ -12,7 +12,7 @@ use Rattle.std.proofs.Math.ListN.{length}
 use Rattle.finite.specs.Members.{◌∈◌}
 use Rattle.finite.specs.Filter.{filter, keep, filter_same}
 use Rattle.board.specs.Sets.{has, squares, members, set_of}
-use Rattle.board.proofs.laws.SetLaws.{has-and, set-has, squares-out, members-out, members-none}
+use Rattle.board.proofs.laws.SetLaws.{has-and, set-has, squares-out, members-out}
 use Rattle.board.proofs.laws.LowestLaws.{Lowest}
 use Rattle.rules.specs.declared.Move.{Move}
 use Rattle.rules.specs.Rules.{Board, taking, promotion_of, move_of, move_on, promotes, moves_to, moves_onto}
@@ -20,7 +20,7 @@ use Rattle.rules.proofs.laws.MoveLists.{onto-none, onto-next}
 use Rattle.move_list.specs.declared.MoveList.{MoveList}
 use Rattle.move_list.specs.Lists.{room}
 use Rattle.move_list.specs.ListLaws.{appended, target_moves, targets_moves}
-use Rattle.move_list.proofs.laws.ListLaws.{Rest, rest-room, rest-next, appended_one}
+use Rattle.move_list.proofs.laws.ListLaws.{Rest, rest-room, rest-next}
 
 flat_map-same : (f g : ℕ → List Move) (l : List ℕ) → ((x : ℕ) → x ∈ l → f x ≡ g x) → flat_map f l ≡ flat_map g l
 unfolding flat_map
@@ -29,9 +29,9 @@ flat_map-same f g (x ∷ l) e =
     ap₂ ◌++◌ (e x (Memᴰ.head refl)) (flat_map-same f g l (λ y m. e y (Memᴰ.tail m)))
 
 module _ (foes ends from : ℕ) where
-  pub targets-end : (rest : ℕ) → rest ≡ 0 → targets_moves foes ends from (members rest) ≡ []
+  pub targets-end : (rest : ℕ) → members rest ≡ [] → targets_moves foes ends from (members rest) ≡ []
   unfolding targets_moves flat_map
-  targets-end rest z = rw (z, members-none)
+  targets-end rest z = rw z
 
   module _ (rest to others : ℕ) (low : Lowest rest to others) where
     pub targets_next : targets_moves foes ends from (members rest)
@@ -69,9 +69,8 @@ module _ (foes ends from : ℕ) where
             let h = rest-room l k ms (targets_moves foes ends from (members rest)) (move_of from to takes ∷ [])
             (targets_moves foes ends from (members others)) r single in omega (arith, h)
 
-        pub plain-next : (m : Move) → m ≡ move_of from to takes
-            → Added (record { moves = set k.moves k.count m; count = k.count + 1 })
-        plain-next m q = rest-next l k ms _ (move_of from to takes ∷ []) _ r single _ (appended_one k m _ refl ∙ ap (λ (v : Move). appended k (v ∷ [])) q)
+        pub plain-next : (k' : MoveList) (m : Move) → m ≡ move_of from to takes → k' ≡ appended k (m ∷ []) → Added k'
+        plain-next k' m q e = rest-next l k ms _ (move_of from to takes ∷ []) _ r single k' (e ∙ ap (λ (v : Move). appended k (v ∷ [])) q)
 
   module _ (b : Board) (ef : foes ≡ set_of (taking b)) (ee : ends ≡ set_of (promotes b from)) (targets : ℕ) where
     pub by-sets : targets_moves foes ends from (members targets) ≡ moves_onto b from (members targets)

@@ -5,7 +5,7 @@ use mathlib.Core.List.{List, [], ◌∷◌, ◌++◌, flat_map}
 use Rattle.std.specs.Int.Bits.{bit_and}
 use Rattle.finite.specs.Filter.{filter, keep, filter_none}
 use Rattle.board.specs.Sets.{squares, members, set_of}
-use Rattle.board.proofs.laws.SetLaws.{members-set_of, members-none}
+use Rattle.board.proofs.laws.SetLaws.{members-set_of}
 use Rattle.board.proofs.laws.LowestLaws.{Lowest}
 use Rattle.rules.specs.declared.Move.{Move}
 use Rattle.rules.specs.Rules.{Board, stands, can_move, taking, promotes, moves_onto, moves_from, all_moves}
@@ -39,9 +39,9 @@ by-movers b own e =
     ∙ rw (e, members-set_of (stands b b.side))
 
 -- no mover is left
-pub movers-end : (b : Board) (rest : ℕ) → rest ≡ 0 → flat_map (moves_from b) (members rest) ≡ []
+pub movers-end : (b : Board) (rest : ℕ) → members rest ≡ [] → flat_map (moves_from b) (members rest) ≡ []
 unfolding flat_map
-movers-end b rest z = rw (z, members-none)
+movers-end b rest z = rw z
 
 -- One turn: the lowest square `from` is taken out of `rest` and leaves `others`; `targets` is the set of its targets.
 module _ (b : Board) (rest from others targets : ℕ) (low : Lowest rest from others)

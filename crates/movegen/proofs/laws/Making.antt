@@ -1,5 +1,5 @@
 -- A move made on a position is the move made on its board.
-use Rattle.std.specs.Prelude.{◌≡◌, Bool, cond, not, ℕ, eqb}
+use Rattle.std.specs.Prelude.{◌≡◌, Bool, cond, not, ℕ, eqb, None, Option, Some}
 use Rattle.std.proofs.Math.Path.{refl, sym}
 use Rattle.std.proofs.Common.{ap₂, ◌∙◌}
 use Rattle.std.proofs.Math.Bool.{true, false}
@@ -8,20 +8,18 @@ use Rattle.finite.specs.Filter.{filter, keep}
 use Rattle.rules.specs.declared.Piece.{Piece}
 use Rattle.rules.specs.Rules.{carried_piece, left, moved}
 use Rattle.rules.proofs.laws.Changed.{board-eq}
-use Rattle.position.specs.declared.Slot.{Slot}
-use Rattle.position.specs.declared.Slot.TheVariants.{Absent, Present}
 use Rattle.position.specs.declared.Position.{Position}
 use Rattle.position.specs.Keyed.{slot_men, board_of}
 use Rattle.movegen.specs.After.{slot_after, after}
 
 module _ (from to : ℕ) where
-  slot-moved : (s : Slot) → slot_men (slot_after from to s) ≡ map (carried_piece from to) (left to (slot_men s))
+  slot-moved : (s : Option Piece) → slot_men (slot_after from to s) ≡ map (carried_piece from to) (left to (slot_men s))
   unfolding filter
-  slot-moved Absent = refl
-  slot-moved (Present m) = go (eqb m.square to)
+  slot-moved None = refl
+  slot-moved (Some m) = go (eqb m.square to)
     where
       go : (x : Bool)
-          → slot_men (cond x Absent (Present (carried_piece from to m))) ≡ map (carried_piece from to) (keep (not x) m [])
+          → slot_men (cond x None (Some (carried_piece from to m))) ≡ map (carried_piece from to) (keep (not x) m [])
       go true = refl
       go false = refl
 

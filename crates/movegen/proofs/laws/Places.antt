@@ -1,5 +1,5 @@
 -- The rules on an ending's men and a place, piece by piece, as code goes through them.
-use Rattle.std.specs.Prelude.{◌≡◌, Bool, cond, ◌&&◌, ℕ, zero, suc, ◌-◌, ◌^◌, ◌<◌, ◌≤◌}
+use Rattle.std.specs.Prelude.{◌≡◌, Bool, cond, ◌&&◌, ℕ, zero, suc, ◌-◌, ◌^◌, ◌<◌, ◌≤◌, None, Option, Some}
 use Rattle.std.proofs.Math.Path.{refl, sym, ap₂}
 use Rattle.std.proofs.Common.{ap, ◌∙◌, inl, arith}
 use Rattle.std.proofs.Math.Bool.{true, false, ◌||◌, or-false, and-false}
@@ -19,8 +19,6 @@ use Rattle.rules.specs.Pawn.{pawn}
 use Rattle.rules.specs.Rules.{piece_of, pieces, occupied, attacks, stands, goes_to, carried, moved}
 use Rattle.rules.proofs.laws.CanMove.{goes-piece, attacks-piece}
 use Rattle.rules.proofs.laws.OnBoard.{attacks-off, goes_to-off}
-use Rattle.position.specs.declared.Slot.{Slot}
-use Rattle.position.specs.declared.Slot.TheVariants.{Absent, Present}
 use Rattle.position.specs.declared.Position.{Position}
 use Rattle.position.specs.declared.Men.{Men}
 use Rattle.position.specs.declared.Place.{Place}
@@ -43,7 +41,7 @@ module _ (f : Piece → Bool) (none : (kind colour square : ℕ) → 64 ≤ squa
   slot-any kind colour square = go (leb 64 square) refl
     where
       go : (x : Bool) → leb 64 square ≡ x
-          → any f (slot_men (cond x Absent (Present (piece_of kind colour square)))) ≡ f (piece_of kind colour square)
+          → any f (slot_men (cond x None (Some (piece_of kind colour square)))) ≡ f (piece_of kind colour square)
       go true e = sym (none kind colour square (leb-true 64 square e))
       go false e = or-false (f (piece_of kind colour square))
 
@@ -199,13 +197,13 @@ module _ (from to : ℕ) (lf : from < 64) (lt : to < 64) where
 
       taken : (x : Bool) → s < 64
           → slot_at kind colour (cond x 64 (carried from to s))
-          ≡ cond x Absent (Present (piece_of kind colour (carried from to s)))
+          ≡ cond x None (Some (piece_of kind colour (carried from to s)))
       taken true h = refl
       taken false h = rw (here (eqb s from) refl h)
 
       go : (x : Bool) → leb 64 s ≡ x
           → slot_at kind colour (square_after from to s)
-          ≡ slot_after from to (cond x Absent (Present (piece_of kind colour s)))
+          ≡ slot_after from to (cond x None (Some (piece_of kind colour s)))
       go true e =
           let l = leb-true 64 s e in
           rw (ne_eqb s to (λ p. omega arith), ne_eqb s from (λ p. omega arith), e)
@@ -214,7 +212,7 @@ module _ (from to : ℕ) (lf : from < 64) (lt : to < 64) where
   place-posed : (m : Men) (q : Place) → posed m (place_after q from to) ≡ after (posed m q) from to
   unfolding posed place_after after
   place-posed m q =
-      ap₂ (λ (f s : Slot). record {
+      ap₂ (λ (f s : Option Piece). record {
         side = 1 - q.side;
         white_king = carried from to q.white;
         black_king = carried from to q.black;

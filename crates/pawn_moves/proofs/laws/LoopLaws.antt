@@ -1,9 +1,12 @@
 -- One turn of the loop that weighs a byte against the moves of a list.
-use Rattle.std.specs.Prelude.{◌≡◌, refl, Bool, true, false, cond, ◌||◌, List, [], ◌∷◌, ◌++◌, ℕ, zero, suc, ◌+◌, ◌-◌, ◌≤◌, ◌<◌, length, drop, get_or, replicate}
-use Rattle.std.proofs.Common.{sym, ◌∙◌, le_of_suc-le-suc, add-one, arith, drop-cons}
+use Rattle.std.specs.Prelude.{◌≡◌, refl, true, false, List, [], ◌∷◌, ℕ, zero, suc, ◌+◌, ◌≤◌, ◌<◌, length, drop, get_or, take}
+use Rattle.std.specs.Prelude.{Option as Found, Some, None}
+use Rattle.std.specs.Option.{option_or}
+use Rattle.std.specs.Bool.{then_some}
+use Rattle.std.proofs.Common.{sym, ◌∙◌, le_of_suc-le-suc, arith, take_at}
+use Rattle.std.proofs.lemmas.List.{drop_more}
 use Rattle.std.proofs.Math.Path.{ap, subst}
 use mathlib.Core.List.Memᴰ
-use Rattle.std.proofs.Math.ListN.{get_or-append}
 use Rattle.finite.specs.Members.{◌∈◌}
 use Rattle.theory.specs.Play.{suits}
 use Rattle.theory.specs.Judge.{refutes}
@@ -17,20 +20,21 @@ use Rattle.move_list.specs.declared.MoveList.{MoveList}
 use Rattle.move_list.specs.Lists.{room, list_of}
 use Rattle.move_list.proofs.laws.Served.{few-moves}
 use Rattle.pawn_moves.specs.declared.Weighed.{Weighed}
-use Rattle.pawn_moves.specs.PawnMoves.{pawn_at, PawnOn, pawn_bytes, met_by, weighed_on, weighed, found_by}
+use Rattle.pawn_moves.specs.PawnMoves.{pawn_at, PawnOn, pawn_bytes, met_by, weighed_on, weighed}
 use Rattle.pawn_moves.proofs.laws.SeatLaws.{posed-board}
-use Rattle.pawn_moves.proofs.laws.WeighLaws.{weigh-end, weigh-stop, weigh-next}
+use Rattle.pawn_moves.proofs.laws.WeighLaws.{found, weigh-end, weigh-stop, weigh-next}
 
 -- the moves from the i-th on, weighed with what has been found, give what all give
-pub record Weighing (q : Place) (byte : ℕ) (table run : List ℕ) (moves : List Move) (count : ℕ) (met : Bool) (best : Move)
-    (i : ℕ) : Type 0 where
-  pub all : moves ≡ all_moves (pawn_at q) ++ replicate (room - length (all_moves (pawn_at q))) zero_move
-  pub counted : count ≡ length (all_moves (pawn_at q))
-  pub few : count ≤ room
-  pub so_far : i ≤ count
+pub record Weighing (q : Place) (byte : ℕ) (table run : List ℕ) (moves : List Move) (best : Found Move) (i : ℕ) : Type 0 where
+  pub all : moves ≡ all_moves (pawn_at q)
   pub left : PawnOn q
-      → weighed_on (λ v. pawn_bytes run table (played (pawn_at q) v)) byte (drop i (all_moves (pawn_at q))) (found_by met best)
+      → weighed_on (λ v. pawn_bytes run table (played (pawn_at q) v)) byte (drop i (all_moves (pawn_at q))) (found best)
       ≡ weighed (pawn_bytes run table) byte (pawn_at q)
+
+-- a list has room for them
+pub moves-fit : (p : Position) (list : MoveList) → list ≡ list_of (all_moves (keyed.board_of p)) → list.count ≤ room
+unfolding list_of
+moves-fit p list d = subst (λ (n : ℕ). n ≤ room) (sym (ap (λ (l : MoveList). l.count) d)) (few-moves p)
 
 member : (l : List Move) (i : ℕ) → i < length l → get_or l i zero_move ∈ l
 member [] i h = absurd (omega arith)
@@ -46,80 +50,62 @@ drop-end (x ∷ l) (suc i) h = drop-end l i (le_of_suc-le-suc h)
 module _ (q : Place) (byte : ℕ) (table run : List ℕ) where
   pub weighing-start : (p : Position) (list : MoveList)
       → p ≡ keyed.lone 4 q.side q.white q.first q.black → list ≡ list_of (all_moves (keyed.board_of p))
-      → Weighing q byte table run list.moves list.count false zero_move 0
+      → Weighing q byte table run (take list.count list.moves) None 0
   unfolding list_of
   weighing-start p list e d =
       let b = ap keyed.board_of e ∙ posed-board q in
       let f = d ∙ ap (λ b. list_of (all_moves b)) b in
       record {
-        all = ap (λ (l : MoveList). l.moves) f;
-        counted = ap (λ (l : MoveList). l.count) f;
-        few = subst (λ (n : ℕ). n ≤ room) (sym (ap (λ (l : MoveList). l.count) d)) (few-moves p);
-        so_far = omega arith;
+        all = ap (λ (l : MoveList). take l.count l.moves) f ∙ take_at (all_moves (pawn_at q)) _ _ refl;
         left = λ o. refl;
       }
 
-  module _ (moves : List Move) (count : ℕ) (met : Bool) (best : Move) (i : ℕ)
-      (w : Weighing q byte table run moves count met best i) where
-    module _ (h : i < count) where
-      here : get_or moves i zero_move ≡ get_or (all_moves (pawn_at q)) i zero_move
-      here =
-          ap (λ (l : List Move). get_or l i zero_move) w.all
-          ∙ get_or-append (all_moves (pawn_at q)) (replicate (room - length (all_moves (pawn_at q))) zero_move) zero_move i
-          (omega (arith, w.counted))
-
+  module _ (moves : List Move) (best : Found Move) (i : ℕ) (w : Weighing q byte table run moves best i) where
+    module _ (h : i < length moves) where
       pub listed : get_or moves i zero_move ∈ all_moves (pawn_at q)
-      listed =
-          subst (λ (v : Move). v ∈ all_moves (pawn_at q)) (sym here)
-          (member (all_moves (pawn_at q)) i (omega (arith, w.counted)))
+      listed = subst (λ (l : List Move). get_or moves i zero_move ∈ l) w.all (member moves i h)
 
       cut : drop i (all_moves (pawn_at q)) ≡ get_or moves i zero_move ∷ drop (i + 1) (all_moves (pawn_at q))
       cut =
-          drop-cons (all_moves (pawn_at q)) i zero_move (omega (arith, w.counted))
-          ∙ ap (λ (v : Move). v ∷ drop (suc i) (all_moves (pawn_at q))) (sym here)
-          ∙ ap (λ (k : ℕ). get_or moves i zero_move ∷ drop k (all_moves (pawn_at q))) (sym (add-one i))
+          subst (λ (l : List Move). drop i l ≡ get_or moves i zero_move ∷ drop (i + 1) l) w.all
+          (drop_more moves i zero_move h)
 
       module _ (c : ℕ) (e : PawnOn q → c ≡ pawn_bytes run table (played (pawn_at q) (get_or moves i zero_move))) where
         pub weighing-refuted : refutes byte c ≡ true → PawnOn q
             → Weighed.Refuted ≡ weighed (pawn_bytes run table) byte (pawn_at q)
         weighing-refuted r o =
             sym (weigh-stop (λ v. pawn_bytes run table (played (pawn_at q) v)) byte (get_or moves i zero_move)
-            (drop (i + 1) (all_moves (pawn_at q))) (found_by met best) (ap (refutes byte) (sym (e o)) ∙ r))
-            ∙ ap (λ (l : List Move). weighed_on (λ v. pawn_bytes run table (played (pawn_at q) v)) byte l (found_by met
-            best)) (sym cut)
+            (drop (i + 1) (all_moves (pawn_at q))) (found best) (ap (refutes byte) (sym (e o)) ∙ r))
+            ∙ ap (λ (l : List Move). weighed_on (λ v. pawn_bytes run table (played (pawn_at q) v)) byte l (found best))
+            (sym cut)
             ∙ w.left o
 
-        pub weighing-next : (met' : Bool) (best' : Move) → refutes byte c ≡ false → met' ≡ (met || suits byte c)
-            → best' ≡ cond met best (get_or moves i zero_move)
-            → Weighing q byte table run moves count met' best' (i + 1)
-        weighing-next met' best' r m b = record {
+        pub weighing-next : (best' : Found Move) → refutes byte c ≡ false
+            → best' ≡ option_or best (then_some (suits byte c) (get_or moves i zero_move))
+            → Weighing q byte table run moves best' (i + 1)
+        weighing-next best' r b = record {
           all = w.all;
-          counted = w.counted;
-          few = w.few;
-          so_far = omega arith;
           left = λ o.
-              ap (λ (x : Bool). weighed_on (λ v. pawn_bytes run table (played (pawn_at q) v)) byte
-              (drop (i + 1) (all_moves (pawn_at q))) (found_by x best')) (m ∙ ap (λ (k : ℕ). met || suits byte k) (e o))
-              ∙ ap (λ (x : Move). weighed_on (λ v. pawn_bytes run table (played (pawn_at q) v)) byte
-              (drop (i + 1) (all_moves (pawn_at q)))
-              (found_by (met || suits byte (pawn_bytes run table (played (pawn_at q) (get_or moves i zero_move)))) x)) b
+              ap (λ (x : Found Move). weighed_on (λ v. pawn_bytes run table (played (pawn_at q) v)) byte
+              (drop (i + 1) (all_moves (pawn_at q))) (found x))
+              (b ∙ ap (λ (k : ℕ). option_or best (then_some (suits byte k) (get_or moves i zero_move))) (e o))
               ∙ sym (weigh-next (λ v. pawn_bytes run table (played (pawn_at q) v)) byte (get_or moves i zero_move)
-              (drop (i + 1) (all_moves (pawn_at q))) met best (ap (refutes byte) (sym (e o)) ∙ r))
-              ∙ ap (λ (l : List Move). weighed_on (λ v. pawn_bytes run table (played (pawn_at q) v)) byte l (found_by met
-              best)) (sym cut)
+              (drop (i + 1) (all_moves (pawn_at q))) best (ap (refutes byte) (sym (e o)) ∙ r))
+              ∙ ap (λ (l : List Move). weighed_on (λ v. pawn_bytes run table (played (pawn_at q) v)) byte l (found best))
+              (sym cut)
               ∙ w.left o;
         }
 
-    module _ (h : count ≤ i) (o : PawnOn q) where
-      at-end : met_by (found_by met best) ≡ weighed (pawn_bytes run table) byte (pawn_at q)
-      at-end =
-          sym (weigh-end (λ v. pawn_bytes run table (played (pawn_at q) v)) byte (found_by met best))
-          ∙ ap (λ (l : List Move). weighed_on (λ v. pawn_bytes run table (played (pawn_at q) v)) byte l (found_by met
-          best)) (sym (drop-end (all_moves (pawn_at q)) i (omega (arith, w.counted))))
+    module _ (h : length moves ≤ i) (o : PawnOn q) where
+      pub weighing-end : met_by (found best) ≡ weighed (pawn_bytes run table) byte (pawn_at q)
+      weighing-end =
+          sym (weigh-end (λ v. pawn_bytes run table (played (pawn_at q) v)) byte (found best))
+          ∙ ap (λ (l : List Move). weighed_on (λ v. pawn_bytes run table (played (pawn_at q) v)) byte l (found best))
+          (sym (drop-end (all_moves (pawn_at q)) i (subst (λ (l : List Move). length l ≤ i) w.all h)))
           ∙ w.left o
 
-      pub weighing-met : met ≡ true → Weighed.Met best ≡ weighed (pawn_bytes run table) byte (pawn_at q)
-      weighing-met e = sym (ap (λ (x : Bool). met_by (found_by x best)) e) ∙ at-end
+      pub weighing-met : (v : Move) → best ≡ Some v → Weighed.Met v ≡ weighed (pawn_bytes run table) byte (pawn_at q)
+      weighing-met v e = sym (ap (λ (x : Found Move). met_by (found x)) e) ∙ weighing-end
 
-      pub weighing-unmet : met ≡ false → Weighed.Unmet ≡ weighed (pawn_bytes run table) byte (pawn_at q)
-      weighing-unmet e = sym (ap (λ (x : Bool). met_by (found_by x best)) e) ∙ at-end
+      pub weighing-unmet : best ≡ None → Weighed.Unmet ≡ weighed (pawn_bytes run table) byte (pawn_at q)
+      weighing-unmet e = sym (ap (λ (x : Found Move). met_by (found x)) e) ∙ weighing-end

@@ -1,9 +1,12 @@
 -- A byte weighed against the moves of a list, one turn of the loop, and what the outcome tells.
 use Rattle.std.proofs.Math.Path.{◌≡◌, refl}
 use Rattle.std.proofs.Common.{ap, arith}
-use Rattle.std.specs.Prelude.{Bool, ◌||◌, List, [], ◌∷◌, ℕ, ◌-◌}
+use Rattle.std.specs.Prelude.{Bool, List, [], ◌∷◌, ℕ}
 use Rattle.std.proofs.Math.Bool.{true, false, cond}
 use Rattle.std.proofs.Math.Option.{Option, none, some}
+use Rattle.std.specs.Prelude.{Option as Found, Some, None}
+use Rattle.std.specs.Option.{option_or}
+use Rattle.std.specs.Bool.{then_some}
 use native.Mathlib.Nat.{}
 use Rattle.std.proofs.Math.Dec.{T}
 use Rattle.finite.specs.Members.{any, first}
@@ -11,7 +14,12 @@ use Rattle.theory.specs.Play.{suits}
 use Rattle.theory.specs.Judge.{refutes}
 use Rattle.rules.specs.declared.Move.{Move}
 use Rattle.pawn_moves.specs.declared.Weighed.{Weighed}
-use Rattle.pawn_moves.specs.PawnMoves.{or_else, met_by, weighed_on, found_by}
+use Rattle.pawn_moves.specs.PawnMoves.{or_else, met_by, weighed_on}
+
+-- what the loop has found
+abbrev pub found : Found Move → Option Move
+found None = none
+found (Some v) = some v
 
 module _ (after : Move → ℕ) (c : ℕ) where
   pub weigh-end : (o : Option Move) → weighed_on after c [] o ≡ met_by o
@@ -24,20 +32,20 @@ module _ (after : Move → ℕ) (c : ℕ) where
   unfolding weighed_on any
   weigh-stop v l o e = rw e
 
-  later : (met s : Bool) (best v : Move) (o : Option Move)
-      → or_else (found_by met best) (cond s (some v) o) ≡ or_else (found_by (met || s) (cond met best v)) o
-  later true s best v o = refl
-  later false true best v o = refl
-  later false false best v o = refl
+  later : (best : Found Move) (s : Bool) (v : Move) (o : Option Move)
+      → or_else (found best) (cond s (some v) o) ≡ or_else (found (option_or best (then_some s v))) o
+  later (Some b) s v o = refl
+  later None true v o = refl
+  later None false v o = refl
 
-  pub weigh-next : (v : Move) (l : List Move) (met : Bool) (best : Move) → refutes c (after v) ≡ false
-      → weighed_on after c (v ∷ l) (found_by met best)
-      ≡ weighed_on after c l (found_by (met || suits c (after v)) (cond met best v))
+  pub weigh-next : (v : Move) (l : List Move) (best : Found Move) → refutes c (after v) ≡ false
+      → weighed_on after c (v ∷ l) (found best)
+      ≡ weighed_on after c l (found (option_or best (then_some (suits c (after v)) v)))
   unfolding weighed_on any first
-  weigh-next v l met best e =
+  weigh-next v l best e =
       rw e
       (ap (λ (o : Option Move). cond (any (λ v. refutes c (after v)) l) Weighed.Refuted (met_by o))
-      (later met (suits c (after v)) best v (first (λ v. suits c (after v)) l)))
+      (later best (suits c (after v)) v (first (λ v. suits c (after v)) l)))
 
   -- ---- what the outcome tells
 

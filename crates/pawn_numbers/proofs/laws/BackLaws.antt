@@ -1,5 +1,5 @@
 -- Each number below 196,608 leads back to a board with a pawn that bears it, the normal board of its class.
-use Rattle.std.specs.Prelude.{◌≡◌, refl, false, ℕ, ◌+◌, ◌-◌, ◌*◌, ◌/◌, ◌%◌, ◌<◌, T, ltb}
+use Rattle.std.specs.Prelude.{◌≡◌, refl, false, ℕ, ◌+◌, ◌*◌, ◌/◌, ◌%◌, ◌<◌, T, ltb}
 use Rattle.std.proofs.Common.{ap, sym, ◌∙◌, arith, lt→ltb}
 use Rattle.std.proofs.Math.Path.{subst⁻¹}
 use Rattle.finite.specs.Truth.{and_both}

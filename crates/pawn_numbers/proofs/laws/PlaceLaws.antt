@@ -1,5 +1,5 @@
 -- Places and boards: the place of a number, the normal place of a position as keyed, and what the code computes of them.
-use Rattle.std.specs.Prelude.{◌≡◌, refl, Bool, true, false, cond, not, ◌&&◌, ◌||◌, ℕ, zero, suc, ◌-◌, ◌%◌, ◌<◌, T, eqb, ltb}
+use Rattle.std.specs.Prelude.{◌≡◌, refl, Bool, true, false, cond, not, ◌&&◌, ◌||◌, ℕ, zero, suc, ◌%◌, ◌<◌, T, eqb, ltb}
 use Rattle.std.proofs.Common.{ap, sym, eqb→eq}
 use Rattle.std.specs.Int.Bits.{bit_xor}
 use Rattle.finite.specs.Members.{any}

@@ -1,5 +1,5 @@
 -- The answer by what code has found: a refusal, a move that is not among the targets, or the position after it.
-use Rattle.std.specs.Prelude.{◌≡◌, refl, Bool, ◌⊎◌, ℕ, zero, suc, ◌-◌, ◌^◌, ◌<◌, ◌≤◌}
+use Rattle.std.specs.Prelude.{◌≡◌, refl, Bool, ◌⊎◌, ℕ, zero, suc, ◌-◌, ◌^◌, ◌<◌, ◌≤◌, None, Option, Some, Err, Ok}
 use Rattle.std.proofs.Math.Path.{sym, ap}
 use Rattle.std.proofs.Common.{◌∙◌, inl, inr, arith, eq-eqb, ne_eqb}
 use Rattle.std.proofs.Math.Bool.{true, false}
@@ -9,13 +9,10 @@ use Rattle.board.proofs.laws.SetLaws.{set-has, has-off}
 use Rattle.rules.specs.Rules.{Board, can_move, promotes}
 use Rattle.rules.proofs.laws.CanMove.{can-on}
 use Rattle.rules.specs.declared.Piece.{Piece}
-use Rattle.position.specs.declared.Slot.{Slot}
-use Rattle.position.specs.declared.Slot.TheVariants.{Absent, Present}
 use Rattle.position.specs.declared.Position.{Position}
 use Rattle.position.specs.Keyed.{board_of}
 use Rattle.position.specs.Refusals.{standing_with}
 use Rattle.movegen.specs.After.{after}
-use Rattle.playing.specs.declared.Played.TheVariants.{At, NotLegal, Refused}
 use Rattle.playing.specs.Playing.{first_of, second_of, closed_up, named, promoted_to, after_as, can_play, play_of}
 
 -- the targets hold a square exactly where the move to it is legal, on the board and off it
@@ -28,16 +25,16 @@ targets-tell b from to targets e l = go (le-or-lt 64 to)
     go (inr h) = set-has (can_move b from) e to h
 
 module _ (p : Position) (from to becomes r : ℕ) (e : r ≡ standing_with p) where
-  pub refused-play : (r ≡ 0 → ⊥) → Refused r ≡ play_of p from to becomes
+  pub refused-play : (r ≡ 0 → ⊥) → Err r ≡ play_of p from to becomes
   unfolding play_of
-  refused-play n = sym (rw (ne_eqb (standing_with p) 0 (λ q. n (e ∙ q))) (ap Refused (sym e)))
+  refused-play n = sym (rw (ne_eqb (standing_with p) 0 (λ q. n (e ∙ q))) (ap Err (sym e)))
 
   module _ (z : r ≡ 0) (targets : ℕ) (s : targets ≡ set_of (can_move (board_of p) from)) (l : targets < 2 ^ 64)
       (found : Bool) (f : found ≡ has targets to) where
     told : (x : Bool) → found ≡ x → can_move (board_of p) from to ≡ x
     told x h = sym (targets-tell (board_of p) from to targets s l) ∙ sym f ∙ h
 
-    pub illegal-play : found ≡ false → NotLegal ≡ play_of p from to becomes
+    pub illegal-play : found ≡ false → Ok None ≡ play_of p from to becomes
     unfolding play_of
     illegal-play h = sym (rw (eq-eqb (standing_with p) 0 (sym e ∙ z), told false h))
 
@@ -50,15 +47,15 @@ module _ (p : Position) (from to becomes r : ℕ) (e : r ≡ standing_with p) wh
       names : (x : Bool) → n ≡ x → can_play (board_of p) from to becomes ≡ x
       names x q = rw (told true h) (ap (λ (y : Bool). named y becomes) (sym promoting) ∙ sym k ∙ q)
 
-      pub unnamed-play : n ≡ false → NotLegal ≡ play_of p from to becomes
+      pub unnamed-play : n ≡ false → Ok None ≡ play_of p from to becomes
       unfolding play_of
       unnamed-play q = sym (rw (eq-eqb (standing_with p) 0 (sym e ∙ z), names false q))
 
       pub legal-play : (m c : Position) → n ≡ true → m ≡ after_as p from to becomes → c ≡ closed_up m
-          → At c ≡ play_of p from to becomes
+          → Ok (Some c) ≡ play_of p from to becomes
       unfolding play_of
       legal-play m c q u v =
-          ap At (v ∙ ap closed_up u) ∙ sym (rw (eq-eqb (standing_with p) 0 (sym e ∙ z), names true q))
+          ap (λ x0. Ok (Some x0)) (v ∙ ap closed_up u) ∙ sym (rw (eq-eqb (standing_with p) 0 (sym e ∙ z), names true q))
 
 -- ---- promoting
 
@@ -74,24 +71,24 @@ after-named p from to (suc kind) n =
 -- ---- closing up, slot by slot
 
 module _ (p : Position) where
-  pub closes : p.first ≡ Absent
+  pub closes : p.first ≡ None
       → ◌≡◌ {A = Position}
       (record {
         side = p.side;
         white_king = p.white_king;
         black_king = p.black_king;
         first = p.second;
-        second = Absent;
+        second = None;
       })
       (closed_up p)
   unfolding closed_up
   closes e = sym (rw e)
 
-  pub stays_closed : (m : Piece) → p.first ≡ Present m → p ≡ closed_up p
+  pub stays_closed : (m : Piece) → p.first ≡ Some m → p ≡ closed_up p
   unfolding closed_up
   stays_closed m e =
-      let f : p.first ≡ first_of p.first p.second = e ∙ sym (ap (λ (s : Slot). first_of s p.second) e) in
-      let g : p.second ≡ second_of p.first p.second = sym (ap (λ (s : Slot). second_of s p.second) e) in
+      let f : p.first ≡ first_of p.first p.second = e ∙ sym (ap (λ (s : Option Piece). first_of s p.second) e) in
+      let g : p.second ≡ second_of p.first p.second = sym (ap (λ (s : Option Piece). second_of s p.second) e) in
       λ i. record {
         side = p.side;
         white_king = p.white_king;

@@ -1,5 +1,6 @@
 -- A position that play gives is the one that the rules leave, and every listed move is played.
-use Rattle.std.specs.Prelude.{◌≡◌, Bool, [], ◌∷◌, ◌++◌, map, ℕ, zero, suc, ◌<◌, T, ltb}
+use Rattle.rules.specs.declared.Piece.{Piece}
+use Rattle.std.specs.Prelude.{◌≡◌, Bool, [], ◌∷◌, ◌++◌, map, ℕ, zero, suc, ◌<◌, T, ltb, None, Option, Some, Err, Ok, Result}
 use Rattle.std.proofs.Math.Path.{refl, subst, subst⁻¹}
 use Rattle.std.proofs.Common.{sym, ap, ◌∙◌, arith, eqb→eq, ltb→lt, lt→ltb, eq-eqb, eqb-true}
 use Rattle.std.proofs.Math.Bool.{true, false, cond}
@@ -16,8 +17,6 @@ use Rattle.rules.proofs.laws.MoveLists.{ListedMove}
 use Rattle.rules.proofs.laws.Changed.{board-eq}
 use Rattle.numbering.specs.declared.Material.{Material}
 use Rattle.numbering.specs.Material.{material_in, legal_in}
-use Rattle.position.specs.declared.Slot.{Slot}
-use Rattle.position.specs.declared.Slot.TheVariants.{Absent, Present}
 use Rattle.position.specs.declared.Position.{Position}
 use Rattle.position.specs.Keyed.{slot_men, board_of}
 use Rattle.position.specs.Refusals.{bad_men_of, standing_with}
@@ -25,49 +24,47 @@ use Rattle.position.proofs.laws.BothSizes.{standing-placed-with, placed-men-with
 use Rattle.position.proofs.laws.StandingWith.{standing-legal-in}
 use Rattle.movegen.specs.After.{after}
 use Rattle.movegen.proofs.laws.Making.{after-moved}
-use Rattle.playing.specs.declared.Played.{Played}
-use Rattle.playing.specs.declared.Played.TheVariants.{At, NotLegal, Refused}
 use Rattle.playing.specs.Playing.{first_of, second_of, closed_up, named, slot_becoming, promoted_to, after_as, can_play, play_of, Plays}
 
 -- closing up moves no man
-closed-men : (f s : Slot) → slot_men (first_of f s) ++ slot_men (second_of f s) ≡ slot_men f ++ slot_men s
-closed-men Absent Absent = refl
-closed-men Absent (Present m) = refl
-closed-men (Present m) s = refl
+closed-men : (f s : Option Piece) → slot_men (first_of f s) ++ slot_men (second_of f s) ≡ slot_men f ++ slot_men s
+closed-men None None = refl
+closed-men None (Some m) = refl
+closed-men (Some m) s = refl
 
 pub closed-board : (p : Position) → board_of (closed_up p) ≡ board_of p
 unfolding board_of closed_up
 closed-board p = board-eq refl refl refl (closed-men p.first p.second)
 
 -- what an answer holds
-abbrev is_at : Played → Bool
-is_at (At q) = true
-is_at NotLegal = false
-is_at (Refused k) = false
+abbrev is_at : Result (Option Position) ℕ → Bool
+is_at (Ok (Some q)) = true
+is_at (Ok None) = false
+is_at (Err k) = false
 
-abbrev is_refused : Played → Bool
-is_refused (At q) = false
-is_refused NotLegal = false
-is_refused (Refused k) = true
+abbrev is_refused : Result (Option Position) ℕ → Bool
+is_refused (Ok (Some q)) = false
+is_refused (Ok None) = false
+is_refused (Err k) = true
 
-abbrev refusal_in : Played → ℕ
-refusal_in (At q) = 0
-refusal_in NotLegal = 0
-refusal_in (Refused k) = k
+abbrev refusal_in : Result (Option Position) ℕ → ℕ
+refusal_in (Ok (Some q)) = 0
+refusal_in (Ok None) = 0
+refusal_in (Err k) = k
 
-abbrev position_in : Position → Played → Position
-position_in p (At q) = q
-position_in p NotLegal = p
-position_in p (Refused k) = p
+abbrev position_in : Position → Result (Option Position) ℕ → Position
+position_in p (Ok (Some q)) = q
+position_in p (Ok None) = p
+position_in p (Err k) = p
 
 -- promoting on a position is promoting on its board
-promoted-men : (side to kind : ℕ) (f s : Slot)
+promoted-men : (side to kind : ℕ) (f s : Option Piece)
     → slot_men (slot_becoming side to kind f) ++ slot_men (slot_becoming side to kind s)
     ≡ map (becoming side to kind) (slot_men f ++ slot_men s)
-promoted-men side to kind Absent Absent = refl
-promoted-men side to kind Absent (Present m) = refl
-promoted-men side to kind (Present m) Absent = refl
-promoted-men side to kind (Present m) (Present n) = refl
+promoted-men side to kind None None = refl
+promoted-men side to kind None (Some m) = refl
+promoted-men side to kind (Some m) None = refl
+promoted-men side to kind (Some m) (Some n) = refl
 
 promoted-board : (side to kind : ℕ) (p : Position)
     → board_of (promoted_to side to kind p) ≡ promoted side to kind (board_of p)
@@ -86,9 +83,9 @@ after-board : (p : Position) (from to becomes : ℕ)
 after-board p from to becomes = closed-board (after_as p from to becomes) ∙ as-board p from to becomes
 
 -- there is a man
-some-man : (f s : Slot) → bad_men_of f s ≡ false → empty (slot_men f ++ slot_men s) ≡ false
-some-man Absent s e = absurd (refuted e tt)
-some-man (Present m) s e = refl
+some-man : (f s : Option Piece) → bad_men_of f s ≡ false → empty (slot_men f ++ slot_men s) ≡ false
+some-man None s e = absurd (refuted e tt)
+some-man (Some m) s e = refl
 
 some-men : (p : Position) → standing_with p ≡ 0 → empty (board_of p).men ≡ false
 unfolding board_of
@@ -155,13 +152,13 @@ module _ (p : Position) (from to becomes : ℕ) where
       }
 
   -- the position that is given is the one after a legal move
-  pub played-true : (q : Position) → play_of p from to becomes ≡ At q → Plays p from to becomes q
+  pub played-true : (q : Position) → play_of p from to becomes ≡ Ok (Some q) → Plays p from to becomes q
   unfolding play_of
   played-true q h =
       go (eqb (standing_with p) 0) refl (can_play b from to becomes) refl h
     where
       go : (a : Bool) → eqb (standing_with p) 0 ≡ a → (c : Bool) → can_play b from to becomes ≡ c
-          → cond a (cond c (At (closed_up (after_as p from to becomes))) NotLegal) (Refused (standing_with p)) ≡ At q
+          → cond a (cond c (Ok (Some (closed_up (after_as p from to becomes)))) (Ok None)) (Err (standing_with p)) ≡ Ok (Some q)
           → Plays p from to becomes q
       go true e true f h =
           subst (Plays p from to becomes) (ap (position_in p) h) (plays (eqb-true (standing_with p) 0 e) (of-true f))
@@ -169,13 +166,13 @@ module _ (p : Position) (from to becomes : ℕ) where
       go false e c f h = absurd (true-not-false (ap is_at h) refl)
 
   -- a refusal is the position's
-  pub refused-played : (k : ℕ) → play_of p from to becomes ≡ Refused k
+  pub refused-played : (k : ℕ) → play_of p from to becomes ≡ Err k
       → (k ≡ standing_with p) × (eqb (standing_with p) 0 ≡ false)
   unfolding play_of
   refused-played k h = go (eqb (standing_with p) 0) refl (can_play b from to becomes) h
     where
       go : (a : Bool) → eqb (standing_with p) 0 ≡ a → (c : Bool)
-          → cond a (cond c (At (closed_up (after_as p from to becomes))) NotLegal) (Refused (standing_with p)) ≡ Refused k
+          → cond a (cond c (Ok (Some (closed_up (after_as p from to becomes)))) (Ok None)) (Err (standing_with p)) ≡ Err k
           → (k ≡ standing_with p) × (eqb (standing_with p) 0 ≡ false)
       go true e true h = absurd (true-not-false (ap is_refused h) refl)
       go true e false h = absurd (true-not-false (ap is_refused h) refl)
@@ -183,7 +180,7 @@ module _ (p : Position) (from to becomes : ℕ) where
 
 -- every move of the list is played
 pub listed-played : (p : Position) (m : Move) → standing_with p ≡ 0 → m ∈ moves (board_of p)
-    → play_of p m.from m.to m.becomes ≡ At (closed_up (after_as p m.from m.to m.becomes))
+    → play_of p m.from m.to m.becomes ≡ Ok (Some (closed_up (after_as p m.from m.to m.becomes)))
 unfolding play_of
 listed-played p m z h =
     let b = board_of p in

@@ -1,5 +1,6 @@
 -- On the packing of a table that checking accepts, the pocket look-up gives the large one's value, and so the true one.
-use Rattle.std.specs.Prelude.{◌≡◌, refl, Bool, true, false, not, ◌⊎◌, List, ℕ, ◌%◌, ◌≤◌, ◌<◌, T, leb, eqb, length, get_or}
+use Rattle.rules.specs.declared.Move.{Move}
+use Rattle.std.specs.Prelude.{◌≡◌, refl, Bool, true, false, not, ◌⊎◌, List, ℕ, ◌%◌, ◌≤◌, ◌<◌, T, leb, eqb, length, get_or, Option, Ok, Result}
 use Rattle.std.proofs.Common.{sym, subst, ◌∙◌, inl, inr, arith}
 use Rattle.std.proofs.Math.Path.{ap}
 use borrow.Author.Tests.{eq-eqb, eqb-true, leb-true}
@@ -12,7 +13,6 @@ use Rattle.position.specs.Keyed.{board_of, man_kind}
 use Rattle.position.specs.Refusals.{standing_refusal}
 use Rattle.position.proofs.laws.Legality.{standing-facts, one-men}
 use Rattle.numbering.specs.Number.{number_of}
-use Rattle.answers.specs.declared.BestMove.{BestMove}
 use Rattle.answers.specs.declared.Answer.{Answer}
 use Rattle.answers.specs.declared.Checked.{Checked}
 use Rattle.endings.specs.Ending.{table_size, byte_of}
@@ -26,7 +26,7 @@ use Rattle.pocket.specs.TrueValue.{TrueValue}
 use Rattle.pocket.proofs.laws.Unpacking.{packed-length, packed-entry}
 
 -- the value of a byte that is not 0, by its entry and by itself
-value_same : (b : ℕ) (a : BestMove) → 1 ≤ b → entry_tells (entry_of b) ≡ told_in (answer_of b a)
+value_same : (b : ℕ) (a : Option Move) → 1 ≤ b → entry_tells (entry_of b) ≡ told_in (answer_of b a)
 unfolding entry_of entry_tells answer_of
 value_same b a h = go (leb b 1) refl (eqb (b % 2) 1) refl
   where
@@ -35,7 +35,7 @@ value_same b a h = go (leb b 1) refl (eqb (b % 2) 1) refl
     go false e true f = rw (e, f)
     go false e false f = rw (e, f)
 
-module _ (kind : ℕ) (t : List ℕ) (ok : check_of kind t ≡ Checked.Accepted) (pocket : List ℕ)
+module _ (kind : ℕ) (t : List ℕ) (ok : check_of kind t ≡ Ok Checked.Accepted) (pocket : List ℕ)
     (k : length pocket ≡ pocket_size) where
   -- the byte of a position that nothing refuses is not 0
   byte-some : (p : Position) → man_kind p ≡ kind → standing_refusal p ≡ 0 → 1 ≤ get_or t (number_of (board_of p)) 0
@@ -91,7 +91,7 @@ module _ (kind : ℕ) (t : List ℕ) (ok : check_of kind t ≡ Checked.Accepted)
 
 -- ---- the true value
 
-value-true : (b : Board) (a : Answer) → TrueAnswer b a → TrueValue b (told_in a)
+value-true : (b : Board) (a : Result Answer ℕ) → TrueAnswer b a → TrueValue b (told_in a)
 value-true b a (TrueAnswerBy.won n m w f e) = TrueValue.won n w (ap told_in e)
 value-true b a (TrueAnswerBy.lost n m w f e) = TrueValue.lost n w (ap told_in e)
 value-true b a (TrueAnswerBy.mate w o e) = TrueValue.lost 0 w (ap told_in e)
@@ -99,7 +99,7 @@ value-true b a (TrueAnswerBy.drawn m w f e) = TrueValue.drawn w (ap told_in e)
 value-true b a (TrueAnswerBy.stalemate w o e) = TrueValue.drawn w (ap told_in e)
 
 -- On the packing of an accepted table no legal position of the ending is refused, and the answer is its true value.
-pub pocket-true : (kind : ℕ) (t : List ℕ) → check_of kind t ≡ Checked.Accepted → (pocket : List ℕ)
+pub pocket-true : (kind : ℕ) (t : List ℕ) → check_of kind t ≡ Ok Checked.Accepted → (pocket : List ℕ)
     → length pocket ≡ pocket_size → (p : Position) → man_kind p ≡ kind → standing_refusal p ≡ 0
     → TrueValue (board_of p) (pocket_look_up_of (pack_of t pocket).bytes p)
 pocket-true kind t ok pocket k p e z =

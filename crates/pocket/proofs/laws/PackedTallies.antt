@@ -1,5 +1,5 @@
 -- The tallies of a packed table count its bytes of each class, on any bytes.
-use Rattle.std.specs.Prelude.{◌≡◌, Bool, ◌↔◌, List, ℕ, ◌%◌, ◌<◌, T, leb, length, get_or}
+use Rattle.std.specs.Prelude.{◌≡◌, Bool, ◌↔◌, List, ℕ, ◌%◌, ◌<◌, T, leb, length, get_or, Ok}
 use Rattle.std.proofs.Common.{subst, leb→le, le→leb, eqb→eq}
 use Rattle.std.proofs.Math.Dec.{eqb, eqb_refl}
 use borrow.Author.Tests.{eq-eqb}
@@ -8,7 +8,6 @@ use Rattle.finite.specs.Ranked.{rank_same}
 use Rattle.theory.specs.Required.{Loss, winning}
 use Rattle.theory.proofs.laws.Better.{winning-is}
 use Rattle.endings.specs.Ending.{table_size}
-use Rattle.pocket.specs.declared.Tallied.{Tallied}
 use Rattle.pocket.specs.Pocket.{pocket_size, entry_at, pack_of}
 use Rattle.pocket.specs.Classes.{losing, bytes_that}
 use Rattle.pocket.specs.Tally.{holds, count_of, tally_of}
@@ -40,7 +39,7 @@ module _ (t pocket : List ℕ) (l : length t ≡ table_size) (k : length pocket 
 
   pub packed-tallies : tally_of (pack_of t
       pocket).bytes
-      ≡ Tallied.Counted
+      ≡ Ok
       (record {
         none = bytes_that (λ b. eqb b 0) t;
         draws = bytes_that (λ b. eqb b 1) t;

@@ -1,5 +1,5 @@
 -- When the pocket look-up refuses with 11, and that each of its answers tells something of its own.
-use Rattle.std.specs.Prelude.{◌≡◌, refl, Bool, true, false, cond, not, ◌↔◌, List, ℕ, ◌≤◌, eqb, length}
+use Rattle.std.specs.Prelude.{◌≡◌, refl, Bool, true, false, cond, not, ◌↔◌, List, ℕ, ◌≤◌, eqb, length, Err, Ok, Result}
 use Rattle.std.proofs.Common.{ap, arith}
 use borrow.Author.Tests.{eq-eqb, eqb-true}
 use Rattle.position.specs.declared.Position.{Position}
@@ -8,7 +8,6 @@ use Rattle.position.specs.Refusals.{standing_refusal}
 use Rattle.position.proofs.laws.PlacedLaws.{standing-most}
 use Rattle.numbering.specs.Number.{number_of}
 use Rattle.pocket.specs.declared.PocketAnswer.{PocketAnswer}
-use Rattle.pocket.specs.declared.PocketAnswer.TheVariants.{Win, Loss, Draw, Refused}
 use Rattle.pocket.specs.Pocket.{pocket_size, entry_at, Told, win, loss, draw, refusing, told_by, entry_tells, pocket_look_up_of}
 
 -- ---- "gives 11 exactly when a legal position's entry is 0"
@@ -56,20 +55,20 @@ module _ (pocket : List ℕ) (p : Position) where
 value_of : {s t : Told} → s ≡ t → s.value ≡ t.value
 value_of e = ap (λ (x : Told). x.value) e
 
-pub told-one : (a b : PocketAnswer) → told_by a ≡ told_by b → a ≡ b
-told-one Win Win e = refl
-told-one Win Loss e = absurd (omega (arith, value_of e))
-told-one Win Draw e = absurd (omega (arith, value_of e))
-told-one Win (Refused n) e = absurd (omega (arith, value_of e))
-told-one Loss Win e = absurd (omega (arith, value_of e))
-told-one Loss Loss e = refl
-told-one Loss Draw e = absurd (omega (arith, value_of e))
-told-one Loss (Refused n) e = absurd (omega (arith, value_of e))
-told-one Draw Win e = absurd (omega (arith, value_of e))
-told-one Draw Loss e = absurd (omega (arith, value_of e))
-told-one Draw Draw e = refl
-told-one Draw (Refused n) e = absurd (omega (arith, value_of e))
-told-one (Refused n) Win e = absurd (omega (arith, value_of e))
-told-one (Refused n) Loss e = absurd (omega (arith, value_of e))
-told-one (Refused n) Draw e = absurd (omega (arith, value_of e))
-told-one (Refused n) (Refused m) e = ap Refused (ap (λ (x : Told). x.refusal) e)
+pub told-one : (a b : Result PocketAnswer ℕ) → told_by a ≡ told_by b → a ≡ b
+told-one (Ok PocketAnswer.Win) (Ok PocketAnswer.Win) e = refl
+told-one (Ok PocketAnswer.Win) (Ok PocketAnswer.Loss) e = absurd (omega (arith, value_of e))
+told-one (Ok PocketAnswer.Win) (Ok PocketAnswer.Draw) e = absurd (omega (arith, value_of e))
+told-one (Ok PocketAnswer.Win) (Err n) e = absurd (omega (arith, value_of e))
+told-one (Ok PocketAnswer.Loss) (Ok PocketAnswer.Win) e = absurd (omega (arith, value_of e))
+told-one (Ok PocketAnswer.Loss) (Ok PocketAnswer.Loss) e = refl
+told-one (Ok PocketAnswer.Loss) (Ok PocketAnswer.Draw) e = absurd (omega (arith, value_of e))
+told-one (Ok PocketAnswer.Loss) (Err n) e = absurd (omega (arith, value_of e))
+told-one (Ok PocketAnswer.Draw) (Ok PocketAnswer.Win) e = absurd (omega (arith, value_of e))
+told-one (Ok PocketAnswer.Draw) (Ok PocketAnswer.Loss) e = absurd (omega (arith, value_of e))
+told-one (Ok PocketAnswer.Draw) (Ok PocketAnswer.Draw) e = refl
+told-one (Ok PocketAnswer.Draw) (Err n) e = absurd (omega (arith, value_of e))
+told-one (Err n) (Ok PocketAnswer.Win) e = absurd (omega (arith, value_of e))
+told-one (Err n) (Ok PocketAnswer.Loss) e = absurd (omega (arith, value_of e))
+told-one (Err n) (Ok PocketAnswer.Draw) e = absurd (omega (arith, value_of e))
+told-one (Err n) (Err m) e = ap Err (ap (λ (x : Told). x.refusal) e)

@@ -1,15 +1,14 @@
 -- The four tallies add up, and the loop over the words counts them.
-use Rattle.std.specs.Prelude.{◌≡◌, List, eqb, length}
+use Rattle.std.specs.Prelude.{◌≡◌, List, eqb, length, Err, Ok}
 use Rattle.std.proofs.Math.Path.{refl, sym, subst}
 use Rattle.std.proofs.Common.{ap, ◌∙◌, add-one, eq-eqb, ne_eqb}
-use Prim.Native.Nat.{ℕ, zero, suc, ◌+◌, ◌-◌, ◌*◌, ◌/◌, ◌%◌, ◌≤◌, ◌<◌}
+use Prim.Native.Nat.{ℕ, zero, suc, ◌+◌, ◌-◌, ◌*◌, ◌/◌, ◌≤◌, ◌<◌}
 use native.Mathlib.Omega.{arith}
 use Rattle.std.specs.Int.Bits.{bit_and}
 use Rattle.std.specs.Int.Count.{ones}
 use Rattle.finite.specs.Ranked.{rank}
 use Rattle.board.specs.Sets.{digit}
 use Rattle.endings.specs.Ending.{table_size}
-use Rattle.pocket.specs.declared.Tallied.{Tallied}
 use Rattle.pocket.specs.Pocket.{pocket_size, entry_at}
 use Rattle.pocket.specs.Digits.{digits, low_bits}
 use Rattle.pocket.specs.Tally.{holds, count_of, tally_of, Part}
@@ -50,7 +49,6 @@ module _ (pocket : List ℕ) where
 
 -- below byte i there are so many low bits, high bits, and entries with both
 pub record Sums (pocket : List ℕ) (i low high both : ℕ) : Type 0 where
-  pub eights : i % 8 ≡ 0
   pub inside : i ≤ pocket_size
   pub lows : low ≡ rank (holds pocket 1) (4 * i) + rank (holds pocket 3) (4 * i)
   pub highs : high ≡ rank (holds pocket 2) (4 * i) + rank (holds pocket 3) (4 * i)
@@ -63,7 +61,7 @@ all-low = refl
 module _ (pocket : List ℕ) where
   pub sums_none : Sums pocket 0 0 0 0
   unfolding rank
-  sums_none = record { eights = refl; inside = omega arith; lows = refl; highs = refl; pairs = refl }
+  sums_none = record { inside = omega arith; lows = refl; highs = refl; pairs = refl }
 
   module _ (i low high both : ℕ) (s : Sums pocket i low high both) where
     -- the counts of bits, with the constant that the code has
@@ -77,18 +75,20 @@ module _ (pocket : List ℕ) where
       both_bits : ones (bit_and (bit_and w 6148914691236517205) (bit_and (w / 2) 6148914691236517205)) ≡ digits 3 32 w
       both_bits = ap (λ (m : ℕ). ones (bit_and (bit_and w m) (bit_and (w / 2) m))) (sym all-low) ∙ ones-both 32 w
 
-      pub sums-more : i < pocket_size → Part pocket i 8 w
-          → Sums pocket (i + 8) (low + ones (bit_and w 6148914691236517205))
+      pub sums-more : (j : ℕ) → j ≡ i + 8 → j ≤ pocket_size → Part pocket i 8 w
+          → Sums pocket j (low + ones (bit_and w 6148914691236517205))
           (high + ones (bit_and (w / 2) 6148914691236517205))
           (both + ones (bit_and (bit_and w 6148914691236517205) (bit_and (w / 2) 6148914691236517205)))
-      sums-more h x =
+      sums-more j e h x =
           record {
-            eights = omega (arith, s.eights);
-            inside = omega (arith, s.eights, h);
-            lows = omega (arith, s.lows, low-bits, x.entries 1, x.entries 3);
-            highs = omega (arith, s.highs, high_bits, x.entries 2, x.entries 3);
-            pairs = omega (arith, s.pairs, both_bits, x.entries 3);
+            inside = h;
+            lows = omega (arith, s.lows, low-bits, more 1, more 3);
+            highs = omega (arith, s.highs, high_bits, more 2, more 3);
+            pairs = omega (arith, s.pairs, both_bits, more 3);
           }
+        where
+          more : (v : ℕ) → rank (holds pocket v) (4 * j) ≡ rank (holds pocket v) (4 * i) + digits v 32 w
+          more v = ap (λ (n : ℕ). rank (holds pocket v) (4 * n)) e ∙ x.entries v
 
     pub sums-room : (low ≤ 59136) × (high ≤ 59136) × (both ≤ 59136)
     sums-room = let z = four-counts pocket (4 * i) in
@@ -103,7 +103,7 @@ module _ (pocket : List ℕ) where
     )
 
     pub tallied : pocket_size ≤ i → length pocket ≡ pocket_size
-        → Tallied.Counted
+        → Ok
         (record { none = 59136 + both - low - high; draws = low - both; wins = high - both; losses = both })
         ≡ tally_of pocket
     unfolding tally_of count_of
@@ -120,6 +120,6 @@ module _ (pocket : List ℕ) where
         let e₃ : both ≡ rank (holds pocket 3) table_size = z.2 in
         sym (rw (eq-eqb (length pocket) pocket_size l, ← e₀, ← e₁, ← e₂, ← e₃))
 
-  pub tally-length : (length pocket ≡ pocket_size → ⊥) → Tallied.Refused 7 ≡ tally_of pocket
+  pub tally-length : (length pocket ≡ pocket_size → ⊥) → Err 7 ≡ tally_of pocket
   unfolding tally_of
   tally-length h = sym (rw (ne_eqb (length pocket) pocket_size h))

@@ -1,6 +1,7 @@
 -- The laws by which a word is counted: a byte's four entries are its digits to base 4, and a word's are those of its bytes.
-use Rattle.std.specs.Prelude.{◌≡◌, refl, Bool, true, false, cond, List, ℕ, suc, ◌+◌, ◌*◌, ◌/◌, ◌%◌, ◌^◌, ◌≤◌, ◌<◌, eqb}
-use Rattle.std.proofs.Common.{sym, ap, ◌∙◌, div-one, add-zero, add_assoc, mul-suc, mul-le-mul_left, pow-add}
+use Rattle.std.specs.Prelude.{◌≡◌, refl, Bool, true, false, cond, List, [], ◌∷◌, ℕ, suc, ◌+◌, ◌*◌, ◌/◌, ◌%◌, ◌^◌, ◌≤◌, ◌<◌, eqb}
+use Rattle.std.specs.Int.{w64, from_le_bytes}
+use Rattle.std.proofs.Common.{sym, ap, subst, ◌∙◌, div-one, add-zero, add_assoc, mul-suc, mul-le-mul_left, pow-add}
 use native.Mathlib.Omega.{arith}
 use Rattle.std.proofs.Math.ListN.{get_or}
 use Rattle.finite.specs.Ranked.{rank, rank-next}
@@ -106,3 +107,31 @@ module _ (pocket : List ℕ) where
 
   pub two-fours : (i x y : ℕ) → Part pocket i 4 x → Part pocket (i + 4) 4 y → Part pocket i 8 (x + 4294967296 * y)
   two-fours i x y p q = joined i 4 4 x y p q
+
+  -- as the word has them
+  pub eight_bytes : (i n : ℕ) → ((k : ℕ) → get_or pocket k 0 < 256)
+      → n
+      ≡ from_le_bytes w64
+      (get_or pocket i 0 ∷ get_or pocket (i + 1) 0 ∷ get_or pocket (i + 2) 0 ∷ get_or pocket (i + 3) 0 ∷ get_or pocket (i + 4) 0 ∷ get_or pocket (i + 5) 0 ∷ get_or pocket (i + 6) 0 ∷ get_or pocket (i + 7) 0 ∷ [])
+      → Part pocket i 8 n
+  eight_bytes i n small e =
+      subst (Part pocket i 8) (added _ _ _ _ _ _ _ _ ∙ sym e)
+      (joined i 7 1 _ _
+      (joined i 6 1 _ _
+      (joined i 5 1 _ _
+      (joined i 4 1 _ _
+      (joined i 3 1 _ _
+      (joined i 2 1 _ _ (joined i 1 1 _ _ (one i) (one (i + 1))) (one (i + 2)))
+      (one (i + 3)))
+      (one (i + 4)))
+      (one (i + 5)))
+      (one (i + 6)))
+      (one (i + 7)))
+    where
+      one : (k : ℕ) → Part pocket k 1 (get_or pocket k 0)
+      one k = one_byte k (get_or pocket k 0) refl (omega (arith, small k))
+
+      added : (a b c d e f g h : ℕ)
+          → a + 256 * b + 65536 * c + 16777216 * d + 4294967296 * e + 1099511627776 * f + 281474976710656 * g + 72057594037927936 * h
+          ≡ from_le_bytes w64 (a ∷ b ∷ c ∷ d ∷ e ∷ f ∷ g ∷ h ∷ [])
+      added a b c d e f g h = omega arith

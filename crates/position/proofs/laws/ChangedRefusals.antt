@@ -1,6 +1,6 @@
 -- A position under a map, the colours exchanged or not, stands for the board so changed and meets the same refusal;
 -- with a pawn, where the change fits.
-use Rattle.std.specs.Prelude.{◌≡◌, Bool, ◌&&◌, ◌||◌, List, [], ◌∷◌, map, ◌-◌, ◌<◌, T}
+use Rattle.std.specs.Prelude.{◌≡◌, Bool, ◌&&◌, ◌||◌, List, [], ◌∷◌, map, ◌-◌, ◌<◌, T, None, Option, Some}
 use Rattle.std.proofs.Math.Path.{refl, sym, ap, ap₂}
 use Rattle.std.proofs.Common.{◌∙◌, arith, eqb-true}
 use Rattle.std.proofs.Math.Bool.{true, false, cond, not, xor}
@@ -17,8 +17,6 @@ use Rattle.rules.proofs.laws.PawnLaws.{inner-kept}
 use Rattle.rules.proofs.laws.Changed.{ltb-swapped, across, changed-composed}
 use Rattle.rules.proofs.laws.ChangedRules.{all_map, all-pieces, apart-changed, touching-changed, check-changed, pawnless-fits}
 use Rattle.numbering.specs.KingMaps.{swapping}
-use Rattle.position.specs.declared.Slot.{Slot}
-use Rattle.position.specs.declared.Slot.TheVariants.{Absent, Present}
 use Rattle.position.specs.declared.Position.{Position}
 use Rattle.position.specs.Keyed.{board_of}
 use Rattle.position.specs.Refusals.{ranked, bad_men, bad_man, bad_side, bad_square, bad_pawn, shared_square, kings_touch, other_in_check, placing_refusal, standing_refusal, bad_men_of, placing_with, standing_with}
@@ -39,15 +37,15 @@ change-board m true p =
     ∙ ap (λ (k : Symmetry). changed k true (board_of p)) (nothing_then m)
 change-board m false p = map-board m p
 
-men-mapped : (m : Symmetry) (f s : Slot) → bad_men (mapped_slot m f) (mapped_slot m s) ≡ bad_men f s
-men-mapped m Absent s = refl
-men-mapped m (Present a) Absent = refl
-men-mapped m (Present a) (Present b) = refl
+men-mapped : (m : Symmetry) (f s : Option Piece) → bad_men (mapped_slot m f) (mapped_slot m s) ≡ bad_men f s
+men-mapped m None s = refl
+men-mapped m (Some a) None = refl
+men-mapped m (Some a) (Some b) = refl
 
-men-recoloured : (f s : Slot) → bad_men (recoloured_slot f) (recoloured_slot s) ≡ bad_men f s
-men-recoloured Absent s = refl
-men-recoloured (Present a) Absent = refl
-men-recoloured (Present a) (Present b) = refl
+men-recoloured : (f s : Option Piece) → bad_men (recoloured_slot f) (recoloured_slot s) ≡ bad_men f s
+men-recoloured None s = refl
+men-recoloured (Some a) None = refl
+men-recoloured (Some a) (Some b) = refl
 
 man-changed : (m : Symmetry) (x : Bool) (p : Position) → bad_man (changed_position m x p) ≡ bad_man p
 unfolding mapped_position recoloured
@@ -56,15 +54,15 @@ man-changed m true p =
 man-changed m false p = men-mapped m p.first p.second
 
 -- of one man or of two
-mapped-men : (m : Symmetry) (f s : Slot) → bad_men_of (mapped_slot m f) (mapped_slot m s) ≡ bad_men_of f s
-mapped-men m Absent s = refl
-mapped-men m (Present a) Absent = refl
-mapped-men m (Present a) (Present c) = refl
+mapped-men : (m : Symmetry) (f s : Option Piece) → bad_men_of (mapped_slot m f) (mapped_slot m s) ≡ bad_men_of f s
+mapped-men m None s = refl
+mapped-men m (Some a) None = refl
+mapped-men m (Some a) (Some c) = refl
 
-recoloured-men : (f s : Slot) → bad_men_of (recoloured_slot f) (recoloured_slot s) ≡ bad_men_of f s
-recoloured-men Absent s = refl
-recoloured-men (Present a) Absent = refl
-recoloured-men (Present a) (Present c) = refl
+recoloured-men : (f s : Option Piece) → bad_men_of (recoloured_slot f) (recoloured_slot s) ≡ bad_men_of f s
+recoloured-men None s = refl
+recoloured-men (Some a) None = refl
+recoloured-men (Some a) (Some c) = refl
 
 pub changed-men : (m : Symmetry) (x : Bool) (p : Position)
     → bad_men_of (changed_position m x p).first (changed_position m x p).second ≡ bad_men_of p.first p.second

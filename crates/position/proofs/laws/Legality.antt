@@ -1,5 +1,5 @@
 -- A position as keyed is legal, with men that have a table, exactly where no refusal from 1 to 6 applies.
-use Rattle.std.specs.Prelude.{◌≡◌, refl, Bool, true, false, cond, not, ◌&&◌, ◌||◌, List, [], ◌∷◌, ◌++◌, ℕ, ◌-◌, T, leb, ltb, eqb}
+use Rattle.std.specs.Prelude.{◌≡◌, refl, Bool, true, false, cond, not, ◌&&◌, ◌||◌, List, [], ◌∷◌, ◌++◌, ℕ, ◌-◌, T, leb, ltb, eqb, None, Option, Some}
 use Rattle.std.proofs.Common.{sym, ap, ◌∙◌, arith, lt-ltb, leb-false, eq-eqb, ne_eqb}
 use Rattle.finite.specs.Truth.{and_left, and_right, and_both, true_of, of-true, false_of, refuted, implies}
 use Rattle.finite.specs.Members.{all}
@@ -7,8 +7,6 @@ use Rattle.rules.specs.declared.Piece.{Piece}
 use Rattle.rules.specs.Pawn.{pawn, inner}
 use Rattle.rules.specs.Rules.{piece_of, pieces, known, touching, in_check, apart, legal_of, legal}
 use Rattle.rules.proofs.laws.Legal.{legal-facts}
-use Rattle.position.specs.declared.Slot.{Slot}
-use Rattle.position.specs.declared.Slot.TheVariants.{Absent, Present}
 use Rattle.position.specs.declared.Position.{Position}
 use Rattle.position.specs.Keyed.{slot_men, board_of, one_man, man_in, man_kind, colour_of, man_square}
 use Rattle.position.proofs.laws.SlotLaws.{leb-not}
@@ -17,34 +15,34 @@ use Rattle.position.specs.Refusals.{ranked, bad_men, bad_man, bad_side, bad_squa
 -- ---- men that have a table: one, of either side
 
 -- what is in the slots is one man
-slots-one : (side white black : ℕ) (f s : Slot) → bad_men f s ≡ false
+slots-one : (side white black : ℕ) (f s : Option Piece) → bad_men f s ≡ false
     → ◌≡◌ {A = Position} (record { side = side; white_king = white; black_king = black; first = f; second = s })
     (one_man (man_in f).kind (man_in f).colour side white (man_in f).square black)
-slots-one side white black Absent s e = absurd (refuted e tt)
-slots-one side white black (Present m) (Present n) e = absurd (refuted e tt)
-slots-one side white black (Present m) Absent e = refl
+slots-one side white black None s e = absurd (refuted e tt)
+slots-one side white black (Some m) (Some n) e = absurd (refuted e tt)
+slots-one side white black (Some m) None e = refl
 
 pub one-alone : (p : Position) → bad_man p ≡ false
     → p ≡ one_man (man_kind p) (colour_of p) p.side p.white_king (man_square p) p.black_king
 one-alone p e = slots-one p.side p.white_king p.black_king p.first p.second e
 
 -- the rules know them if they have a colour
-slots-known : (f s : Slot) → bad_men f s ≡ false
+slots-known : (f s : Option Piece) → bad_men f s ≡ false
     → all known (slot_men f ++ slot_men s) ≡ all (λ m. ltb m.colour 2) (slot_men f ++ slot_men s)
 unfolding all
-slots-known Absent s e = absurd (refuted e tt)
-slots-known (Present m) (Present n) e = absurd (refuted e tt)
-slots-known (Present m) Absent e = rw (lt-ltb m.kind 4 (leb-false 4 m.kind e))
+slots-known None s e = absurd (refuted e tt)
+slots-known (Some m) (Some n) e = absurd (refuted e tt)
+slots-known (Some m) None e = rw (lt-ltb m.kind 4 (leb-false 4 m.kind e))
 
 -- none of them is a pawn
 kind-pawnless : (k : ℕ) → leb 4 k ≡ false → T (not (eqb k 4))
 kind-pawnless k e = let h = leb-false 4 k e in rw (ne_eqb k 4 (λ q. omega arith)) tt
 
-slots-pawnless : (f s : Slot) → bad_men f s ≡ false → T (all (λ a. not (pawn a)) (slot_men f ++ slot_men s))
+slots-pawnless : (f s : Option Piece) → bad_men f s ≡ false → T (all (λ a. not (pawn a)) (slot_men f ++ slot_men s))
 unfolding all
-slots-pawnless Absent s e = absurd (refuted e tt)
-slots-pawnless (Present m) (Present n) e = absurd (refuted e tt)
-slots-pawnless (Present m) Absent e = and_both (not (pawn m)) true (kind-pawnless m.kind e) tt
+slots-pawnless None s e = absurd (refuted e tt)
+slots-pawnless (Some m) (Some n) e = absurd (refuted e tt)
+slots-pawnless (Some m) None e = and_both (not (pawn m)) true (kind-pawnless m.kind e) tt
 
 pub man-pawnless : (p : Position) → bad_man p ≡ false → T (all (λ a. not (pawn a)) (board_of p).men)
 unfolding board_of

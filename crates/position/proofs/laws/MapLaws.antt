@@ -1,5 +1,5 @@
 -- A position under a map stands for the board under that map; maps compose; normalising in two steps.
-use Rattle.std.specs.Prelude.{◌≡◌, refl, ◌++◌, map, Bool, ◌&&◌, ◌||◌, ℕ, ◌/◌, ◌%◌, ltb}
+use Rattle.std.specs.Prelude.{◌≡◌, refl, ◌++◌, map, Bool, ◌&&◌, ◌||◌, ℕ, ◌/◌, ◌%◌, ltb, None, Option, Some}
 use Rattle.std.proofs.Math.Path.{sym}
 use Rattle.std.proofs.Common.{ap, ◌∙◌, arith}
 use Rattle.std.proofs.Math.Bool.{true, false, xor, or-false}
@@ -14,8 +14,6 @@ use Rattle.numbering.specs.Kings.{above, on_diagonal}
 use Rattle.numbering.specs.Normal.{first_above, turn, swaps, normal_map}
 use Rattle.numbering.specs.KingMaps.{swapping}
 use Rattle.numbering.proofs.laws.NormalLaws.{turn-then, stays-diagonal}
-use Rattle.position.specs.declared.Slot.{Slot}
-use Rattle.position.specs.declared.Slot.TheVariants.{Absent, Present}
 use Rattle.position.specs.declared.Position.{Position}
 use Rattle.position.specs.declared.Map.{Map}
 use Rattle.position.specs.declared.Normal.{Normal}
@@ -23,7 +21,7 @@ use Rattle.position.specs.Keyed.{slot_men, board_of}
 use Rattle.position.specs.Maps.{mapped_slot, mapped_position, normal_position, symmetry_of, reversals, normal_of}
 
 -- a position from its fields
-position-eq : (side : ℕ) {w w' k k' : ℕ} {f f' s s' : Slot} → w ≡ w' → k ≡ k' → f ≡ f' → s ≡ s'
+position-eq : (side : ℕ) {w w' k k' : ℕ} {f f' s s' : Option Piece} → w ≡ w' → k ≡ k' → f ≡ f' → s ≡ s'
     → ◌≡◌ {A = Position} (record { side = side; white_king = w; black_king = k; first = f; second = s })
     (record { side = side; white_king = w'; black_king = k'; first = f'; second = s' })
 position-eq side a b c d =
@@ -31,13 +29,13 @@ position-eq side a b c d =
 
 -- ---- the same maps as the rules'
 
-men-mapped : (m : Symmetry) (f s : Slot)
+men-mapped : (m : Symmetry) (f s : Option Piece)
     → slot_men (mapped_slot m f) ++ slot_men (mapped_slot m s) ≡ map (changed_piece m false) (slot_men f ++ slot_men s)
 unfolding swapped
-men-mapped m Absent Absent = refl
-men-mapped m Absent (Present b) = refl
-men-mapped m (Present a) Absent = refl
-men-mapped m (Present a) (Present b) = refl
+men-mapped m None None = refl
+men-mapped m None (Some b) = refl
+men-mapped m (Some a) None = refl
+men-mapped m (Some a) (Some b) = refl
 
 pub map-board : (m : Symmetry) (p : Position) → board_of (mapped_position m p) ≡ changed m false (board_of p)
 unfolding board_of mapped_position changed swapped
@@ -45,11 +43,11 @@ map-board m p = board-eq refl refl refl (men-mapped m p.first p.second)
 
 -- ---- a map moves each square
 
-pub by-square : (m : Symmetry) (slot : Slot) (a : Piece) (square : ℕ) → slot ≡ Present a
-    → square ≡ mapped m a.square → Present (piece_of a.kind a.colour square) ≡ mapped_slot m slot
-by-square m slot a square e h = ap (λ (s : ℕ). Present (piece_of a.kind a.colour s)) h ∙ ap (mapped_slot m) (sym e)
+pub by-square : (m : Symmetry) (slot : Option Piece) (a : Piece) (square : ℕ) → slot ≡ Some a
+    → square ≡ mapped m a.square → Some (piece_of a.kind a.colour square) ≡ mapped_slot m slot
+by-square m slot a square e h = ap (λ (s : ℕ). Some (piece_of a.kind a.colour s)) h ∙ ap (mapped_slot m) (sym e)
 
-pub by-squares : (m : Symmetry) (p : Position) (white black : ℕ) (first second : Slot)
+pub by-squares : (m : Symmetry) (p : Position) (white black : ℕ) (first second : Option Piece)
     → white ≡ mapped m p.white_king → black ≡ mapped m p.black_king → first ≡ mapped_slot m p.first
     → second ≡ mapped_slot m p.second
     → ◌≡◌ {A = Position}
@@ -58,9 +56,9 @@ pub by-squares : (m : Symmetry) (p : Position) (white black : ℕ) (first second
 unfolding mapped_position
 by-squares m p white black first second w k f s = position-eq p.side w k f s
 
-slot_twice : (m n : Symmetry) (s : Slot) → mapped_slot n (mapped_slot m s) ≡ mapped_slot (composed m n) s
-slot_twice m n Absent = refl
-slot_twice m n (Present a) = ap (λ (s : ℕ). Present (piece_of a.kind a.colour s)) (mapped-composed m n a.square)
+slot_twice : (m n : Symmetry) (s : Option Piece) → mapped_slot n (mapped_slot m s) ≡ mapped_slot (composed m n) s
+slot_twice m n None = refl
+slot_twice m n (Some a) = ap (λ (s : ℕ). Some (piece_of a.kind a.colour s)) (mapped-composed m n a.square)
 
 pub maps-twice : (m n : Symmetry) (p : Position)
     → mapped_position n (mapped_position m p) ≡ mapped_position (composed m n) p
@@ -73,9 +71,9 @@ maps-twice m n p =
 still : (s : ℕ) → mapped (swapping false) s ≡ s
 still s = stays-diagonal false s (λ t. absurd t)
 
-slot-unmoved : (s : Slot) → mapped_slot (swapping false) s ≡ s
-slot-unmoved Absent = refl
-slot-unmoved (Present a) = ap (λ (s : ℕ). Present (piece_of a.kind a.colour s)) (still a.square)
+slot-unmoved : (s : Option Piece) → mapped_slot (swapping false) s ≡ s
+slot-unmoved None = refl
+slot-unmoved (Some a) = ap (λ (s : ℕ). Some (piece_of a.kind a.colour s)) (still a.square)
 
 pub unmoved : (p : Position) → mapped_position (swapping false) p ≡ p
 unfolding mapped_position
@@ -150,27 +148,27 @@ back-plain m s e = rw e
 
 -- ---- the first man off the diagonal, slot by slot
 
-pub one-above : (slot : Slot) (a : Piece) → slot ≡ Present a → above a.square ≡ first_above (slot_men slot)
+pub one-above : (slot : Option Piece) (a : Piece) → slot ≡ Some a → above a.square ≡ first_above (slot_men slot)
 unfolding first_above
-one-above slot a e = go (above a.square) (on_diagonal a.square) ∙ ap (λ (s : Slot). first_above (slot_men s)) (sym e)
+one-above slot a e = go (above a.square) (on_diagonal a.square) ∙ ap (λ (s : Option Piece). first_above (slot_men s)) (sym e)
   where
     go : (x d : Bool) → x ≡ (x || (d && false))
     go true d = refl
     go false true = refl
     go false false = refl
 
-module _ (first second : Slot) where
-  pub none_above : first ≡ Absent → first_above (slot_men second) ≡ first_above (slot_men first ++ slot_men second)
-  none_above e = ap (λ (f : Slot). first_above (slot_men f ++ slot_men second)) (sym e)
+module _ (first second : Option Piece) where
+  pub none_above : first ≡ None → first_above (slot_men second) ≡ first_above (slot_men first ++ slot_men second)
+  none_above e = ap (λ (f : Option Piece). first_above (slot_men f ++ slot_men second)) (sym e)
 
-  module _ (a : Piece) (e : first ≡ Present a) where
+  module _ (a : Piece) (e : first ≡ Some a) where
     -- on the diagonal: the next man tells
     pub next-above : a.square % 8 ≡ a.square / 8
         → first_above (slot_men second) ≡ first_above (slot_men first ++ slot_men second)
     unfolding first_above
     next-above h =
         let d : above a.square ≡ false = le-ltb (a.square % 8) (a.square / 8) (omega arith) in
-        sym (ap (λ (f : Slot). first_above (slot_men f ++ slot_men second)) e
+        sym (ap (λ (f : Option Piece). first_above (slot_men f ++ slot_men second)) e
         ∙ rw (d, eq-eqb (a.square % 8) (a.square / 8) h))
 
     -- off it: he does
@@ -178,5 +176,5 @@ module _ (first second : Slot) where
         → above a.square ≡ first_above (slot_men first ++ slot_men second)
     unfolding first_above
     first-above h =
-        sym (ap (λ (f : Slot). first_above (slot_men f ++ slot_men second)) e
+        sym (ap (λ (f : Option Piece). first_above (slot_men f ++ slot_men second)) e
         ∙ rw (ne_eqb (a.square % 8) (a.square / 8) h) (or-false (above a.square)))

@@ -1,5 +1,5 @@
 -- Attack by men alone: where the kings do not touch, only men give check.
-use Rattle.std.specs.Prelude.{◌≡◌, refl, Bool, true, false, ◌||◌, ℕ, zero, suc, ◌-◌, ◌<◌}
+use Rattle.std.specs.Prelude.{◌≡◌, refl, Bool, true, false, ◌||◌, ℕ, zero, suc, ◌-◌, ◌<◌, None, Option, Some}
 use Rattle.std.proofs.Math.Path.{sym}
 use Rattle.std.proofs.Common.{ap, ap₂, ◌∙◌, arith, ne_eqb}
 use Rattle.std.proofs.Math.Bool.{or-false}
@@ -10,19 +10,17 @@ use Rattle.board.proofs.laws.ReachLaws.{king-reaches}
 use Rattle.symmetry.proofs.laws.Opposite.{reaches-sym}
 use Rattle.rules.specs.declared.Piece.{Piece}
 use Rattle.rules.specs.Rules.{Board, occupied, attacks, attacked, king, touching, in_check}
-use Rattle.position.specs.declared.Slot.{Slot}
-use Rattle.position.specs.declared.Slot.TheVariants.{Absent, Present}
 use Rattle.position.specs.declared.Position.{Position}
 use Rattle.position.specs.Keyed.{slot_men, board_of}
 use Rattle.position.specs.Over.{strikes, attacked_over, men_over}
 
 -- a test of the man in a slot
-module _ (f : Piece → Bool) (slot : Slot) where
-  pub any-absent : slot ≡ Absent → false ≡ any f (slot_men slot)
+module _ (f : Piece → Bool) (slot : Option Piece) where
+  pub any-absent : slot ≡ None → false ≡ any f (slot_men slot)
   unfolding any
   any-absent e = sym (rw e)
 
-  pub any-present : (m : Piece) → slot ≡ Present m → f m ≡ any f (slot_men slot)
+  pub any-present : (m : Piece) → slot ≡ Some m → f m ≡ any f (slot_men slot)
   unfolding any
   any-present m e = sym (rw e (or-false (f m)))
 

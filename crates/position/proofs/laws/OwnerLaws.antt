@@ -1,5 +1,5 @@
 -- The exchange of colours on a position is the rules' own, and leaves one man White's.
-use Rattle.std.specs.Prelude.{◌≡◌, Bool, true, false, cond, List, [], ◌∷◌, ◌++◌, map, ℕ, zero, suc, ◌-◌, ◌<◌, ◌≤◌}
+use Rattle.std.specs.Prelude.{◌≡◌, Bool, true, false, cond, List, [], ◌∷◌, ◌++◌, map, ℕ, zero, suc, ◌-◌, ◌<◌, ◌≤◌, None, Option, Some}
 use Rattle.std.proofs.Math.Path.{refl, subst⁻¹}
 use Rattle.std.proofs.Common.{ap, ap₂, sym, ◌∙◌, arith, eq-eqb, ne_eqb}
 use Rattle.symmetry.specs.Symmetry.{mapped}
@@ -9,8 +9,6 @@ use Rattle.rules.specs.Changed.{other, swapped, changed_piece, changed}
 use Rattle.rules.proofs.laws.Changed.{board-eq}
 use Rattle.numbering.specs.KingMaps.{swapping}
 use Rattle.numbering.proofs.laws.NormalLaws.{stays-diagonal}
-use Rattle.position.specs.declared.Slot.{Slot}
-use Rattle.position.specs.declared.Slot.TheVariants.{Absent, Present}
 use Rattle.position.specs.declared.Position.{Position}
 use Rattle.position.specs.Keyed.{slot_men, board_of, one_man, lone, man_in, man_kind, colour_of, man_square}
 use Rattle.position.specs.Refusals.{bad_man}
@@ -29,14 +27,14 @@ unfolding swapped
 men-kept [] = refl
 men-kept (a ∷ l) = ap₂ (λ (m : Piece) (k : List Piece). m ∷ k) (piece-stays false a) (men-kept l)
 
-men-recoloured : (f s : Slot)
+men-recoloured : (f s : Option Piece)
     → slot_men (recoloured_slot f) ++ slot_men (recoloured_slot s)
     ≡ map (changed_piece (swapping false) true) (slot_men f ++ slot_men s)
 unfolding swapped
-men-recoloured Absent Absent = refl
-men-recoloured Absent (Present b) = ap (λ (m : Piece). m ∷ []) (piece-stays true b)
-men-recoloured (Present a) Absent = ap (λ (m : Piece). m ∷ []) (piece-stays true a)
-men-recoloured (Present a) (Present b) = ap₂ (λ (m n : Piece). m ∷ n ∷ []) (piece-stays true a) (piece-stays true b)
+men-recoloured None None = refl
+men-recoloured None (Some b) = ap (λ (m : Piece). m ∷ []) (piece-stays true b)
+men-recoloured (Some a) None = ap (λ (m : Piece). m ∷ []) (piece-stays true a)
+men-recoloured (Some a) (Some b) = ap₂ (λ (m n : Piece). m ∷ n ∷ []) (piece-stays true a) (piece-stays true b)
 
 -- ---- the same exchange as the rules'
 
@@ -57,11 +55,11 @@ owned-board p = go (black_owns p)
 
 -- ---- as code makes it
 
-pub by-slot : (slot : Slot) (a : Piece) (colour : ℕ) → slot ≡ Present a → colour ≡ other a.colour
-    → Present (piece_of a.kind colour a.square) ≡ recoloured_slot slot
-by-slot slot a colour e h = ap (λ (c : ℕ). Present (piece_of a.kind c a.square)) h ∙ ap recoloured_slot (sym e)
+pub by-slot : (slot : Option Piece) (a : Piece) (colour : ℕ) → slot ≡ Some a → colour ≡ other a.colour
+    → Some (piece_of a.kind colour a.square) ≡ recoloured_slot slot
+by-slot slot a colour e h = ap (λ (c : ℕ). Some (piece_of a.kind c a.square)) h ∙ ap recoloured_slot (sym e)
 
-pub by_slots : (p : Position) (side : ℕ) (first second : Slot) → side ≡ other p.side
+pub by_slots : (p : Position) (side : ℕ) (first second : Option Piece) → side ≡ other p.side
     → first ≡ recoloured_slot p.first → second ≡ recoloured_slot p.second
     → ◌≡◌ {A = Position}
     (record {

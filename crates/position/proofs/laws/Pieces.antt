@@ -1,6 +1,6 @@
 -- The pieces of a position one by one, as code goes through them: a test over a board's pieces is a test of each of the
 -- four.
-use Rattle.std.specs.Prelude.{◌≡◌, Bool, false, ◌&&◌, ℕ, ◌^◌, ◌<◌}
+use Rattle.std.specs.Prelude.{◌≡◌, Bool, false, ◌&&◌, ℕ, ◌^◌, ◌<◌, None, Option, Some}
 use Rattle.std.proofs.Math.Path.{sym}
 use Rattle.std.proofs.Common.{ap, inl, arith, ne_eqb, eq-eqb}
 use Rattle.std.proofs.Math.Bool.{or-false, and-false}
@@ -14,8 +14,6 @@ use Rattle.board.proofs.laws.SetLaws.{has-or}
 use Rattle.rules.specs.declared.Piece.{Piece}
 use Rattle.rules.specs.Rules.{pieces, occupied, stands}
 use Rattle.rules.proofs.laws.OnBoard.{attacks-off, goes_to-off}
-use Rattle.position.specs.declared.Slot.{Slot}
-use Rattle.position.specs.declared.Slot.TheVariants.{Absent, Present}
 use Rattle.position.specs.declared.Position.{Position}
 use Rattle.position.specs.declared.Pieces.{Pieces}
 use Rattle.position.specs.Keyed.{slot_men, board_of, nobody, man_in}
@@ -25,10 +23,10 @@ use Rattle.position.specs.Pieces.{any_piece, own_on, pieces_of, stands_on}
 -- ---- a test that nobody passes
 
 module _ (f : Piece → Bool) (none : f nobody ≡ false) where
-  slot-any : (s : Slot) → any f (slot_men s) ≡ f (man_in s)
+  slot-any : (s : Option Piece) → any f (slot_men s) ≡ f (man_in s)
   unfolding any
-  slot-any Absent = sym none
-  slot-any (Present m) = or-false (f m)
+  slot-any None = sym none
+  slot-any (Some m) = or-false (f m)
 
   any-four : (p : Position) (a : Pieces) → a ≡ pieces_of p → any f (pieces (board_of p)) ≡ any_piece f a
   unfolding any board_of

@@ -1,5 +1,5 @@
 -- A position that meets none of the refusals 1 to 5, fact by fact; it stands for a board that has a number.
-use Rattle.std.specs.Prelude.{◌≡◌, refl, Bool, true, false, cond, not, ◌&&◌, ◌||◌, List, [], ◌∷◌, ℕ, ◌<◌, ◌≤◌, T, leb, ltb, eqb}
+use Rattle.std.specs.Prelude.{◌≡◌, refl, Bool, true, false, cond, not, ◌&&◌, ◌||◌, List, [], ◌∷◌, ℕ, ◌<◌, ◌≤◌, T, leb, ltb, eqb, None, Option, Some}
 use Rattle.std.proofs.Common.{sym, ap, subst, ◌∙◌, arith, ltb→lt, leb-false, eqb-true}
 use Rattle.std.proofs.Math.Path.{subst⁻¹}
 use Rattle.std.proofs.lemmas.Bool.{lt-leb, eqb-false}
@@ -12,8 +12,6 @@ use Rattle.numbering.specs.Kings.{separate}
 use Rattle.numbering.specs.Men.{material_of}
 use Rattle.numbering.proofs.laws.ChangeLaws.{HasNumber, coloured}
 use Rattle.position.specs.declared.Position.{Position}
-use Rattle.position.specs.declared.Slot.{Slot}
-use Rattle.position.specs.declared.Slot.TheVariants.{Absent, Present}
 use Rattle.position.specs.Keyed.{board_of, man_in, man_kind, colour_of}
 use Rattle.position.specs.Refusals.{bad_men, bad_man, bad_side, bad_square, shared_square, kings_touch, other_in_check, placing_refusal, standing_refusal}
 use Rattle.position.proofs.laws.Legality.{one-alone, one-men, placing-pieces}
@@ -127,10 +125,10 @@ placed-has p w =
 pub placed-kind : (p : Position) → bad_man p ≡ false → man_kind p < 4
 placed-kind p e = kind p.first p.second e
   where
-    kind : (f s : Slot) → bad_men f s ≡ false → (man_in f).kind < 4
-    kind Absent s e = absurd (refuted e tt)
-    kind (Present m) (Present n) e = absurd (refuted e tt)
-    kind (Present m) Absent e = leb-false 4 m.kind e
+    kind : (f s : Option Piece) → bad_men f s ≡ false → (man_in f).kind < 4
+    kind None s e = absurd (refuted e tt)
+    kind (Some m) (Some n) e = absurd (refuted e tt)
+    kind (Some m) None e = leb-false 4 m.kind e
 
 pub placed-colour : (p : Position) → WellPlaced p → colour_of p < 2
 unfolding all

@@ -1,5 +1,5 @@
 -- An ending's men on a place that 1 to 5 do not refuse, byte by byte.
-use Rattle.std.specs.Prelude.{◌≡◌, Bool, cond, not, ◌&&◌, ◌||◌, ◌++◌, ℕ, ◌≤◌, ◌<◌, T, leb, ltb, eqb}
+use Rattle.std.specs.Prelude.{◌≡◌, Bool, cond, not, ◌&&◌, ◌||◌, ◌++◌, ℕ, ◌≤◌, ◌<◌, T, leb, ltb, eqb, None, Option, Some}
 use Rattle.std.proofs.Math.Path.{refl}
 use Rattle.std.proofs.Common.{◌∙◌, ⊎_elim, arith, leb→le, ltb→lt}
 use Rattle.std.proofs.Math.Bool.{true, false}
@@ -13,8 +13,6 @@ use Rattle.numbering.specs.declared.Material.{Material}
 use Rattle.numbering.specs.Material.{known, one_of}
 use Rattle.numbering.proofs.laws.MaterialLaws.{one_known}
 use Rattle.numbering.proofs.laws.ChangeLaws.{coloured}
-use Rattle.position.specs.declared.Slot.{Slot}
-use Rattle.position.specs.declared.Slot.TheVariants.{Absent, Present}
 use Rattle.position.specs.declared.Men.{Men}
 use Rattle.position.specs.declared.Place.{Place}
 use Rattle.position.specs.Keyed.{slot_men, board_of}
@@ -30,10 +28,10 @@ neither true b e = absurd (refuted e tt)
 neither false b e = (refl, e)
 
 -- the first slot holds a man
-there : (kind colour square : ℕ) (s : Slot) → bad_men_of (slot_at kind colour square) s ≡ false → square < 64
+there : (kind colour square : ℕ) (s : Option Piece) → bad_men_of (slot_at kind colour square) s ≡ false → square < 64
 there kind colour square s e = go (leb 64 square) refl e
   where
-    go : (x : Bool) → leb 64 square ≡ x → bad_men_of (cond x Absent (Present (piece_of kind colour square))) s ≡ false
+    go : (x : Bool) → leb 64 square ≡ x → bad_men_of (cond x None (Some (piece_of kind colour square))) s ≡ false
         → square < 64
     go true h e = absurd (refuted e tt)
     go false h e = leb-false 64 square h
@@ -55,13 +53,13 @@ first_kind m t = lt-leb 4 m.first (go (leb 4 m.second) t)
         let k = ltb→lt m.second 4 (and_right (leb m.first m.second) (ltb m.second 4) t) in
         omega arith
 
-second-kind : (f : Slot) (kind colour square : ℕ) → bad_men_of f (slot_at kind colour square) ≡ false → square < 64
+second-kind : (f : Option Piece) (kind colour square : ℕ) → bad_men_of f (slot_at kind colour square) ≡ false → square < 64
     → leb 4 kind ≡ false
-second-kind Absent kind colour square e l = absurd (refuted e tt)
-second-kind (Present m) kind colour square e l = go (leb 64 square) refl e
+second-kind None kind colour square e l = absurd (refuted e tt)
+second-kind (Some m) kind colour square e l = go (leb 64 square) refl e
   where
     go : (x : Bool) → leb 64 square ≡ x
-        → bad_men_of (Present m) (cond x Absent (Present (piece_of kind colour square))) ≡ false → leb 4 kind ≡ false
+        → bad_men_of (Some m) (cond x None (Some (piece_of kind colour square))) ≡ false → leb 4 kind ≡ false
     go true h e = absurd (omega (arith, leb-true 64 square h))
     go false h e = (neither (leb 4 m.kind) (leb 4 kind) e).1
 
@@ -69,16 +67,16 @@ second-kind (Present m) kind colour square e l = go (leb 64 square) refl e
 elsewhere : (at kind colour square : ℕ) → at < 64 → slot_on at (slot_at kind colour square) ≡ false → at ≡ square → ⊥
 elsewhere at kind colour square l e = go (leb 64 square) refl e
   where
-    go : (x : Bool) → leb 64 square ≡ x → slot_on at (cond x Absent (Present (piece_of kind colour square))) ≡ false
+    go : (x : Bool) → leb 64 square ≡ x → slot_on at (cond x None (Some (piece_of kind colour square))) ≡ false
         → at ≡ square → ⊥
     go true h e = λ p. absurd (omega (arith, leb-true 64 square h))
     go false h e = eqb-false at square e
 
 -- nor does the man of another slot
-unshared : (k c s : ℕ) (l : Slot) → s < 64 → slots_share (slot_at k c s) l ≡ false → slot_on s l ≡ false
+unshared : (k c s : ℕ) (l : Option Piece) → s < 64 → slots_share (slot_at k c s) l ≡ false → slot_on s l ≡ false
 unshared k c s l h e = go (leb 64 s) refl e
   where
-    go : (x : Bool) → leb 64 s ≡ x → slots_share (cond x Absent (Present (piece_of k c s))) l ≡ false
+    go : (x : Bool) → leb 64 s ≡ x → slots_share (cond x None (Some (piece_of k c s))) l ≡ false
         → slot_on s l ≡ false
     go true i e = absurd (omega (arith, leb-true 64 s i))
     go false i e = e
@@ -133,7 +131,7 @@ slot-plain : (kind colour square : ℕ) → (kind ≡ 4 → 64 ≤ square)
 slot-plain kind colour square h = go (leb 64 square) refl
   where
     go : (x : Bool) → leb 64 square ≡ x
-        → all (λ a. not (pawn a)) (slot_men (cond x Absent (Present (piece_of kind colour square)))) ≡ true
+        → all (λ a. not (pawn a)) (slot_men (cond x None (Some (piece_of kind colour square)))) ≡ true
     go true e = unfold all in refl
     go false e =
         let l = leb-false 64 square e in
@@ -149,10 +147,10 @@ complete-pawnless {m} {q} c =
     plain : Piece → Bool
     plain a = not (pawn a)
 
-    both : (f k : Slot) → all plain (slot_men f) ≡ true → all plain (slot_men k) ≡ true
+    both : (f k : Option Piece) → all plain (slot_men f) ≡ true → all plain (slot_men k) ≡ true
         → T (all plain (slot_men f ++ slot_men k))
-    both Absent k e g = of-true g
-    both (Present a) Absent e g = of-true e
-    both (Present a) (Present d) e g =
+    both None k e g = of-true g
+    both (Some a) None e g = of-true e
+    both (Some a) (Some d) e g =
         unfold all in and_both (plain a) (plain d && true) (and_left (plain a) true (of-true (unfold all in e)))
         (of-true (unfold all in g))

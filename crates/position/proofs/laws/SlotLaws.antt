@@ -1,5 +1,5 @@
 -- Refusals 2 to 4 and 18 slot by slot, as code asks them.
-use Rattle.std.specs.Prelude.{◌≡◌, refl, Bool, not, ◌&&◌, ◌||◌, ◌∷◌, ◌++◌, ℕ, leb, ltb, eqb}
+use Rattle.std.specs.Prelude.{◌≡◌, refl, Bool, not, ◌&&◌, ◌||◌, ◌∷◌, ◌++◌, ℕ, leb, ltb, eqb, None, Option, Some}
 use Rattle.std.proofs.Common.{sym, ap, ap₂, ◌∙◌, ⊎_elim, lt-ltb, le-ltb, le-leb}
 use Rattle.std.proofs.Math.Bool.{true, false}
 use Rattle.std.proofs.lemmas.Bool.{lt-leb}
@@ -8,8 +8,6 @@ use Rattle.finite.specs.Members.{any, all}
 use Rattle.rules.specs.declared.Piece.{Piece}
 use Rattle.rules.specs.Pawn.{pawn, inner, outer}
 use Rattle.rules.specs.Rules.{piece_of, apart}
-use Rattle.position.specs.declared.Slot.{Slot}
-use Rattle.position.specs.declared.Slot.TheVariants.{Absent, Present}
 use Rattle.position.specs.declared.Position.{Position}
 use Rattle.position.specs.Keyed.{slot_men, board_of}
 use Rattle.position.specs.Refusals.{ranked, bad_side, bad_square, bad_pawn, shared_square, slot_foreign, slot_off, slot_astray, slot_on, slots_share}
@@ -74,49 +72,49 @@ astray-not m = go (pawn m)
 
 -- ---- the men in two slots
 
-astray-slots : (f k : Slot) → (slot_astray f || slot_astray k) ≡ not (all ranked (slot_men f ++ slot_men k))
+astray-slots : (f k : Option Piece) → (slot_astray f || slot_astray k) ≡ not (all ranked (slot_men f ++ slot_men k))
 unfolding all
-astray-slots Absent Absent = astray-two true true
-astray-slots Absent (Present n) = ap (λ (x : Bool). false || x) (astray-not n) ∙ astray-two true (ranked n)
-astray-slots (Present m) Absent = ap (λ (x : Bool). x || false) (astray-not m) ∙ astray-two (ranked m) true
-astray-slots (Present m) (Present n) = ap₂ ◌||◌ (astray-not m) (astray-not n) ∙ astray-two (ranked m) (ranked n)
+astray-slots None None = astray-two true true
+astray-slots None (Some n) = ap (λ (x : Bool). false || x) (astray-not n) ∙ astray-two true (ranked n)
+astray-slots (Some m) None = ap (λ (x : Bool). x || false) (astray-not m) ∙ astray-two (ranked m) true
+astray-slots (Some m) (Some n) = ap₂ ◌||◌ (astray-not m) (astray-not n) ∙ astray-two (ranked m) (ranked n)
 
-foreign-slots : (s : Bool) (f k : Slot)
+foreign-slots : (s : Bool) (f k : Option Piece)
     → (s || (slot_foreign f || slot_foreign k)) ≡ (s || not (all (λ m. ltb m.colour 2) (slot_men f ++ slot_men k)))
 unfolding all
-foreign-slots s Absent Absent = foreign-three s true true
-foreign-slots s Absent (Present n) = rw (leb-not 2 n.colour) (foreign-three s true (ltb n.colour 2))
-foreign-slots s (Present m) Absent = rw (leb-not 2 m.colour) (foreign-three s (ltb m.colour 2) true)
-foreign-slots s (Present m) (Present n) =
+foreign-slots s None None = foreign-three s true true
+foreign-slots s None (Some n) = rw (leb-not 2 n.colour) (foreign-three s true (ltb n.colour 2))
+foreign-slots s (Some m) None = rw (leb-not 2 m.colour) (foreign-three s (ltb m.colour 2) true)
+foreign-slots s (Some m) (Some n) =
     rw (leb-not 2 m.colour, leb-not 2 n.colour) (foreign-three s (ltb m.colour 2) (ltb n.colour 2))
 
 module _ (white black : ℕ) where
-  off-slots : (f s : Slot)
+  off-slots : (f s : Option Piece)
       → (leb 64 white || (leb 64 black || (slot_off f || slot_off s)))
       ≡ not (all (λ m. ltb m.square 64) (piece_of 5 0 white ∷ piece_of 5 1 black ∷ slot_men f ++ slot_men s))
   unfolding all
-  off-slots Absent Absent = rw (leb-not 64 white, leb-not 64 black) (off-four (ltb white 64) (ltb black 64) true true)
-  off-slots Absent (Present n) =
+  off-slots None None = rw (leb-not 64 white, leb-not 64 black) (off-four (ltb white 64) (ltb black 64) true true)
+  off-slots None (Some n) =
       rw (leb-not 64 white, leb-not 64 black, leb-not 64 n.square)
       (off-four (ltb white 64) (ltb black 64) true (ltb n.square 64))
-  off-slots (Present m) Absent =
+  off-slots (Some m) None =
       rw (leb-not 64 white, leb-not 64 black, leb-not 64 m.square)
       (off-four (ltb white 64) (ltb black 64) (ltb m.square 64) true)
-  off-slots (Present m) (Present n) =
+  off-slots (Some m) (Some n) =
       rw (leb-not 64 white, leb-not 64 black, leb-not 64 m.square, leb-not 64 n.square)
       (off-four (ltb white 64) (ltb black 64) (ltb m.square 64) (ltb n.square 64))
 
-  shared-slots : (f s : Slot)
+  shared-slots : (f s : Option Piece)
       → (eqb white
       black || ((slot_on white f || slot_on white s) || ((slot_on black f || slot_on black s) || slots_share f s)))
       ≡ not (apart (piece_of 5 0 white ∷ piece_of 5 1 black ∷ slot_men f ++ slot_men s))
   unfolding apart any
-  shared-slots Absent Absent = shared-four (eqb white black) false false false false false
-  shared-slots Absent (Present n) =
+  shared-slots None None = shared-four (eqb white black) false false false false false
+  shared-slots None (Some n) =
       shared-four (eqb white black) false (eqb white n.square) false (eqb black n.square) false
-  shared-slots (Present m) Absent =
+  shared-slots (Some m) None =
       shared-four (eqb white black) (eqb white m.square) false (eqb black m.square) false false
-  shared-slots (Present m) (Present n) =
+  shared-slots (Some m) (Some n) =
       shared-four (eqb white black) (eqb white m.square) (eqb white n.square) (eqb black m.square)
       (eqb black n.square) (eqb m.square n.square)
 

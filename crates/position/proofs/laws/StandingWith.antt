@@ -1,6 +1,6 @@
 -- A position with one man or two is legal, with men that have a table, exactly where no refusal applies: by the rules
 -- without a pawn, or with one where the man is a pawn.
-use Rattle.std.specs.Prelude.{◌≡◌, refl, Bool, true, false, cond, not, ◌&&◌, ◌||◌, ◌⊎◌, List, [], ◌∷◌, ◌++◌, ℕ, ◌-◌, ◌<◌, min, max, T, leb, ltb, eqb}
+use Rattle.std.specs.Prelude.{◌≡◌, refl, Bool, true, false, cond, not, ◌&&◌, ◌||◌, ◌⊎◌, List, [], ◌∷◌, ◌++◌, ℕ, ◌-◌, ◌<◌, min, max, T, leb, ltb, eqb, None, Option, Some}
 use Rattle.std.proofs.Common.{ap, subst, ◌∙◌, inl, inr, arith, le→leb, lt→ltb, lt-ltb, le-ltb, leb-false, eq-eqb, ne_eqb, eqb-true}
 use Rattle.std.proofs.Math.Path.{subst⁻¹}
 use Rattle.std.proofs.lemmas.Bool.{eqb-false}
@@ -14,8 +14,6 @@ use Rattle.numbering.specs.declared.Material.{Material}
 use Rattle.numbering.specs.Material.{given, material_in, legal_in}
 use Rattle.numbering.specs.Material as materials
 use Rattle.numbering.proofs.laws.MaterialLaws.{known-given}
-use Rattle.position.specs.declared.Slot.{Slot}
-use Rattle.position.specs.declared.Slot.TheVariants.{Absent, Present}
 use Rattle.position.specs.declared.Position.{Position}
 use Rattle.position.specs.Keyed.{slot_men, board_of}
 use Rattle.position.specs.Refusals.{ranked, bad_men_of, bad_side, bad_square, bad_pawn, shared_square, placing_with, standing_with}
@@ -64,14 +62,14 @@ either-false : (a b : Bool) → (a || b) ≡ false → (a ≡ false) × (b ≡ f
 either-false true b e = absurd (refuted e tt)
 either-false false b e = (refl, e)
 
-slots-admitted : (f s : Slot) → bad_men_of f s ≡ false
+slots-admitted : (f s : Option Piece) → bad_men_of f s ≡ false
     → all known_or_pawn (slot_men f ++ slot_men s)
     ≡ (all (λ m. ltb m.colour 2) (slot_men f ++ slot_men s) && all ranked (slot_men f ++ slot_men s))
 unfolding all
-slots-admitted Absent s e = absurd (refuted e tt)
-slots-admitted (Present a) Absent e =
+slots-admitted None s e = absurd (refuted e tt)
+slots-admitted (Some a) None e =
     ap (λ (x : Bool). x && true) (admitted a (leb-false 5 a.kind e)) ∙ one-pair (ltb a.colour 2) (ranked a)
-slots-admitted (Present a) (Present c) e =
+slots-admitted (Some a) (Some c) e =
     let x = either-false (leb 4 a.kind) (leb 4 c.kind) e in
     let j : a.kind < 5 = omega (arith, leb-false 4 a.kind x.0) in
     let k : c.kind < 5 = omega (arith, leb-false 4 c.kind x.1) in
@@ -164,15 +162,15 @@ least-most j k h i =
     and_both (leb (min j k) (max j k)) (ltb (max j k) 4) (le→leb (min j k) (max j k) (omega arith))
     (lt→ltb (max j k) 4 (omega arith))
 
-men-by : (f s : Slot) → bad_men_of f s ≡ false → PawnOrPieces (slot_men f ++ slot_men s)
+men-by : (f s : Option Piece) → bad_men_of f s ≡ false → PawnOrPieces (slot_men f ++ slot_men s)
 unfolding all
-men-by Absent s e = absurd (refuted e tt)
-men-by (Present a) Absent e = go (four-or-less a.kind (leb-false 5 a.kind e))
+men-by None s e = absurd (refuted e tt)
+men-by (Some a) None e = go (four-or-less a.kind (leb-false 5 a.kind e))
   where
     go : (a.kind ≡ 4) ⊎ (a.kind < 4) → PawnOrPieces (a ∷ [])
     go (inl e) = inl (rw (eq-eqb a.kind 4 e))
     go (inr e) = inr (rw (ne_eqb a.kind 4 (λ q. omega arith)) (lt→ltb a.kind 4 e, tt))
-men-by (Present a) (Present c) e =
+men-by (Some a) (Some c) e =
     let x = either-false (leb 4 a.kind) (leb 4 c.kind) e in
     let j = leb-false 4 a.kind x.0 in
     let k = leb-false 4 c.kind x.1 in

@@ -1,9 +1,8 @@
 -- One quick test that none of refusals 2 to 5 and 18 applies.
-use Rattle.std.specs.Prelude.{◌≡◌, refl, Bool, true, false, cond, ◌||◌, ℕ, leb, eqb}
+use Rattle.rules.specs.declared.Piece.{Piece}
+use Rattle.std.specs.Prelude.{◌≡◌, refl, Bool, true, false, cond, ◌||◌, ℕ, leb, eqb, None, Option, Some}
 use Rattle.std.proofs.Common.{sym, ◌∙◌}
 use Rattle.finite.specs.Truth.{refuted}
-use Rattle.position.specs.declared.Slot.{Slot}
-use Rattle.position.specs.declared.Slot.TheVariants.{Absent, Present}
 use Rattle.position.specs.declared.Position.{Position}
 use Rattle.position.specs.Refusals.{bad_man, bad_men_of, bad_side, bad_square, bad_pawn, shared_square, kings_touch, later_refusal, placing_refusal, placing_with, slot_foreign, slot_off, slot_astray, slot_on, slots_share, slot_misplaced}
 use Rattle.position.proofs.laws.BothSizes.{six}
@@ -21,16 +20,16 @@ five true b c d e z = absurd (refuted z tt)
 five false b c d e z = let f = four b c d e z in (refl, f.0, f.1, f.2, f.3)
 
 -- a man that is not misplaced, test by test
-slot-well : (white black : ℕ) (k : Slot) → slot_misplaced white black k ≡ false
+slot-well : (white black : ℕ) (k : Option Piece) → slot_misplaced white black k ≡ false
     → (slot_foreign k ≡ false)
     × (slot_off k ≡ false)
     × (slot_astray k ≡ false)
     × (slot_on white k ≡ false)
     × (slot_on black k ≡ false)
-slot-well white black Absent z = (refl, refl, refl, refl, refl)
-slot-well white black (Present m) z =
-    five (slot_foreign (Present m)) (slot_off (Present m)) (slot_astray (Present m)) (slot_on white (Present m))
-    (slot_on black (Present m)) z
+slot-well white black None z = (refl, refl, refl, refl, refl)
+slot-well white black (Some m) z =
+    five (slot_foreign (Some m)) (slot_off (Some m)) (slot_astray (Some m)) (slot_on white (Some m))
+    (slot_on black (Some m)) z
 
 pub unrefused : (p : Position)
     → (leb 2 p.side

@@ -1,5 +1,5 @@
 -- The legal targets of a position's pieces, by what code has in hand.
-use Rattle.std.specs.Prelude.{◌≡◌, Bool, true, cond, ◌&&◌, ◌++◌, ℕ, ◌-◌, ◌^◌, ◌<◌}
+use Rattle.std.specs.Prelude.{◌≡◌, Bool, true, cond, ◌&&◌, ◌++◌, ℕ, ◌-◌, ◌^◌, ◌<◌, None, Option, Some}
 use Rattle.std.proofs.Math.Path.{refl, sym, ap, ap₂, subst⁻¹}
 use Rattle.std.proofs.Common.{◌∙◌, arith, eqb→eq}
 use Rattle.std.proofs.Math.Bool.{false, not, ◌||◌, or-false, and-true}
@@ -18,8 +18,6 @@ use Rattle.rules.specs.declared.Piece.{Piece}
 use Rattle.rules.specs.Pawn.{pawn, forward, strides, pawn_hits, pawn_goes}
 use Rattle.rules.specs.Rules.{Board, piece_of, pieces, occupied, attacks, king, in_check, stands, goes_to, goes, can_move}
 use Rattle.rules.proofs.laws.CanMove.{can-facts, can-on, goes-piece}
-use Rattle.position.specs.declared.Slot.{Slot}
-use Rattle.position.specs.declared.Slot.TheVariants.{Absent, Present}
 use Rattle.position.specs.declared.Position.{Position}
 use Rattle.position.specs.Keyed.{slot_men, board_of, man_in}
 use Rattle.position.specs.Over.{strikes, men_over, goes_over, lifted}
@@ -121,12 +119,12 @@ module _ {p : Position} {occ own struck : ℕ} (v : Sight p occ own struck) wher
 
   module _ (goes : ℕ) where
     -- none there, or none who may go
-    pub man-none : (slot : Slot) → Held p slot
+    pub man-none : (slot : Option Piece) → Held p slot
         → ((t : ℕ) → t < 64 → has goes t ≡ any (goes_by (has occ) p.side t) (slot_men slot))
         → goes ≡ 0 → 0 ≡ set_of (can_move (board_of p) (man_in slot).square)
     unfolding any
-    man-none Absent i e z = nothing (board_of p) 64 0 (omega arith) (λ t h. has-none t) (λ t h. off t)
-    man-none (Present m) i e z =
+    man-none None i e z = nothing (board_of p) 64 0 (omega arith) (λ t h. has-none t) (λ t h. off t)
+    man-none (Some m) i e z =
         nothing (board_of p) m.square 0 (omega arith) (λ t h. has-none t)
         (λ t h. idle m (i m refl) t
         (sym (or-false (goes_by (has occ) p.side t m)) ∙ sym (e t h) ∙ ap (λ (x : ℕ). has x t) z ∙ has-none t))
@@ -157,14 +155,14 @@ module _ {p : Position} {occ own struck : ℕ} (v : Sight p occ own struck) wher
           (v.quiet z m.square (w.on m j) (stands_one b w m j p.side ∙ eq-eqb m.colour p.side c)))
           l
 
-      pub man-free : (slot : Slot) → Held p slot
+      pub man-free : (slot : Option Piece) → Held p slot
           → ((t : ℕ) → t < 64 → has goes t ≡ any (goes_by (has occ) p.side t) (slot_men slot))
           → r ≡ set_of (can_move (board_of p) (man_in slot).square)
       unfolding any
-      man-free Absent i e =
+      man-free None i e =
           nothing (board_of p) 64 r l (λ t h. set-has _ er t h ∙ ap (λ (x : Bool). x && not (has own t)) (e t h))
           (λ t h. off t)
-      man-free (Present m) i e =
+      man-free (Some m) i e =
           let by : (t : ℕ) → t < 64 → has goes t ≡ goes_by (has occ) p.side t m =
           λ t h. e t h ∙ or-false (goes_by (has occ) p.side t m) in
           by-test (eqb m.colour p.side) (λ c. goer m (i m refl) (eqb→eq m.colour p.side c) by)
@@ -239,15 +237,15 @@ nobody-moves p from nk nf ns =
     (λ t h. has-none t ∙ sym (fails (can_move (board_of p) from t)
     (λ c. let f = can-facts (board_of p) from t c in who f.piece f.there f.own f.at)))
   where
-    man : (x : Piece) (f s : Slot) → (from ≡ (man_in f).square → ⊥) → (from ≡ (man_in s).square → ⊥)
+    man : (x : Piece) (f s : Option Piece) → (from ≡ (man_in f).square → ⊥) → (from ≡ (man_in s).square → ⊥)
         → x ∈ slot_men f ++ slot_men s → x.square ≡ from → ⊥
-    man x (Present m) s n k (Memᴰ.head e) q = n (sym q ∙ ap (λ (y : Piece). y.square) e)
-    man x (Present m) (Present y) n k (Memᴰ.tail (Memᴰ.head e)) q = k (sym q ∙ ap (λ (y : Piece). y.square) e)
-    man x Absent (Present m) n k (Memᴰ.head e) q = k (sym q ∙ ap (λ (y : Piece). y.square) e)
-    man x Absent Absent n k i q = elim i [ ]
-    man x Absent (Present m) n k (Memᴰ.tail i) q = elim i [ ]
-    man x (Present m) Absent n k (Memᴰ.tail i) q = elim i [ ]
-    man x (Present m) (Present y) n k (Memᴰ.tail (Memᴰ.tail i)) q = elim i [ ]
+    man x (Some m) s n k (Memᴰ.head e) q = n (sym q ∙ ap (λ (y : Piece). y.square) e)
+    man x (Some m) (Some y) n k (Memᴰ.tail (Memᴰ.head e)) q = k (sym q ∙ ap (λ (y : Piece). y.square) e)
+    man x None (Some m) n k (Memᴰ.head e) q = k (sym q ∙ ap (λ (y : Piece). y.square) e)
+    man x None None n k i q = elim i [ ]
+    man x None (Some m) n k (Memᴰ.tail i) q = elim i [ ]
+    man x (Some m) None n k (Memᴰ.tail i) q = elim i [ ]
+    man x (Some m) (Some y) n k (Memᴰ.tail (Memᴰ.tail i)) q = elim i [ ]
 
     who : (x : Piece) → x ∈ pieces (board_of p) → x.colour ≡ p.side → x.square ≡ from → ⊥
     who x (Memᴰ.head e) c q =

@@ -1,5 +1,5 @@
 -- A position that refusals 1 to 5 and 18 let pass: one piece on a square, and who it is.
-use Rattle.std.specs.Prelude.{◌≡◌, Bool, cond, not, ◌&&◌, ℕ, zero, suc, ◌<◌, ltb}
+use Rattle.std.specs.Prelude.{◌≡◌, Bool, cond, not, ◌&&◌, ℕ, zero, suc, ◌<◌, ltb, None, Option, Some}
 use Rattle.std.proofs.Math.Path.{refl, subst}
 use Rattle.std.proofs.Common.{sym, ◌∙◌, arith, ltb→lt, eq-eqb}
 use Rattle.std.proofs.Math.Bool.{true, false}
@@ -11,8 +11,6 @@ use Rattle.finite.specs.Members.{◌∈◌, any, any-in, any_out, all, all-out}
 use Rattle.rules.specs.declared.Piece.{Piece}
 use Rattle.rules.specs.Rules.{Board, piece_of, pieces, apart, king, stands, goes_to}
 use Rattle.rules.proofs.laws.Promotion.{apart-one}
-use Rattle.position.specs.declared.Slot.{Slot}
-use Rattle.position.specs.declared.Slot.TheVariants.{Absent, Present}
 use Rattle.position.specs.declared.Position.{Position}
 use Rattle.position.specs.Keyed.{slot_men, board_of}
 use Rattle.position.specs.Over.{goes_from, goes_over}
@@ -46,15 +44,15 @@ module _ (p : Position) where
   pub first-held : Held p p.first
   unfolding board_of
   first-held m e = in-front (slot_men p.first) (slot_men p.second)
-      (subst (λ (s : Slot). m ∈ slot_men s) (sym e) (Memᴰ.head refl))
+      (subst (λ (s : Option Piece). m ∈ slot_men s) (sym e) (Memᴰ.head refl))
 
   pub second-held : Held p p.second
   unfolding board_of
   second-held m e = behind p.first
     where
-      behind : (f : Slot) → m ∈ slot_men f ++ slot_men p.second
-      behind Absent = subst (λ (s : Slot). m ∈ slot_men s) (sym e) (Memᴰ.head refl)
-      behind (Present n) = Memᴰ.tail (subst (λ (s : Slot). m ∈ slot_men s) (sym e) (Memᴰ.head refl))
+      behind : (f : Option Piece) → m ∈ slot_men f ++ slot_men p.second
+      behind None = subst (λ (s : Option Piece). m ∈ slot_men s) (sym e) (Memᴰ.head refl)
+      behind (Some n) = Memᴰ.tail (subst (λ (s : Option Piece). m ∈ slot_men s) (sym e) (Memᴰ.head refl))
 
 -- a man is a piece
 pub man-piece : (b : Board) {m : Piece} → m ∈ b.men → m ∈ pieces b

@@ -1,6 +1,6 @@
 -- A capture is taken back on every board that goes alike: if one leads from the board at a number of two men to a man left alone, then a place of that
 -- number leads to what the place at his number in his own ending leaves of the two.
-use Rattle.std.specs.Prelude.{◌≡◌, Bool, true, cond, not, ◌⊎◌, leb, eqb}
+use Rattle.std.specs.Prelude.{◌≡◌, Bool, true, cond, not, ◌⊎◌, leb, eqb, None, Some}
 use Rattle.std.proofs.Math.Path.{refl, sym, ap, subst⁻¹}
 use Rattle.std.proofs.Common.{ap₂, subst, ◌∙◌}
 use Rattle.std.proofs.Math.Bool.{false}
@@ -32,7 +32,6 @@ use Rattle.numbering.specs.Number.{number_of}
 use Rattle.numbering.specs.Material.{known, men_of, size_of}
 use Rattle.position.specs.declared.Men.{Men}
 use Rattle.position.specs.declared.Place.{Place}
-use Rattle.position.specs.declared.Slot.TheVariants.{Absent, Present}
 use Rattle.position.specs.Keyed.{board_of, slot_men}
 use Rattle.position.specs.Posed.{posed, board_in, material_for, Complete}
 use Rattle.position.proofs.laws.PlacedLaws.{kings-separate}
@@ -70,9 +69,9 @@ off-mapped m s = go (le-or-lt 64 s)
     go (inr h) = lt-leb 64 (mapped m s) (mapped-on m s h) ∙ sym (lt-leb 64 s h)
 
 men-mapped : (m : Symmetry) (k c k' c' x y : ℕ) (a b : Bool)
-    → (slot_men (cond a Absent (Present (piece_of k c (mapped m x)))) ++ slot_men (cond b Absent (Present (piece_of k' c' (mapped m y)))))
+    → (slot_men (cond a None (Some (piece_of k c (mapped m x)))) ++ slot_men (cond b None (Some (piece_of k' c' (mapped m y)))))
     ≡ map (changed_piece m false)
-    (slot_men (cond a Absent (Present (piece_of k c x))) ++ slot_men (cond b Absent (Present (piece_of k' c' y))))
+    (slot_men (cond a None (Some (piece_of k c x))) ++ slot_men (cond b None (Some (piece_of k' c' y))))
 unfolding swapped
 men-mapped m k c k' c' x y true true = refl
 men-mapped m k c k' c' x y true false = refl
@@ -84,8 +83,8 @@ unfolding board_of posed changed swapped
 map-board s m q =
     ap (λ (l : List Piece). record { side = q.side; white = mapped s q.white; black = mapped s q.black; men = l })
     (ap₂ (λ (a b : Bool).
-    slot_men (cond a Absent (Present (piece_of m.first 0 (mapped s q.first))))
-    ++ slot_men (cond b Absent (Present (piece_of m.second m.colour (mapped s q.second)))))
+    slot_men (cond a None (Some (piece_of m.first 0 (mapped s q.first))))
+    ++ slot_men (cond b None (Some (piece_of m.second m.colour (mapped s q.second)))))
     (off-mapped s q.first) (off-mapped s q.second)
     ∙ men-mapped s m.first 0 m.second m.colour q.first q.second (leb 64 q.first) (leb 64 q.second))
 

@@ -1,29 +1,28 @@
 -- Chess's moves one by one, and its symmetries: a legal board and its images have one value, all sixteen without a
 -- pawn, those that fit with one.
-use Rattle.std.specs.Prelude.{◌≡◌, refl, Bool, true, false, cond, not, ◌&&◌, List, [], ◌∷◌, map, ℕ, zero, suc, ◌-◌, ◌<◌, T, eqb}
-use Rattle.std.proofs.Common.{sym, ap, ap₂, ◌∙◌, subst, arith, ne_eqb}
+use Rattle.std.specs.Prelude.{◌≡◌, refl, Bool, true, false, cond, ◌&&◌, List, [], ◌∷◌, map, ℕ, ◌<◌, T}
+use Rattle.std.proofs.Common.{sym, ap, ap₂, ◌∙◌, subst, arith}
 use Rattle.std.proofs.Math.Path.{subst⁻¹}
 use mathlib.Core.List.Memᴰ
-use Rattle.finite.specs.Truth.{by-test, fails, and_right, same_test}
+use Rattle.finite.specs.Truth.{by-test, fails, same_test}
 use Rattle.finite.specs.Members.{◌∈◌, map-in, map-out}
-use Rattle.theory.specs.Game.{Game, next}
+use Rattle.theory.specs.Game.{next}
 use Rattle.theory.specs.Value.{won, lost, TrueByte}
 use Rattle.theory.specs.Alike.{Alike, Automorphism}
 use Rattle.theory.proofs.laws.Alike.{automorphism-alike, alike-won, alike-lost, alike-byte}
 use Rattle.symmetry.specs.Symmetry.{Symmetry, mapped, inverse}
 use Rattle.rules.specs.declared.Move.{Move}
-use Rattle.rules.specs.Rules.{Board, empty, in_check, known_or_pawn, legal, legal_with_pawn, moved, can_move, taking, move_of, move_on, promotion_of, promotes, moves_to, all_moves, played_as, moves, mated}
+use Rattle.rules.specs.Rules.{Board, empty, known_or_pawn, legal, legal_with_pawn, moved, can_move, taking, move_of, move_on, promotion_of, promotes, moves_to, all_moves, played_as, moves, mated}
 use Rattle.rules.proofs.laws.MoveLists.{ListedMove, in-all_moves, in-all_moves-to, of-all_moves, none-promotes}
 use Rattle.rules.proofs.laws.Legal.{legal_of-facts, legal-pawnless, legal-with-pawn}
 use Rattle.rules.proofs.laws.CanMove.{can-on}
 use Rattle.rules.proofs.laws.Closed.{closed}
 use Rattle.rules.proofs.laws.Promotion.{closed-pawn}
-use Rattle.rules.specs.Sides.{played-side}
 use Rattle.rules.specs.Changed.{changed, mapped_move, fits}
 use Rattle.rules.proofs.laws.Changed.{changed-back, changed-forth}
 use Rattle.rules.proofs.laws.ChangedRules.{legal-fits, fits-image, fits-changed, legal-changed, legal_with_pawn-changed, check-changed, can_move-changed, taking-changed, bare-changed}
 use Rattle.rules.proofs.laws.PromotionChanged.{promotes-changed, played-as-changed, fits-played}
-use Rattle.rules.specs.Chess.{one_less, played, ends, chess, Fitting, FittingImage, LegalBoard, Image}
+use Rattle.rules.specs.Chess.{played, chess, Fitting, FittingImage, LegalBoard, Image}
 
 empty-if : {A : Type 0} (l : List A) → ((x : A) → x ∈ l → ⊥) → T (empty l)
 empty-if [] f = tt

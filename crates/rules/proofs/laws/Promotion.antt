@@ -19,7 +19,6 @@ use Rattle.rules.proofs.laws.CanMove.{can-facts}
 use Rattle.rules.proofs.laws.MoveLists.{ListedMove}
 use Rattle.rules.proofs.laws.Closed.{closed_of}
 use Rattle.rules.specs.Sides.{moved-side}
-use Rattle.rules.specs.Sides.{played-side}
 
 module _ (side to kind : ℕ) where
   abbrev turned : Piece → Piece

@@ -1,6 +1,6 @@
 -- The rules do not see in which order two men are listed: the same squares are occupied and attacked, the same boards legal, the same moves
 -- legal.
-use Rattle.std.specs.Prelude.{◌≡◌, Bool, false, ◌||◌, T}
+use Rattle.std.specs.Prelude.{◌≡◌, Bool, false, ◌||◌}
 use Rattle.std.proofs.Math.Path.{refl, sym, ap, ap₂, subst⁻¹}
 use Rattle.std.proofs.Common.{subst, ◌∙◌}
 use Rattle.std.proofs.Math.Bool.{true, cond, not, ◌&&◌}

@@ -1,5 +1,5 @@
 -- The second opinion agrees with every accepted table (02, P7: "and so every accepted table, for all legal positions").
-use Rattle.std.specs.Prelude.{◌≡◌, refl, ◌⊎◌, Bool, true, false, cond, List, ℕ, ◌<◌, ◌≤◌, eqb, leb}
+use Rattle.std.specs.Prelude.{◌≡◌, refl, ◌⊎◌, Bool, true, false, cond, List, ℕ, ◌<◌, ◌≤◌, eqb, leb, Ok, Result}
 use Rattle.std.proofs.Common.{sym, ap, ◌∙◌, inl, inr, arith, le-leb, eqb-true}
 use Rattle.std.proofs.lemmas.Bool.{lt-leb}
 use Rattle.finite.specs.Truth.{le-or-lt}
@@ -20,26 +20,26 @@ use Rattle.search.specs.Opinions.{most, opinion_of}
 use Rattle.search.specs.TrueOpinion.{TrueOpinion, short_of}
 use Rattle.search.proofs.laws.Exactly.{win-exactly, loss-exactly, none-exactly, not-of-draw, opinion-true}
 
-module _ (b : Board) (k : ℕ) (o : Opinion) (true? : TrueOpinion b k o) where
+module _ (b : Board) (k : ℕ) (o : Result Opinion ℕ) (true? : TrueOpinion b k o) where
   -- deeper than k
-  deep : (n : ℕ) → DepthIs chess n b → k < n → o ≡ Opinion.NotWithin
+  deep : (n : ℕ) → DepthIs chess n b → k < n → o ≡ Ok Opinion.NotWithin
   deep n d h = (none-exactly b k o true?).1 (λ m l e. omega (arith, one-depth chess n m b d e))
 
-  short-win : (n : ℕ) → WonIn chess n b → o ≡ cond (leb n k) (Opinion.Win n) Opinion.NotWithin
+  short-win : (n : ℕ) → WonIn chess n b → o ≡ cond (leb n k) (Ok (Opinion.Win n)) (Ok Opinion.NotWithin)
   short-win n w = go (le-or-lt n k)
     where
-      go : (n ≤ k) ⊎ (k < n) → o ≡ cond (leb n k) (Opinion.Win n) Opinion.NotWithin
+      go : (n ≤ k) ⊎ (k < n) → o ≡ cond (leb n k) (Ok (Opinion.Win n)) (Ok Opinion.NotWithin)
       go (inl h) = (win-exactly b k o true? n).1 (w, h) ∙ sym (rw (le-leb n k h))
       go (inr h) = deep n (DepthIs.win w) h ∙ sym (rw (lt-leb n k h))
 
-  short-loss : (n : ℕ) → LostIn chess n b → o ≡ cond (leb n k) (Opinion.Loss n) Opinion.NotWithin
+  short-loss : (n : ℕ) → LostIn chess n b → o ≡ cond (leb n k) (Ok (Opinion.Loss n)) (Ok Opinion.NotWithin)
   short-loss n w = go (le-or-lt n k)
     where
-      go : (n ≤ k) ⊎ (k < n) → o ≡ cond (leb n k) (Opinion.Loss n) Opinion.NotWithin
+      go : (n ≤ k) ⊎ (k < n) → o ≡ cond (leb n k) (Ok (Opinion.Loss n)) (Ok Opinion.NotWithin)
       go (inl h) = (loss-exactly b k o true? n).1 (w, h) ∙ sym (rw (le-leb n k h))
       go (inr h) = deep n (DepthIs.loss w) h ∙ sym (rw (lt-leb n k h))
 
-  short : (a : Answer) → TrueAnswer b a → o ≡ short_of k a
+  short : (a : Result Answer ℕ) → TrueAnswer b a → o ≡ short_of k a
   short a (TrueAnswerBy.won n m w f e) = short-win n w ∙ sym (ap (short_of k) e)
   short a (TrueAnswerBy.lost n m w f e) = short-loss n w ∙ sym (ap (short_of k) e)
   short a (TrueAnswerBy.mate w f e) = short-loss 0 w ∙ sym (ap (short_of k) e)
@@ -48,7 +48,7 @@ module _ (b : Board) (k : ℕ) (o : Opinion) (true? : TrueOpinion b k o) where
 
 -- THE THEOREM: for any table that the checker accepts, on any position of its ending, legal or refused, the second opinion is what look-up says
 -- of depths up to k.
-module _ (kind : ℕ) (t : List ℕ) (ok : check_of kind t ≡ Checked.Accepted) (p : Position) (its : man_kind p ≡ kind)
+module _ (kind : ℕ) (t : List ℕ) (ok : check_of kind t ≡ Ok Checked.Accepted) (p : Position) (its : man_kind p ≡ kind)
     (k : ℕ) (few : k ≤ most) where
   agrees-legal : standing_refusal p ≡ 0 → opinion_of p k ≡ short_of k (look_up_of t p)
   agrees-legal z =

@@ -1,5 +1,5 @@
 -- The second opinion is the value definition's (02, P7: "Show that it equals the value definition"), and stalemate is no loss.
-use Rattle.std.specs.Prelude.{◌≡◌, ◌⊎◌, ◌↔◌, true, cond, ℕ, suc, ◌<◌, ◌≤◌, leb}
+use Rattle.std.specs.Prelude.{◌≡◌, ◌⊎◌, ◌↔◌, cond, ℕ, suc, ◌<◌, ◌≤◌, leb, Ok, Result}
 use Rattle.std.proofs.Common.{ap, subst, ◌∙◌, inl, inr}
 use native.Mathlib.Omega.{arith}
 use Rattle.std.proofs.Math.Dec.{T}
@@ -47,7 +47,7 @@ module _ (b : Board) (k : ℕ) where
     where
       found : least_depth b k ≤ k → T (won chess (least_depth b k) b) ⊎ T (lost chess (least_depth b k) b)
           → TrueOpinion b k
-          (cond (won chess (least_depth b k) b) (Opinion.Win (least_depth b k)) (Opinion.Loss (least_depth b k)))
+          (cond (won chess (least_depth b k) b) (Ok (Opinion.Win (least_depth b k))) (Ok (Opinion.Loss (least_depth b k))))
       found h (inl t) =
           TrueOpinion.win (least_depth b k) (record { within = t; least = λ m s. least m h (in-won b m s) }) h
           (rw (true_of {b = won chess (least_depth b k) b} t))
@@ -58,8 +58,8 @@ module _ (b : Board) (k : ℕ) where
       go : (least_depth b k ≤ k) ⊎ (k < least_depth b k)
           → TrueOpinion b k
           (cond (leb (least_depth b k) k)
-          (cond (won chess (least_depth b k) b) (Opinion.Win (least_depth b k)) (Opinion.Loss (least_depth b k)))
-          Opinion.NotWithin)
+          (cond (won chess (least_depth b k) b) (Ok (Opinion.Win (least_depth b k))) (Ok (Opinion.Loss (least_depth b k))))
+          (Ok Opinion.NotWithin))
       go (inl h) = rw (le-leb (least_depth b k) k h) (found h (decided-cases b (least_depth b k) (passes h)))
       go (inr h) = TrueOpinion.neither (none_within h) (rw (lt-leb (least_depth b k) k h))
 
@@ -68,49 +68,49 @@ module _ (b : Board) (k : ℕ) where
 clash : ◌≡◌ {A = ℕ} 0 1 → ⊥
 clash z = omega arith
 
-module _ (b : Board) (k : ℕ) (o : Opinion) (true? : TrueOpinion b k o) where
-  pub win-exactly : (n : ℕ) → (o ≡ Opinion.Win n) ↔ (WonIn chess n b × (n ≤ k))
+module _ (b : Board) (k : ℕ) (o : Result Opinion ℕ) (true? : TrueOpinion b k o) where
+  pub win-exactly : (n : ℕ) → (o ≡ Ok (Opinion.Win n)) ↔ (WonIn chess n b × (n ≤ k))
   win-exactly n = (λ q. forth q true?, λ w. back w.0 w.1 true?)
     where
-      forth : o ≡ Opinion.Win n → TrueOpinion b k o → WonIn chess n b × (n ≤ k)
+      forth : o ≡ Ok (Opinion.Win n) → TrueOpinion b k o → WonIn chess n b × (n ≤ k)
       forth q (TrueOpinion.win m w h e) = let z : m ≡ n = cc in subst (λ (i : ℕ). WonIn chess i b × (i ≤ k)) z (w, h)
       forth q (TrueOpinion.loss m l h e) = let z : ◌≡◌ {A = ℕ} 0 1 = cc in absurd (clash z)
       forth q (TrueOpinion.neither f e) = let z : ◌≡◌ {A = ℕ} 0 1 = cc in absurd (clash z)
 
-      back : WonIn chess n b → n ≤ k → TrueOpinion b k o → o ≡ Opinion.Win n
-      back v g (TrueOpinion.win m w h e) = e ∙ ap Opinion.Win (one-depth chess m n b (DepthIs.win w) (DepthIs.win v))
+      back : WonIn chess n b → n ≤ k → TrueOpinion b k o → o ≡ Ok (Opinion.Win n)
+      back v g (TrueOpinion.win m w h e) = e ∙ ap (λ x0. Ok (Opinion.Win x0)) (one-depth chess m n b (DepthIs.win w) (DepthIs.win v))
       back v g (TrueOpinion.loss m l h e) = absurd (won-not-lost chess n m b v.within l.within)
       back v g (TrueOpinion.neither f e) = absurd (f n g (DepthIs.win v))
 
-  pub loss-exactly : (n : ℕ) → (o ≡ Opinion.Loss n) ↔ (LostIn chess n b × (n ≤ k))
+  pub loss-exactly : (n : ℕ) → (o ≡ Ok (Opinion.Loss n)) ↔ (LostIn chess n b × (n ≤ k))
   loss-exactly n = (λ q. forth q true?, λ w. back w.0 w.1 true?)
     where
-      forth : o ≡ Opinion.Loss n → TrueOpinion b k o → LostIn chess n b × (n ≤ k)
+      forth : o ≡ Ok (Opinion.Loss n) → TrueOpinion b k o → LostIn chess n b × (n ≤ k)
       forth q (TrueOpinion.loss m l h e) = let z : m ≡ n = cc in subst (λ (i : ℕ). LostIn chess i b × (i ≤ k)) z (l, h)
       forth q (TrueOpinion.win m w h e) = let z : ◌≡◌ {A = ℕ} 0 1 = cc in absurd (clash z)
       forth q (TrueOpinion.neither f e) = let z : ◌≡◌ {A = ℕ} 0 1 = cc in absurd (clash z)
 
-      back : LostIn chess n b → n ≤ k → TrueOpinion b k o → o ≡ Opinion.Loss n
+      back : LostIn chess n b → n ≤ k → TrueOpinion b k o → o ≡ Ok (Opinion.Loss n)
       back v g (TrueOpinion.loss m l h e) =
-          e ∙ ap Opinion.Loss (one-depth chess m n b (DepthIs.loss l) (DepthIs.loss v))
+          e ∙ ap (λ x0. Ok (Opinion.Loss x0)) (one-depth chess m n b (DepthIs.loss l) (DepthIs.loss v))
       back v g (TrueOpinion.win m w h e) = absurd (won-not-lost chess m n b w.within v.within)
       back v g (TrueOpinion.neither f e) = absurd (f n g (DepthIs.loss v))
 
-  pub none-exactly : (o ≡ Opinion.NotWithin) ↔ ((n : ℕ) → n ≤ k → DepthIs chess n b → ⊥)
+  pub none-exactly : (o ≡ Ok Opinion.NotWithin) ↔ ((n : ℕ) → n ≤ k → DepthIs chess n b → ⊥)
   none-exactly = (λ q. forth q true?, λ f. back f true?)
     where
-      forth : o ≡ Opinion.NotWithin → TrueOpinion b k o → (n : ℕ) → n ≤ k → DepthIs chess n b → ⊥
+      forth : o ≡ Ok Opinion.NotWithin → TrueOpinion b k o → (n : ℕ) → n ≤ k → DepthIs chess n b → ⊥
       forth q (TrueOpinion.neither f e) = f
       forth q (TrueOpinion.win m w h e) = let z : ◌≡◌ {A = ℕ} 0 1 = cc in absurd (clash z)
       forth q (TrueOpinion.loss m l h e) = let z : ◌≡◌ {A = ℕ} 0 1 = cc in absurd (clash z)
 
-      back : ((n : ℕ) → n ≤ k → DepthIs chess n b → ⊥) → TrueOpinion b k o → o ≡ Opinion.NotWithin
+      back : ((n : ℕ) → n ≤ k → DepthIs chess n b → ⊥) → TrueOpinion b k o → o ≡ Ok Opinion.NotWithin
       back g (TrueOpinion.neither f e) = e
       back g (TrueOpinion.win m w h e) = absurd (g m h (DepthIs.win w))
       back g (TrueOpinion.loss m l h e) = absurd (g m h (DepthIs.loss l))
 
   -- a draw has no depth
-  pub not-of-draw : Drawn chess b → o ≡ Opinion.NotWithin
+  pub not-of-draw : Drawn chess b → o ≡ Ok Opinion.NotWithin
   not-of-draw d = none-exactly.1 (λ n l e. (draw-is chess b).0 d n e)
 
 -- ---- the second opinion on a position that nothing refuses

@@ -1,5 +1,5 @@
 -- The depths asked in rising order, a win at odd and a loss at even ones: what is found there is the opinion.
-use Rattle.std.specs.Prelude.{◌≡◌, ◌⊎◌, Bool, T}
+use Rattle.std.specs.Prelude.{◌≡◌, ◌⊎◌, Bool, T, Err, Ok, Result}
 use Rattle.std.proofs.Math.Path.{sym}
 use Rattle.std.proofs.Common.{subst, ◌∙◌, ⊎_elim, eq-or-lt_of_le, le_of_suc-le-suc, add-one, arith}
 use Rattle.std.proofs.Math.Bool.{true, false}
@@ -69,7 +69,7 @@ module _ (b : Board) where
         (eq-or-lt_of_le (le_of_suc-le-suc (rw (add-one n) at h)))
 
     module _ (k : ℕ) where
-      pub found_none : k < n → Opinion.NotWithin ≡ searched b k
+      pub found_none : k < n → Ok Opinion.NotWithin ≡ searched b k
       unfolding searched least_depth
       found_none h =
           let low : lowest (decided_in b) (suc k) ≡ suc k =
@@ -77,7 +77,7 @@ module _ (b : Board) where
           sym (rw (low, lt-leb (suc k) k (omega arith)))
 
       module _ (h : n ≤ k) (found : Bool) (e : found ≡ asked_in b n) (t : found ≡ true) where
-        pub found-win : n % 2 ≡ 1 → Opinion.Win n ≡ searched b k
+        pub found-win : n % 2 ≡ 1 → Ok (Opinion.Win n) ≡ searched b k
         unfolding searched least_depth
         found-win o =
             let w : won chess n b ≡ true = sym (rw (eq-eqb (n % 2) 1 o)) ∙ sym e ∙ t in
@@ -85,7 +85,7 @@ module _ (b : Board) where
             lowest-is (decided_in b) (suc k) n (omega arith) below (in-won n (of-true w)) in
             sym (rw (low, le-leb n k h, w))
 
-        pub found-loss : (n % 2 ≡ 1 → ⊥) → Opinion.Loss n ≡ searched b k
+        pub found-loss : (n % 2 ≡ 1 → ⊥) → Ok (Opinion.Loss n) ≡ searched b k
         unfolding searched least_depth
         found-loss o =
             let l : lost chess n b ≡ true = sym (rw (ne_eqb (n % 2) 1 o)) ∙ sym e ∙ t in
@@ -107,7 +107,7 @@ module _ (s : Position) (n : ℕ) (found : Bool) where
 
 -- from the search to the answer
 module _ (p : Position) (k r : ℕ) (e : r ≡ standing_refusal p) where
-  pub opinion-refused : (r ≡ 0 → ⊥) → Opinion.Refused r ≡ opinion_of p k
+  pub opinion-refused : (r ≡ 0 → ⊥) → Err r ≡ opinion_of p k
   unfolding opinion_of
   opinion-refused n = sym (rw (ne_eqb (standing_refusal p) 0 (λ q. n (e ∙ q)), ← e))
 
@@ -116,10 +116,10 @@ module _ (p : Position) (k r : ℕ) (e : r ≡ standing_refusal p) where
     pub served-pawnless : Pawnless (board_of p)
     served-pawnless = legal-pawnless (board_of p) (standing-facts p (sym e ∙ z)).1
 
-    pub opinion-deep : most < k → Opinion.Refused 16 ≡ opinion_of p k
+    pub opinion-deep : most < k → Err 16 ≡ opinion_of p k
     unfolding opinion_of
     opinion-deep h = sym (rw (eq-eqb (standing_refusal p) 0 (sym e ∙ z), lt-leb k most h))
 
-    pub opinion-searched : (o : Opinion) → k ≤ most → o ≡ searched (board_of p) k → o ≡ opinion_of p k
+    pub opinion-searched : (o : Result Opinion ℕ) → k ≤ most → o ≡ searched (board_of p) k → o ≡ opinion_of p k
     unfolding opinion_of
     opinion-searched o h f = f ∙ sym (rw (eq-eqb (standing_refusal p) 0 (sym e ∙ z), le-leb k most h))

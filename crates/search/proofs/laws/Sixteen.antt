@@ -1,5 +1,5 @@
 -- Refusal 16 is given exactly where a legal position is asked of with more than 6 plies (02, P7).
-use Rattle.std.specs.Prelude.{◌≡◌, true, false, ◌⊎◌, ◌↔◌, ℕ, ◌-◌, ◌≤◌, ◌<◌, eqb, leb}
+use Rattle.std.specs.Prelude.{◌≡◌, true, false, ◌⊎◌, ◌↔◌, ℕ, ◌≤◌, ◌<◌, eqb, leb, Err, Ok, Result}
 use Rattle.std.proofs.Math.Path.{refl}
 use Rattle.std.proofs.Common.{sym, ap, ◌∙◌, inl, inr, arith, le-leb, eq-eqb, eqb-true}
 use Rattle.std.proofs.Math.Bool.{Bool, cond}
@@ -21,29 +21,29 @@ unfolding searched
 searched-answers b k = go (leb (least_depth b k) k) (won chess (least_depth b k) b) (least_depth b k)
   where
     go : (x y : Bool) (n : ℕ)
-        → (values_of (cond x (cond y (Opinion.Win n) (Opinion.Loss n)) Opinion.NotWithin)).refusal ≡ 0
+        → (values_of (cond x (cond y (Ok (Opinion.Win n)) (Ok (Opinion.Loss n))) (Ok Opinion.NotWithin))).refusal ≡ 0
     go true true n = refl
     go true false n = refl
     go false y n = refl
 
 module _ (p : Position) (k : ℕ) where
-  pub sixteen-exactly : (opinion_of p k ≡ Opinion.Refused 16) ↔ ((standing_refusal p ≡ 0) × (most < k))
+  pub sixteen-exactly : (opinion_of p k ≡ Err 16) ↔ ((standing_refusal p ≡ 0) × (most < k))
   unfolding opinion_of
   sixteen-exactly = (λ q. forth (eqb (standing_refusal p) 0) refl (le-or-lt k most) q, λ w. back w.0 w.1)
     where
-      told : Bool → Opinion
+      told : Bool → Result Opinion ℕ
       told x =
-          cond x (cond (leb k most) (searched (board_of p) k) (Opinion.Refused 16)) (Opinion.Refused (standing_refusal p))
+          cond x (cond (leb k most) (searched (board_of p) k) (Err 16)) (Err (standing_refusal p))
 
-      forth : (x : Bool) → eqb (standing_refusal p) 0 ≡ x → (k ≤ most) ⊎ (most < k) → told x ≡ Opinion.Refused 16
+      forth : (x : Bool) → eqb (standing_refusal p) 0 ≡ x → (k ≤ most) ⊎ (most < k) → told x ≡ Err 16
           → (standing_refusal p ≡ 0) × (most < k)
       forth true e (inr h) q = (eqb-true (standing_refusal p) 0 e, h)
       forth true e (inl h) q =
           absurd (let z : ◌≡◌ {A = ℕ} 0 16 = sym (searched-answers (board_of p) k)
-          ∙ ap (λ (o : Opinion). (values_of o).refusal) (rw (le-leb k most h) at q) in omega arith)
+          ∙ ap (λ (o : Result Opinion ℕ). (values_of o).refusal) (rw (le-leb k most h) at q) in omega arith)
       forth false e h q =
-          absurd (let z : standing_refusal p ≡ 16 = ap (λ (o : Opinion). (values_of o).refusal) q in
+          absurd (let z : standing_refusal p ≡ 16 = ap (λ (o : Result Opinion ℕ). (values_of o).refusal) q in
           omega (arith, standing-most p))
 
-      back : standing_refusal p ≡ 0 → most < k → told (eqb (standing_refusal p) 0) ≡ Opinion.Refused 16
+      back : standing_refusal p ≡ 0 → most < k → told (eqb (standing_refusal p) 0) ≡ Err 16
       back z h = rw (eq-eqb (standing_refusal p) 0 z, lt-leb k most h)

@@ -1,5 +1,5 @@
 -- What code has in hand of aim, piece by piece, and that trying only moves that may give check is enough for the last ply.
-use Rattle.std.specs.Prelude.{◌≡◌, false, ◌&&◌, ◌||◌, List, [], ◌∷◌}
+use Rattle.std.specs.Prelude.{◌≡◌, false, ◌&&◌, ◌||◌, List, [], ◌∷◌, None, Option, Some}
 use Rattle.std.proofs.Math.Path.{sym, ap, subst}
 use Rattle.std.proofs.Common.{◌∙◌, eq-eqb, ne_eqb}
 use Rattle.std.proofs.Math.Bool.{Bool, or-false}
@@ -20,8 +20,6 @@ use Rattle.rules.specs.declared.Move.{Move}
 use Rattle.rules.proofs.laws.MoveLists.{onto-none, onto-more}
 use Rattle.rules.specs.Sides.{moved-side}
 use Rattle.rules.specs.Chess.{chess}
-use Rattle.position.specs.declared.Slot.{Slot}
-use Rattle.position.specs.declared.Slot.TheVariants.{Absent, Present}
 use Rattle.position.specs.declared.Position.{Position}
 use Rattle.position.specs.Keyed.{slot_men, board_of}
 use Rattle.search.specs.Tried.{Pawnless, losing, aims, HoldsChecks}
@@ -35,11 +33,11 @@ module _ (occ : ℕ → Bool) (from at t : ℕ) where
   pub aims-here : (m : Piece) → m.square ≡ from → aims occ from at t m ≡ reaches occ m.kind at t
   aims-here m e = rw (eq-eqb m.square from e)
 
-  pub aims-absent : (slot : Slot) → slot ≡ Absent → any (aims occ from at t) (slot_men slot) ≡ false
+  pub aims-absent : (slot : Option Piece) → slot ≡ None → any (aims occ from at t) (slot_men slot) ≡ false
   unfolding any
   aims-absent slot e = rw e
 
-  pub aims-present : (slot : Slot) (m : Piece) → slot ≡ Present m
+  pub aims-present : (slot : Option Piece) (m : Piece) → slot ≡ Some m
       → any (aims occ from at t) (slot_men slot) ≡ aims occ from at t m
   unfolding any
   aims-present slot m e = rw e (or-false (aims occ from at t m))

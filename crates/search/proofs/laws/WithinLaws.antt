@@ -133,14 +133,14 @@ module _ (f : Move → Bool) (total : Bool) (b : Board) where
         → all f (moves_left b from targets others) ≡ total
     all-piece e w = sym (ap (all f) (on-turn b rest from others targets low e)) ∙ w
 
-  module _ (from targets rest : ℕ) (z : targets ≡ 0) where
+  module _ (from targets rest : ℕ) (z : members targets ≡ []) where
     pub any-piece-end : any f (moves_left b from targets rest) ≡ total → any f (moves_on b rest) ≡ total
     any-piece-end w = sym (ap (any f) (left-none b from targets rest z)) ∙ w
 
     pub all-piece-end : all f (moves_left b from targets rest) ≡ total → all f (moves_on b rest) ≡ total
     all-piece-end w = sym (ap (all f) (left-none b from targets rest z)) ∙ w
 
-  module _ (rest : ℕ) (z : rest ≡ 0) where
+  module _ (rest : ℕ) (z : members rest ≡ []) where
     pub any-end : any f (moves_on b rest) ≡ total → false ≡ total
     unfolding any
     any-end w = sym (ap (any f) (on_none b rest z)) ∙ w

@@ -1,11 +1,10 @@
 -- One byte of a right set's header altered: refused 14, but for a code that becomes another between its neighbours.
-use Rattle.std.specs.Prelude.{◌≡◌, refl, true, false, List, [], ◌∷◌, ◌++◌, ℕ, zero, suc, ◌+◌, ◌*◌, ◌/◌, ◌%◌, ◌<◌, ◌≤◌, eqb, length, get_or, drop, set}
+use Rattle.std.specs.Prelude.{◌≡◌, refl, true, false, List, [], ◌∷◌, ◌++◌, ℕ, zero, suc, ◌+◌, ◌*◌, ◌/◌, ◌%◌, ◌<◌, ◌≤◌, eqb, length, get_or, drop, set, Err}
 use Rattle.std.proofs.Common.{sym, ap, ◌∙◌, arith, eqb→eq, length-set, drop_at, get_or-set_same, le-ltb, eq-eqb}
 use Rattle.std.proofs.Math.ListN.{get_or-append}
 use Rattle.std.proofs.lemmas.List.{set-append_left}
 use Rattle.finite.specs.Truth.{same_test, by-test, fails, of-true, true_of}
 use Rattle.endings.specs.Ending.{table_size}
-use Rattle.sets.specs.declared.Found.{Found}
 use Rattle.sets.specs.Layout.{word4, header_size, entries_of, header_of, rising, RightSet}
 use Rattle.sets.specs.Answers.{right_set, find_of}
 use Rattle.sets.proofs.laws.Sizes.{length-header}
@@ -171,7 +170,7 @@ module _ (s cs : List ℕ) (right : RightSet s cs) (small : Bytes s) where
 
   -- so the reader refuses 14
   pub altered-14 : (i b code : ℕ) → i < header_size (length cs) → b < 256 → (b ≡ get_or s i 0 → ⊥) → (i % 12 ≡ 4 → ⊥)
-      → code ≤ 3 → find_of (set s i b) code ≡ Found.Refused 14
+      → code ≤ 3 → find_of (set s i b) code ≡ Err 14
   unfolding find_of
   altered-14 i b code h k other no? known = rw (le-ltb 3 code known, altered-wrong i b h k other no?)
 
@@ -222,6 +221,6 @@ module _ (s : List ℕ) (right : RightSet s (0 ∷ 1 ∷ 2 ∷ 3 ∷ [])) (small
       by-test (eqb (i % 12) 4) (λ t. code-wrong (eqb→eq (i % 12) 4 t))
       (λ no?. altered-wrong s all right small i b h k other (λ e. no? (of-true (eq-eqb (i % 12) 4 e))))
 
-  pub four-altered-14 : find_of (set s i b) code ≡ Found.Refused 14
+  pub four-altered-14 : find_of (set s i b) code ≡ Err 14
   unfolding find_of
   four-altered-14 = rw (le-ltb 3 code known, four-wrong)

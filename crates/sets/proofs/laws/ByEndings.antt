@@ -1,5 +1,5 @@
 -- A header, then each chosen ending filled in its own part, one after the other: what the writer leaves.
-use Rattle.std.specs.Prelude.{◌≡◌, refl, Bool, List, [], ◌∷◌, ◌++◌, ℕ, ◌+◌, ◌*◌, ◌<◌, ◌≤◌, take, drop}
+use Rattle.std.specs.Prelude.{◌≡◌, refl, Bool, List, [], ◌∷◌, ◌++◌, ℕ, ◌+◌, ◌*◌, ◌<◌, ◌≤◌, take, drop, Ok, Err, Result}
 use Rattle.std.proofs.Math.Path.{sym, ap}
 use Rattle.std.proofs.Common.{ap₂, ◌∙◌, append_assoc, arith, length-take, length-drop, length-append, take-append-drop, take_at, eq-eqb, ne_eqb}
 use Rattle.std.proofs.Math.Bool.{true, false, cond}
@@ -12,8 +12,6 @@ use Rattle.endings.specs.Answers.{fill_of}
 use Rattle.endings.specs.FilledTrue.{FillTrue}
 use Rattle.endings.proofs.laws.FilledTrue.{filled-true, fill-keeps-length}
 use Rattle.sets.specs.declared.Choice.{Choice}
-use Rattle.sets.specs.declared.Found.{Found}
-use Rattle.sets.specs.declared.Written.{Written}
 use Rattle.sets.specs.Layout.{codes_of, header_size, set_size, header_of, rising, RightSet, place_of}
 use Rattle.sets.specs.Answers.{is_refusal, filled_at, fill_in_of, find_of, said_of, fill_each, write_of, start_of}
 use Rattle.sets.proofs.laws.Sizes.{length-header}
@@ -33,7 +31,7 @@ rising-at (p ∷ pre) cs least c r =
 
 -- its table starts after those before it
 place_at : (pre cs : List ℕ) (least c offset : ℕ) → rising least (pre ++ (c ∷ cs)) ≡ true
-    → place_of (pre ++ (c ∷ cs)) offset c ≡ Found.At (offset + table_size * length pre)
+    → place_of (pre ++ (c ∷ cs)) offset c ≡ Ok (offset + table_size * length pre)
 unfolding place_of
 place_at [] cs least c offset r = let z : offset + table_size * 0 ≡ offset = omega arith in rw (eq-eqb c c refl, z)
 place_at (p ∷ pre) cs least c offset r =
@@ -41,7 +39,7 @@ place_at (p ∷ pre) cs least c offset r =
     let g = rising-at pre cs (p + 1) c f.2 in
     let no? : p ≡ c → ⊥ = λ e. omega (arith, g.0) in
     let z : offset + table_size + table_size * length pre ≡ offset + table_size * length (p ∷ pre) = omega arith in
-    rw (ne_eqb p c no?) (place_at pre cs (p + 1) c (offset + table_size) f.2 ∙ ap Found.At z)
+    rw (ne_eqb p c no?) (place_at pre cs (p + 1) c (offset + table_size) f.2 ∙ ap Ok z)
 
 -- ---- the header stays as the tables are filled
 
@@ -61,10 +59,10 @@ right_kept u codes ys at right h l =
 -- ---- filling refuses with 10 only
 
 ten : (code : ℕ) (t : List ℕ) → code < 4 → length t ≡ table_size → is_refusal (fill_of code t).answer ≡ true
-    → said_of (fill_of code t).answer ≡ Written.Refused 10
+    → said_of (fill_of code t).answer ≡ Err 10
 ten code t known long e = go (filled-true code t known long)
   where
-    go : FillTrue code (fill_of code t) → said_of (fill_of code t).answer ≡ Written.Refused 10
+    go : FillTrue code (fill_of code t) → said_of (fill_of code t).answer ≡ Err 10
     go (FillTrue.greatest n a w d m l) = absurd (true-not-false e (ap is_refusal a))
     go (FillTrue.none-decided a w d) = absurd (true-not-false e (ap is_refusal a))
     go (FillTrue.too-deep a z n h d) = ap said_of a
@@ -85,20 +83,20 @@ module _ (c at : ℕ) (cs u codes : List ℕ) (known : c < 4) (right : RightSet 
       let l : length (fill_of c part).bytes ≡ table_size = fill-keeps-length c part known part-long in
       rw e (right_kept u codes (fill_of c part).bytes at right after (omega arith))
 
-  said : is_refusal (filled_at c at u).answer ≡ true → said_of (filled_at c at u).answer ≡ Written.Refused 10
+  said : is_refusal (filled_at c at u).answer ≡ true → said_of (filled_at c at u).answer ≡ Err 10
   unfolding filled_at
   said e = ten c part known part-long e
 
   one : (is_refusal (filled_at c at u).answer ≡ false
       → fill_each cs (filled_at c at u).bytes ≡ finish cs (at + table_size) (filled_at c at u).bytes)
-      → find_of u c ≡ Found.At at → fill_each (c ∷ cs) u ≡ finish (c ∷ cs) at u
+      → find_of u c ≡ Ok at → fill_each (c ∷ cs) u ≡ finish (c ∷ cs) at u
   unfolding fill_each fill_in_of
   one later found = rw found (go (is_refusal (filled_at c at u).answer) refl)
     where
       go : (b : Bool) → b ≡ is_refusal (filled_at c at u).answer
           → cond b (record { answer = said_of (filled_at c at u).answer; bytes = (filled_at c at u).bytes })
           (fill_each cs (filled_at c at u).bytes) ≡ finish (c ∷ cs) at u
-      go true e = ap (λ (x : Written). record { answer = x; bytes = (filled_at c at u).bytes }) (said (sym e))
+      go true e = ap (λ (x : Result (Unit {0}) ℕ). record { answer = x; bytes = (filled_at c at u).bytes }) (said (sym e))
           ∙ sym (finish-refused c at u cs known fits (sym e))
       go false e = later (sym e) ∙ finish-on c at u cs known fits (sym e)
 
@@ -115,7 +113,7 @@ each codes pre (c ∷ cs) u ec right =
     let k = rising-at pre cs 0 c r in
     let l : length codes ≡ length pre + length (c ∷ cs) = ap length ec ∙ length-append pre (c ∷ cs) in
     let fits : at + table_size ≤ length u = omega (arith, right.long) in
-    let found : find_of u c ≡ Found.At at = right-place u codes right c (omega (arith, k.1))
+    let found : find_of u c ≡ Ok at = right-place u codes right c (omega (arith, k.1))
     ∙ ap (λ (x : List ℕ). place_of x n c) ec ∙ place_at pre cs 0 c n r in
     let z : n + table_size * length (pre ++ (c ∷ [])) ≡ at + table_size = omega (arith, length-append pre (c ∷ [])) in
     one c at cs u codes k.1 right (omega arith) fits

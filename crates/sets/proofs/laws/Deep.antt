@@ -1,5 +1,5 @@
 -- The writer gives 10 exactly where the set is as long as the choice needs and a chosen ending's true depth exceeds 253; the set is then all zero.
-use Rattle.std.specs.Prelude.{◌≡◌, Bool, cond, not, ◌||◌, List, ◌∷◌, ◌++◌, eqb, take, drop}
+use Rattle.std.specs.Prelude.{◌≡◌, Bool, cond, not, ◌||◌, List, ◌∷◌, ◌++◌, eqb, take, drop, Err, Ok}
 use Rattle.std.proofs.Math.Path.{refl}
 use Rattle.std.proofs.Common.{sym, ap, length-take}
 use Rattle.std.proofs.Math.Bool.{true, false}
@@ -15,7 +15,6 @@ use Rattle.endings.specs.Answers.{fill_of}
 use Rattle.endings.specs.FilledTrue.{Decided, FillTrue}
 use Rattle.endings.proofs.laws.FilledTrue.{filled-true, refused-10}
 use Rattle.sets.specs.declared.Choice.{Choice}
-use Rattle.sets.specs.declared.Written.{Written}
 use Rattle.sets.specs.Layout.{chosen, codes_from, codes_of, header_size, set_size, header_of}
 use Rattle.sets.specs.Answers.{is_refusal, tables_of, refused_one, SetWritten, write_of}
 
@@ -103,20 +102,20 @@ module _ (ch : Choice) where
   module _ (s : List ℕ) where
     abbrev answer : Bool → Bool → SetWritten
     answer a b =
-        cond (not a) (record { answer = Written.Refused 14; bytes = s })
-        (cond b (record { answer = Written.Refused 10; bytes = map_from (λ n b. 0) 0 s })
+        cond (not a) (record { answer = Err 14; bytes = s })
+        (cond b (record { answer = Err 10; bytes = map_from (λ n b. 0) 0 s })
         (record {
-          answer = Written.Done;
+          answer = Ok tt;
           bytes = header_of (codes_of ch) ++ tables_of (codes_of ch) (drop (header_size (length (codes_of ch))) s);
         }))
 
-    answer-10 : (a b : Bool) → (answer a b).answer ≡ Written.Refused 10
+    answer-10 : (a b : Bool) → (answer a b).answer ≡ Err 10
         → (a ≡ true) × (b ≡ true) × ((answer a b).bytes ≡ map_from (λ n b. 0) 0 s)
     answer-10 false b e = let z : ◌≡◌ {A = ℕ} 10 14 = cc in absurd (omega arith)
     answer-10 true true e = (refl, refl, refl)
     answer-10 true false e = let z : ◌≡◌ {A = ℕ} 0 1 = cc in absurd (omega arith)
 
-    pub written-10 : (write_of ch s).answer ≡ Written.Refused 10
+    pub written-10 : (write_of ch s).answer ≡ Err 10
         → (length s ≡ set_size (length (codes_of ch))) × ((write_of ch s).bytes ≡ map_from (λ n b. 0) 0 s)
         × ((code : ℕ) × (code < 4) × (chosen ch code ≡ true) × TooDeep code)
     unfolding write_of codes_of
@@ -127,7 +126,7 @@ module _ (ch : Choice) where
         (l, k.2, deep-forth 4 0 (omega arith) (drop n s) (simp length-drop (omega arith)) k.1)
 
     pub deep-10 : length s ≡ set_size (length (codes_of ch)) → (code : ℕ) → code < 4 → chosen ch code ≡ true
-        → TooDeep code → (write_of ch s).answer ≡ Written.Refused 10
+        → TooDeep code → (write_of ch s).answer ≡ Err 10
     unfolding write_of codes_of
     deep-10 l code known took deep =
         rw (

@@ -1,5 +1,5 @@
 -- What the writer gives if some tables are still to come, and one of them filled.
-use Rattle.std.specs.Prelude.{◌≡◌, true, false, cond, ℕ, ◌+◌, ◌<◌, ◌≤◌, eqb, length}
+use Rattle.std.specs.Prelude.{◌≡◌, true, false, cond, ℕ, ◌+◌, ◌<◌, ◌≤◌, eqb, length, Err, Ok}
 use mathlib.Core.List.{List, [], ◌∷◌, ◌++◌, append_assoc, append-nil}
 use Rattle.std.proofs.Common.{arith, length-take, length-drop, take_all, eq-eqb}
 use Rattle.std.proofs.Math.ListN.{take, drop}
@@ -10,7 +10,6 @@ use Rattle.endings.specs.Ending.{table_size}
 use Rattle.endings.specs.Answers.{Fill, fill_of}
 use Rattle.endings.proofs.laws.FilledTrue.{fill-keeps-length}
 use Rattle.sets.specs.declared.Choice.{Choice}
-use Rattle.sets.specs.declared.Written.{Written}
 use Rattle.sets.specs.Layout.{codes_of, header_size, set_size, header_of}
 use Rattle.sets.specs.Answers.{is_refusal, filled_at, tables_of, refused_one, SetWritten, write_of}
 use Rattle.sets.proofs.laws.Sizes.{length-header}
@@ -18,10 +17,10 @@ use Rattle.sets.proofs.laws.Sizes.{length-header}
 -- what the writer leaves if the tables of the codes are still to come, from a place on
 unfoldable pub finish : List ℕ → ℕ → List ℕ → SetWritten
 finish cs at s =
-    cond (refused_one cs (drop at s)) (record { answer = Written.Refused 10; bytes = map_from (λ n b. 0) 0 s })
-    (record { answer = Written.Done; bytes = take at s ++ tables_of cs (drop at s) })
+    cond (refused_one cs (drop at s)) (record { answer = Err 10; bytes = map_from (λ n b. 0) 0 s })
+    (record { answer = Ok tt; bytes = take at s ++ tables_of cs (drop at s) })
 
-pub finish-end : (at : ℕ) (s : List ℕ) → length s ≤ at → finish [] at s ≡ record { answer = Written.Done; bytes = s }
+pub finish-end : (at : ℕ) (s : List ℕ) → length s ≤ at → finish [] at s ≡ record { answer = Ok tt; bytes = s }
 unfolding finish refused_one tables_of
 finish-end at s h = rw (append-nil (take at s), take_all at s h)
 
@@ -57,7 +56,7 @@ module _ (c at : ℕ) (s cs : List ℕ) (known : c < 4) (fits : at + table_size 
 
   -- filling refuses the table
   pub finish-refused : is_refusal (filled_at c at s).answer ≡ true
-      → finish (c ∷ cs) at s ≡ record { answer = Written.Refused 10; bytes = (filled_at c at s).bytes }
+      → finish (c ∷ cs) at s ≡ record { answer = Err 10; bytes = (filled_at c at s).bytes }
   unfolding finish refused_one filled_at
   finish-refused e = rw e
 

@@ -1,5 +1,5 @@
 -- What the writer leaves is a right set, and the reader gives back each chosen ending's filled table.
-use Rattle.std.specs.Prelude.{◌≡◌, Bool, true, false, cond, not, ◌||◌, ◌↔◌, eqb, take, drop}
+use Rattle.std.specs.Prelude.{◌≡◌, Bool, true, false, cond, not, ◌||◌, ◌↔◌, eqb, take, drop, Err, Ok}
 use Rattle.std.proofs.Math.Path.{refl, sym}
 use Rattle.std.proofs.Common.{ap, ◌∙◌, arith, length-append, length-take, length-drop, drop_of_length-le, drop-drop, drop_at, eq-eqb, ne_eqb, eqb-true}
 use mathlib.Core.List.{List, [], ◌∷◌, ◌++◌, append-nil}
@@ -16,8 +16,6 @@ use Rattle.endings.specs.Truth.{TrueTable}
 use Rattle.endings.proofs.laws.Checking.{accepts-true-only}
 use Rattle.endings.proofs.laws.FilledTrue.{fill-keeps-length, filled-accepted}
 use Rattle.sets.specs.declared.Choice.{Choice}
-use Rattle.sets.specs.declared.Found.{Found}
-use Rattle.sets.specs.declared.Written.{Written}
 use Rattle.sets.specs.Layout.{chosen, codes_of, header_size, set_size, header_of, rising, RightSet, place_of}
 use Rattle.sets.specs.Answers.{right_set, find_of, part_of, is_refusal, tables_of, refused_one, SetWritten, write_of}
 use Rattle.sets.proofs.laws.Sizes.{length-header}
@@ -41,7 +39,7 @@ length-tables (c ∷ cs) least s r h =
 -- the table of a code that is there: the fill of what stood at its place
 pub table-lies : (w s : List ℕ) (code o : ℕ) (cs : List ℕ) (least offset : ℕ) → rising least cs ≡ true
     → offset + table_size * length cs ≤ length s → Lies w offset (tables_of cs (drop offset s))
-    → place_of cs offset code ≡ Found.At o
+    → place_of cs offset code ≡ Ok o
     → (code < 4) × (o + table_size ≤ length s) × Lies w o (fill_of code (take table_size (drop o s))).bytes
 unfolding tables_of place_of
 table-lies w s code o [] least offset r h l e = let z : ◌≡◌ {A = ℕ} 0 1 = cc in absurd (omega arith)
@@ -59,9 +57,9 @@ table-lies w s code o (c ∷ cs) least offset r h l e =
     (λ q. table-lies w s code o cs (c + 1) (offset + table_size) f.2 (omega arith) m q) e
   where
     go : (b : Bool) → b ≡ eqb c code → c < 4 → Lies w offset (fill_of c (take table_size (drop offset s))).bytes
-        → (place_of cs (offset + table_size) code ≡ Found.At o
+        → (place_of cs (offset + table_size) code ≡ Ok o
         → (code < 4) × (o + table_size ≤ length s) × Lies w o (fill_of code (take table_size (drop o s))).bytes)
-        → cond b (Found.At offset) (place_of cs (offset + table_size) code) ≡ Found.At o
+        → cond b (Ok offset) (place_of cs (offset + table_size) code) ≡ Ok o
         → (code < 4) × (o + table_size ≤ length s) × Lies w o (fill_of code (take table_size (drop o s))).bytes
     go true eb k x later q =
         let z : offset ≡ o = cc in
@@ -71,7 +69,7 @@ table-lies w s code o (c ∷ cs) least offset r h l e =
 
 -- none is refused, so not this one
 pub one-not-refused : (s : List ℕ) (code o : ℕ) (cs : List ℕ) (offset : ℕ) → refused_one cs (drop offset s) ≡ false
-    → place_of cs offset code ≡ Found.At o → is_refusal (fill_of code (take table_size (drop o s))).answer ≡ false
+    → place_of cs offset code ≡ Ok o → is_refusal (fill_of code (take table_size (drop o s))).answer ≡ false
 unfolding refused_one place_of
 one-not-refused s code o [] offset r e = let z : ◌≡◌ {A = ℕ} 0 1 = cc in absurd (omega arith)
 one-not-refused s code o (c ∷ cs) offset r e =
@@ -85,9 +83,9 @@ one-not-refused s code o (c ∷ cs) offset r e =
     neither true b q = absurd (true-not-false {b = true} refl q)
 
     go : (b : Bool) → b ≡ eqb c code → is_refusal (fill_of c (take table_size (drop offset s))).answer ≡ false
-        → (place_of cs (offset + table_size) code ≡ Found.At o
+        → (place_of cs (offset + table_size) code ≡ Ok o
         → is_refusal (fill_of code (take table_size (drop o s))).answer ≡ false)
-        → cond b (Found.At offset) (place_of cs (offset + table_size) code) ≡ Found.At o
+        → cond b (Ok offset) (place_of cs (offset + table_size) code) ≡ Ok o
         → is_refusal (fill_of code (take table_size (drop o s))).answer ≡ false
     go true eb x later q =
         let z : offset ≡ o = cc in
@@ -97,7 +95,7 @@ one-not-refused s code o (c ∷ cs) offset r e =
 
 -- ---- what the writer leaves
 
-module _ (ch : Choice) (s : List ℕ) (done : (write_of ch s).answer ≡ Written.Done) where
+module _ (ch : Choice) (s : List ℕ) (done : (write_of ch s).answer ≡ Ok tt) where
   abbrev codes : List ℕ
   codes = codes_of ch
 
@@ -116,12 +114,12 @@ module _ (ch : Choice) (s : List ℕ) (done : (write_of ch s).answer ≡ Written
 
       answer : Bool → Bool → SetWritten
       answer a b =
-          cond (not a) (record { answer = Written.Refused 14; bytes = s })
-          (cond b (record { answer = Written.Refused 10; bytes = map_from (λ n b. 0) 0 s })
-          (record { answer = Written.Done; bytes = left }))
+          cond (not a) (record { answer = Err 14; bytes = s })
+          (cond b (record { answer = Err 10; bytes = map_from (λ n b. 0) 0 s })
+          (record { answer = Ok tt; bytes = left }))
 
       go : (a b : Bool) → a ≡ eqb (length s) (set_size (length (codes_of ch)))
-          → b ≡ refused_one (codes_of ch) (drop (header_size (length (codes_of ch))) s) → (answer a b).answer ≡ Written.Done
+          → b ≡ refused_one (codes_of ch) (drop (header_size (length (codes_of ch))) s) → (answer a b).answer ≡ Ok tt
           → (length s ≡ set_size (length (codes_of ch)))
           × (refused_one (codes_of ch) (drop (header_size (length (codes_of ch))) s) ≡ false) × ((answer a b).bytes ≡ left)
       go false b ea eb e = let z : ◌≡◌ {A = ℕ} 0 1 = cc in absurd (omega arith)
@@ -164,7 +162,7 @@ module _ (ch : Choice) (s : List ℕ) (done : (write_of ch s).answer ≡ Written
 
   -- AN ENDING THAT WAS NOT CHOSEN IS 15
   pub unchosen-is-15 : (code : ℕ) → code ≤ 3 → chosen ch code ≡ false
-      → find_of (write_of ch s).bytes code ≡ Found.Refused 15
+      → find_of (write_of ch s).bytes code ≡ Err 15
   unfolding codes_of
   unchosen-is-15 code h no? = right-place (write_of ch s).bytes (codes_of ch) written-right code h
       ∙ unchosen-place ch code no? 4 0 (header_size (length (codes_of ch)))
@@ -180,13 +178,13 @@ module _ (ch : Choice) (s : List ℕ) (done : (write_of ch s).answer ≡ Written
 
   -- A CHOSEN ENDING IS FOUND, AND ITS PART IS THE FILL OF WHAT STOOD THERE
   pub chosen-read-back : (code : ℕ) → code ≤ 3 → chosen ch code ≡ true
-      → (o : ℕ) × (find_of (write_of ch s).bytes code ≡ Found.At o)
+      → (o : ℕ) × (find_of (write_of ch s).bytes code ≡ Ok o)
       × (part_of (write_of ch s).bytes code ≡ (fill_of code (take table_size (drop o s))).bytes)
   unfolding codes_of part_of
   chosen-read-back code h took =
       let n = header_size (length (codes_of ch)) in
       let p = chosen-place ch code took 4 0 n (omega arith) (omega arith) in
-      let f : find_of (write_of ch s).bytes code ≡ Found.At p.0 =
+      let f : find_of (write_of ch s).bytes code ≡ Ok p.0 =
       right-place (write_of ch s).bytes (codes_of ch) written-right code h ∙ p.1 in
       let t = table-lies (write_of ch s).bytes s code p.0 (codes_of ch) 0 n all-rise
       (omega (arith, written-whole.0)) tables-lie p.1 in
@@ -202,12 +200,12 @@ module _ (ch : Choice) (s : List ℕ) (done : (write_of ch s).answer ≡ Written
 
   -- AND THE CHECKER ACCEPTS IT
   pub chosen-accepted : (code : ℕ) → code ≤ 3 → chosen ch code ≡ true
-      → check_of code (part_of (write_of ch s).bytes code) ≡ Checked.Accepted
+      → check_of code (part_of (write_of ch s).bytes code) ≡ Ok Checked.Accepted
   unfolding codes_of
   chosen-accepted code h took =
       let n = header_size (length (codes_of ch)) in
       let b = chosen-read-back code h took in
-      let q : place_of (codes_of ch) n code ≡ Found.At b.0 =
+      let q : place_of (codes_of ch) n code ≡ Ok b.0 =
       sym (right-place (write_of ch s).bytes (codes_of ch) written-right code h) ∙ b.1 in
       let t = table-lies (write_of ch s).bytes s code b.0 (codes_of ch) 0 n all-rise
       (omega (arith, written-whole.0)) tables-lie q in
@@ -226,7 +224,7 @@ module _ (ch : Choice) (s : List ℕ) (done : (write_of ch s).answer ≡ Written
 
 -- 14 exactly where the length is another
 pub refused-14 : (ch : Choice) (s : List ℕ)
-    → ((write_of ch s).answer ≡ Written.Refused 14) ↔ (length s ≡ set_size (length (codes_of ch)) → ⊥)
+    → ((write_of ch s).answer ≡ Err 14) ↔ (length s ≡ set_size (length (codes_of ch)) → ⊥)
 unfolding write_of
 refused-14 ch s = (
   forth (eqb (length s) (set_size (length (codes_of ch))))
@@ -236,14 +234,14 @@ refused-14 ch s = (
   where
     answer : Bool → Bool → SetWritten
     answer a b =
-        cond (not a) (record { answer = Written.Refused 14; bytes = s })
-        (cond b (record { answer = Written.Refused 10; bytes = map_from (λ n b. 0) 0 s })
+        cond (not a) (record { answer = Err 14; bytes = s })
+        (cond b (record { answer = Err 10; bytes = map_from (λ n b. 0) 0 s })
         (record {
-          answer = Written.Done;
+          answer = Ok tt;
           bytes = header_of (codes_of ch) ++ tables_of (codes_of ch) (drop (header_size (length (codes_of ch))) s);
         }))
 
-    forth : (a b : Bool) → a ≡ eqb (length s) (set_size (length (codes_of ch))) → (answer a b).answer ≡ Written.Refused 14
+    forth : (a b : Bool) → a ≡ eqb (length s) (set_size (length (codes_of ch))) → (answer a b).answer ≡ Err 14
         → length s ≡ set_size (length (codes_of ch)) → ⊥
     forth false b ea e l = true-not-false (eq-eqb (length s) (set_size (length (codes_of ch))) l) (sym ea)
     forth true true ea e l = let z : ◌≡◌ {A = ℕ} 10 14 = cc in omega arith

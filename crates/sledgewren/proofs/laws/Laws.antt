@@ -1,5 +1,5 @@
 -- Laws for the code: bytes written one after the other, and the answers by the test of a lent length.
-use Rattle.std.specs.Prelude.{◌≡◌, Bool, true, false, cond, ℕ, ◌+◌, ◌-◌, ◌*◌, ◌≤◌, ◌<◌, eqb, get_or, set, drop, replicate}
+use Rattle.std.specs.Prelude.{◌≡◌, Bool, true, false, cond, ℕ, ◌+◌, ◌-◌, ◌*◌, ◌≤◌, ◌<◌, eqb, get_or, set, drop, replicate, Err, Ok}
 use Rattle.std.proofs.Math.Path.{refl, sym, ap}
 use Rattle.std.proofs.Common.{◌∙◌, subst, zero-add, add-zero, add-one, arith, drop-cons, eq-eqb, ne_eqb, eqb-true}
 use mathlib.Core.List.{List, [], ◌++◌, flat_map, append-nil}
@@ -13,7 +13,6 @@ use Rattle.rules.specs.Rules.{moves, all_moves}
 use Rattle.position.specs.declared.Position.{Position}
 use Rattle.position.specs.Keyed.{board_of}
 use Rattle.position.specs.Refusals.{standing_with}
-use Rattle.move_list.specs.declared.Counted.TheVariants.{Count, Refused}
 use Rattle.move_list.specs.Answers.{moves_of, count_answer}
 use Rattle.move_list.proofs.laws.Served.{served-moves, few-moves}
 use Rattle.move_list.proofs.laws.ListLaws.{drop-replicate}
@@ -70,7 +69,7 @@ list-word p = go (eqb (standing_with p) 0) refl
   where
     go : (b : Bool) → eqb (standing_with p) 0 ≡ b
         → standing_with p + length (cond b (moves (board_of p)) []) * 256
-        ≡ count_word (cond b (Count (length (moves (board_of p)))) (Refused (standing_with p)))
+        ≡ count_word (cond b (Ok (length (moves (board_of p)))) (Err (standing_with p)))
     go true e = rw (eqb-true (standing_with p) 0 e) (zero-add (length (moves (board_of p)) * 256))
     go false e = add-zero (standing_with p)
 

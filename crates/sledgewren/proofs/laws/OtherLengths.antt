@@ -1,11 +1,10 @@
 -- The words for a lent list or slip of another length are no answer's words.
-use Rattle.std.specs.Prelude.{◌≡◌, Bool, true, false, cond, List, ℕ, ◌≤◌, eqb, length}
+use Rattle.std.specs.Prelude.{◌≡◌, Bool, true, false, cond, List, ℕ, ◌≤◌, eqb, length, Err, Ok}
 use Rattle.std.proofs.Common.{arith, eq-eqb}
 use Rattle.rules.specs.Rules.{moves}
 use Rattle.position.specs.declared.Position.{Position}
 use Rattle.position.specs.Keyed.{board_of}
 use Rattle.position.specs.Refusals.{standing_with}
-use Rattle.move_list.specs.declared.Counted.{Counted}
 use Rattle.move_list.specs.Answers.{count_answer}
 use Rattle.adjudication.proofs.laws.Short.{reply-short}
 use Rattle.position.proofs.laws.BothSizes.{standing-with-most}
@@ -16,7 +15,7 @@ unfolding count_answer
 not_255 p = go (eqb (standing_with p) 0) (standing-with-most p)
   where
     go : (b : Bool) → standing_with p ≤ 18
-        → count_word (cond b (Counted.Count (length (moves (board_of p)))) (Counted.Refused (standing_with p))) ≡ 255
+        → count_word (cond b (Ok (length (moves (board_of p)))) (Err (standing_with p))) ≡ 255
         → ⊥
     go true h e = omega arith
     go false h e = omega arith

@@ -1,10 +1,10 @@
 -- No two answers of the pocket edition share a word.
-use Rattle.std.specs.Prelude.{◌≡◌, refl, Bool, true, false, cond, not, eqb, length}
+use Rattle.pocket.specs.declared.Tallies.{Tallies}
+use Rattle.std.specs.Prelude.{◌≡◌, refl, Bool, true, false, cond, not, eqb, length, Err, Ok, Result}
 use Rattle.std.proofs.Common.{sym, ap₂, ◌∙◌, arith}
 use mathlib.Core.List.{List}
 use Prim.Native.Nat.{ℕ, ◌+◌, ◌*◌, ◌<◌}
 use Rattle.pocket.specs.declared.PocketAnswer.{PocketAnswer}
-use Rattle.pocket.specs.declared.Tallied.{Tallied}
 use Rattle.pocket.specs.Pocket.{pocket_size, Told, told_by}
 use Rattle.pocket.proofs.laws.Refusals.{told-one}
 use Rattle.pocket.specs.Tally.{count_of, tally_of}
@@ -18,7 +18,7 @@ word-told : (a b c d : ℕ) → a < 256 → c < 256 → a + b * 256 ≡ c + d * 
 word-told a b c d h k e = ap₂ (λ (x y : ℕ). record { refusal = x; value = y }) (omega arith) (omega arith)
 
 -- a refusal is a byte
-pub answer-word-one : (a b : PocketAnswer) → (told_by a).refusal < 256 → (told_by b).refusal < 256
+pub answer-word-one : (a b : Result PocketAnswer ℕ) → (told_by a).refusal < 256 → (told_by b).refusal < 256
     → told_word (told_by a) ≡ told_word (told_by b) → a ≡ b
 answer-word-one a b h k e = told-one a b (word-told _ _ _ _ h k e)
 
@@ -51,12 +51,12 @@ module _ (p q : List ℕ) where
   unfolding tally_of
   tallies-word-one e = go (eqb (length p) pocket_size) (eqb (length q) pocket_size) e
     where
-      tallies : List ℕ → Tallied
+      tallies : List ℕ → Result Tallies ℕ
       tallies l =
-          Tallied.Counted (record { none = count_of l 0; draws = count_of l 1; wins = count_of l 2; losses = count_of l 3 })
+          Ok (record { none = count_of l 0; draws = count_of l 1; wins = count_of l 2; losses = count_of l 3 })
 
-      answer : Bool → List ℕ → Tallied
-      answer b l = cond (not b) (Tallied.Refused 7) (tallies l)
+      answer : Bool → List ℕ → Result Tallies ℕ
+      answer b l = cond (not b) (Err 7) (tallies l)
 
       go : (b c : Bool) → tallied_word (answer b p) ≡ tallied_word (answer c q) → answer b p ≡ answer c q
       go true true e =

@@ -20,7 +20,7 @@ seven-list ds e =
       none,
     )
 
-seven-word : (k : ℕ) (ds : List ℕ) → length ds ≡ 7
+pub seven-word : (k : ℕ) (ds : List ℕ) → length ds ≡ 7
     → k + get_or ds 0 0 * 256 + get_or ds 1 0 * 65536 + get_or ds 2 0 * 16777216 + get_or ds 3 0 * 4294967296 + get_or ds 4
     0 * 1099511627776 + get_or ds 5 0 * 281474976710656 + get_or ds 6 0 * 72057594037927936 ≡ bytes_word (k ∷ ds)
 seven-word k ds e = let s = ap bytes_word (seven-list ds e) in omega arith

@@ -1,13 +1,12 @@
 -- No two different answers have the same slip: a number ends where a byte below "0" stands, and a target's file is never an `x`.
-use Rattle.std.specs.Prelude.{◌≡◌, refl, Bool, true, false, ◌&&◌, List, [], ◌∷◌, ◌++◌, ℕ, ◌+◌, ◌*◌, ◌-◌, ◌/◌, ◌%◌, ◌<◌, T, leb, eqb, ltb, get_or}
+use Rattle.rules.specs.declared.Move.{Move}
+use Rattle.std.specs.Prelude.{◌≡◌, refl, Bool, true, false, ◌&&◌, List, [], ◌∷◌, ◌++◌, ℕ, ◌+◌, ◌*◌, ◌-◌, ◌/◌, ◌%◌, ◌<◌, T, leb, eqb, ltb, get_or, None, Option, Some, Err, Ok, Result}
 use Rattle.std.proofs.Common.{sym, ap, ap₂, subst, ◌∙◌, append_assoc, arith, eqb→eq, leb→le, ltb→lt}
 use Rattle.finite.specs.Truth.{and_left, and_right}
 use Rattle.finite.specs.Members.{all}
 use Rattle.finite.specs.Below.{all_below, below}
 use Rattle.ascii.specs.Bytes.{bytes}
 use Rattle.rules.specs.Rules.{move_of, promotion_of}
-use Rattle.answers.specs.declared.BestMove.{BestMove}
-use Rattle.answers.specs.declared.BestMove.TheVariants.{Play, NoMove}
 use Rattle.answers.specs.declared.Answer.{Answer}
 use Rattle.slips.specs.Slip.{decimal, square_name, word_and_number, gapped, mark_text, advice_text, answer_text, with_newline, slip_of}
 use Rattle.slips.specs.Fits.{AdviceFits, AnswerFits}
@@ -84,28 +83,28 @@ moves-apart false false f t g u hf ht hg hu e =
 moves-apart true false f t g u hf ht hg hu e = let z : 120 ≡ 97 + u % 8 = cc in absurd (omega arith)
 moves-apart false true f t g u hf ht hg hu e = let z : 97 + t % 8 ≡ 120 = cc in absurd (omega arith)
 
-advice-apart : (a c : BestMove) → AdviceFits a → AdviceFits c → with_newline (advice_text a) ≡ with_newline (advice_text c)
+advice-apart : (a c : Option Move) → AdviceFits a → AdviceFits c → with_newline (advice_text a) ≡ with_newline (advice_text c)
     → a ≡ c
 unfolding advice_text gapped
-advice-apart (Play m) (Play v) h k e =
-    ap Play
+advice-apart (Some m) (Some v) h k e =
+    ap Some
     (ap (promotion_of m.from m.to m.takes) h.2
     ∙ moves-apart m.takes v.takes m.from m.to v.from v.to h.0 h.1 k.0 k.1 e
     ∙ ap (promotion_of v.from v.to v.takes) (sym k.2))
-advice-apart (Play m) NoMove h k e = let z = ap (λ (l : List ℕ). get_or l 0 0) e in absurd (omega arith)
-advice-apart NoMove (Play v) h k e = let z = ap (λ (l : List ℕ). get_or l 0 0) e in absurd (omega arith)
-advice-apart NoMove NoMove h k e = refl
+advice-apart (Some m) None h k e = let z = ap (λ (l : List ℕ). get_or l 0 0) e in absurd (omega arith)
+advice-apart None (Some v) h k e = let z = ap (λ (l : List ℕ). get_or l 0 0) e in absurd (omega arith)
+advice-apart None None h k e = refl
 
 -- a space or a newline follows a depth
-opens-advice : (a : BestMove) → T (opens (with_newline (advice_text a)))
+opens-advice : (a : Option Move) → T (opens (with_newline (advice_text a)))
 unfolding advice_text gapped
-opens-advice (Play m) = tt
-opens-advice NoMove = tt
+opens-advice (Some m) = tt
+opens-advice None = tt
 
 -- ---- a slip
 
 -- a number and a move
-value-apart : (n k : ℕ) (a c : BestMove) → n < 256 → k < 256 → AdviceFits a → AdviceFits c
+value-apart : (n k : ℕ) (a c : Option Move) → n < 256 → k < 256 → AdviceFits a → AdviceFits c
     → with_newline (decimal n ++ advice_text a) ≡ with_newline (decimal k ++ advice_text c) → (n ≡ k) × (a ≡ c)
 value-apart n k a c h j f g e =
     let q = sym (append_assoc (decimal n) (advice_text a) (bytes "\n")) ∙ e
@@ -118,30 +117,30 @@ value-apart n k a c h j f g e =
 heads-apart : {A : Type 0} (x y : ℕ) (xs ys : List ℕ) → x < y → x ∷ xs ≡ y ∷ ys → A
 heads-apart x y xs ys h e = let z : x ≡ y = cc in absurd (omega arith)
 
-pub slips-apart : (a c : Answer) → AnswerFits a → AnswerFits c → slip_of a ≡ slip_of c → a ≡ c
+pub slips-apart : (a c : Result Answer ℕ) → AnswerFits a → AnswerFits c → slip_of a ≡ slip_of c → a ≡ c
 unfolding slip_of answer_text word_and_number
-slips-apart (Answer.Win n a) (Answer.Win k c) h j e =
+slips-apart (Ok (Answer.Win n a)) (Ok (Answer.Win k c)) h j e =
     let q : with_newline (decimal n ++ advice_text a) ≡ with_newline (decimal k ++ advice_text c) = cc in
     let r = value-apart n k a c h.0 j.0 h.1 j.1 q in
-    ap₂ Answer.Win r.0 r.1
-slips-apart (Answer.Loss n a) (Answer.Loss k c) h j e =
+    ap₂ (λ x0 x1. Ok (Answer.Win x0 x1)) r.0 r.1
+slips-apart (Ok (Answer.Loss n a)) (Ok (Answer.Loss k c)) h j e =
     let q : with_newline (decimal n ++ advice_text a) ≡ with_newline (decimal k ++ advice_text c) = cc in
     let r = value-apart n k a c h.0 j.0 h.1 j.1 q in
-    ap₂ Answer.Loss r.0 r.1
-slips-apart (Answer.Draw a) (Answer.Draw c) h j e =
-    let q : with_newline (advice_text a) ≡ with_newline (advice_text c) = cc in ap Answer.Draw (advice-apart a c h j q)
-slips-apart (Answer.Refused n) (Answer.Refused k) h j e =
+    ap₂ (λ x0 x1. Ok (Answer.Loss x0 x1)) r.0 r.1
+slips-apart (Ok (Answer.Draw a)) (Ok (Answer.Draw c)) h j e =
+    let q : with_newline (advice_text a) ≡ with_newline (advice_text c) = cc in ap (λ x0. Ok (Answer.Draw x0)) (advice-apart a c h j q)
+slips-apart (Err n) (Err k) h j e =
     let q : decimal n ++ bytes "\n" ≡ decimal k ++ bytes "\n" = cc in
-    ap Answer.Refused (one_number n k (bytes "\n") (bytes "\n") h j tt tt q).0
-slips-apart (Answer.Win n a) (Answer.Loss k c) h j e = heads-apart _ _ _ _ (omega arith) (sym e)
-slips-apart (Answer.Win n a) (Answer.Draw c) h j e = heads-apart _ _ _ _ (omega arith) (sym e)
-slips-apart (Answer.Win n a) (Answer.Refused k) h j e = heads-apart _ _ _ _ (omega arith) (sym e)
-slips-apart (Answer.Loss n a) (Answer.Win k c) h j e = heads-apart _ _ _ _ (omega arith) e
-slips-apart (Answer.Loss n a) (Answer.Draw c) h j e = heads-apart _ _ _ _ (omega arith) (sym e)
-slips-apart (Answer.Loss n a) (Answer.Refused k) h j e = heads-apart _ _ _ _ (omega arith) e
-slips-apart (Answer.Draw a) (Answer.Win k c) h j e = heads-apart _ _ _ _ (omega arith) e
-slips-apart (Answer.Draw a) (Answer.Loss k c) h j e = heads-apart _ _ _ _ (omega arith) e
-slips-apart (Answer.Draw a) (Answer.Refused k) h j e = heads-apart _ _ _ _ (omega arith) e
-slips-apart (Answer.Refused n) (Answer.Win k c) h j e = heads-apart _ _ _ _ (omega arith) e
-slips-apart (Answer.Refused n) (Answer.Loss k c) h j e = heads-apart _ _ _ _ (omega arith) (sym e)
-slips-apart (Answer.Refused n) (Answer.Draw c) h j e = heads-apart _ _ _ _ (omega arith) (sym e)
+    ap Err (one_number n k (bytes "\n") (bytes "\n") h j tt tt q).0
+slips-apart (Ok (Answer.Win n a)) (Ok (Answer.Loss k c)) h j e = heads-apart _ _ _ _ (omega arith) (sym e)
+slips-apart (Ok (Answer.Win n a)) (Ok (Answer.Draw c)) h j e = heads-apart _ _ _ _ (omega arith) (sym e)
+slips-apart (Ok (Answer.Win n a)) (Err k) h j e = heads-apart _ _ _ _ (omega arith) (sym e)
+slips-apart (Ok (Answer.Loss n a)) (Ok (Answer.Win k c)) h j e = heads-apart _ _ _ _ (omega arith) e
+slips-apart (Ok (Answer.Loss n a)) (Ok (Answer.Draw c)) h j e = heads-apart _ _ _ _ (omega arith) (sym e)
+slips-apart (Ok (Answer.Loss n a)) (Err k) h j e = heads-apart _ _ _ _ (omega arith) e
+slips-apart (Ok (Answer.Draw a)) (Ok (Answer.Win k c)) h j e = heads-apart _ _ _ _ (omega arith) e
+slips-apart (Ok (Answer.Draw a)) (Ok (Answer.Loss k c)) h j e = heads-apart _ _ _ _ (omega arith) e
+slips-apart (Ok (Answer.Draw a)) (Err k) h j e = heads-apart _ _ _ _ (omega arith) e
+slips-apart (Err n) (Ok (Answer.Win k c)) h j e = heads-apart _ _ _ _ (omega arith) e
+slips-apart (Err n) (Ok (Answer.Loss k c)) h j e = heads-apart _ _ _ _ (omega arith) (sym e)
+slips-apart (Err n) (Ok (Answer.Draw c)) h j e = heads-apart _ _ _ _ (omega arith) (sym e)

@@ -1,9 +1,8 @@
 -- Every slip is one line of 2 to 16 bytes that ends in a newline.
-use Rattle.std.specs.Prelude.{◌≡◌, refl, Bool, true, false, cond, List, [], ◌∷◌, ◌++◌, ℕ, ◌+◌, ◌≤◌, ltb, length}
+use Rattle.position.specs.declared.Position.{Position}
+use Rattle.rules.specs.declared.Move.{Move}
+use Rattle.std.specs.Prelude.{◌≡◌, refl, Bool, true, false, cond, List, [], ◌∷◌, ◌++◌, ℕ, ◌+◌, ◌≤◌, ltb, length, Err, None, Ok, Option, Result, Some}
 use Rattle.std.proofs.Common.{arith, length-append}
-use Rattle.index.specs.declared.Placed.{Placed}
-use Rattle.answers.specs.declared.BestMove.{BestMove}
-use Rattle.answers.specs.declared.BestMove.TheVariants.{Play, NoMove}
 use Rattle.answers.specs.declared.Answer.{Answer}
 use Rattle.ascii.specs.Bytes.{bytes}
 use Rattle.slips.specs.Slip.{decimal, square_name, word_and_number, gapped, mark_text, advice_text, answer_text, placed_text, with_newline, slip_of, placed_slip, refused_slip}
@@ -31,39 +30,39 @@ counted-length : (word : List ℕ) (n : ℕ) → Between (length word + 1) (leng
 unfolding word_and_number
 counted-length word n = let d = decimal-length n in simp length-append (omega arith)
 
-advice-length : (a : BestMove) → length (advice_text a) ≤ 6
+advice-length : (a : Option Move) → length (advice_text a) ≤ 6
 unfolding advice_text gapped square_name mark_text
-advice-length (Play m) = go m.takes
+advice-length (Some m) = go m.takes
   where
     go : (x : Bool) → length (gapped m.from ++ mark_text x ++ square_name m.to) ≤ 6
     go true = omega arith
     go false = omega arith
-advice-length NoMove = omega arith
+advice-length None = omega arith
 
-answer-length : (a : Answer) → Between 4 14 (answer_text a)
+answer-length : (a : Result Answer ℕ) → Between 4 14 (answer_text a)
 unfolding answer_text
-answer-length (Answer.Win n a) =
+answer-length (Ok (Answer.Win n a)) =
     let w = counted-length (bytes "win ") n in let d = advice-length a in simp length-append (omega arith)
-answer-length (Answer.Loss n a) =
+answer-length (Ok (Answer.Loss n a)) =
     let w = counted-length (bytes "loss ") n in let d = advice-length a in simp length-append (omega arith)
-answer-length (Answer.Draw a) = let d = advice-length a in simp length-append (omega arith)
-answer-length (Answer.Refused n) = let w = counted-length (bytes "refused ") n in omega arith
+answer-length (Ok (Answer.Draw a)) = let d = advice-length a in simp length-append (omega arith)
+answer-length (Err n) = let w = counted-length (bytes "refused ") n in omega arith
 
-placed-length : (p : Placed) → Between 9 11 (placed_text p)
+placed-length : (p : Result Position ℕ) → Between 9 11 (placed_text p)
 unfolding placed_text gapped square_name
-placed-length (Placed.At p) = omega arith
-placed-length (Placed.Refused n) = let w = counted-length (bytes "refused ") n in omega arith
+placed-length (Ok p) = omega arith
+placed-length (Err n) = let w = counted-length (bytes "refused ") n in omega arith
 
 line : (least most : ℕ) (bs : List ℕ) → Between least most bs → 1 ≤ least → most ≤ 15 → Line (with_newline bs)
 line least most bs h l m =
     let one : length (with_newline bs) ≡ length bs + 1 = simp length-append in
     record { text = bs; whole = refl; least = omega arith; most = omega arith }
 
-pub answer-line : (a : Answer) → Line (slip_of a)
+pub answer-line : (a : Result Answer ℕ) → Line (slip_of a)
 unfolding slip_of
 answer-line a = line 4 14 (answer_text a) (answer-length a) (omega arith) (omega arith)
 
-pub placed-line : (p : Placed) → Line (placed_slip p)
+pub placed-line : (p : Result Position ℕ) → Line (placed_slip p)
 unfolding placed_slip
 placed-line p = line 9 11 (placed_text p) (placed-length p) (omega arith) (omega arith)
 

@@ -3,9 +3,9 @@ use Rattle.slips.specs.Slip.{placed_text, placed_slip, refused_slip}
 use borrow.Author.Rules.{rules}
 use Rattle.slips.proofs.placed_slip.Goals as goal
 
-pub returns-in-At : goal.returns-in-At
-returns-in-At c = rw c.in-At.is c.position_slip.ensures
+pub returns-in-Ok : goal.returns-in-Ok
+returns-in-Ok c = rw c.in-Ok.is c.position_slip.ensures
 
-pub returns-in-Refused : goal.returns-in-Refused
+pub returns-in-Err : goal.returns-in-Err
 unfolding placed_text placed_slip refused_slip
-returns-in-Refused c = rw c.in-Refused.is c.refused_slip.ensures
+returns-in-Err c = rw c.in-Err.is c.refused_slip.ensures

@@ -1,9 +1,9 @@
 -- `slips::position_slip` meets its contract, part by part.
+use Rattle.std.specs.Prelude.{Ok}
 use Rattle.slips.specs.Slip.{square_name, gapped, placed_text, placed_slip}
 use Rattle.slips.proofs.laws.Appending.{first_byte, then, gap_same}
 use Rattle.slips.proofs.laws.Padding.{finished}
 use Rattle.slips.proofs.laws.Lengths.{placed-line}
-use Rattle.index.specs.declared.Placed.{Placed}
 use borrow.Author.Rules.{rules}
 use Rattle.slips.proofs.position_slip.Goals as goal
 
@@ -20,4 +20,4 @@ returns c =
     c.with_gap-man.ensures) in
     let black = then _ _ _ _ _ man c.with_gap-black.ensures in
     finished _ _ _ black c.with_byte.ensures
-    (placed-line (Placed.At c.args.p)).most
+    (placed-line (Ok c.args.p)).most

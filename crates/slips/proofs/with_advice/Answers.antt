@@ -5,13 +5,13 @@ use Rattle.slips.proofs.laws.Appending.{then}
 use borrow.Author.Rules.{rules}
 use Rattle.slips.proofs.with_advice.Goals as goal
 
-pub returns-in-Play : goal.returns-in-Play
+pub returns-in-Some : goal.returns-in-Some
 unfolding advice_text
-returns-in-Play c =
-    rw c.in-Play.is
+returns-in-Some c =
+    rw c.in-Some.is
     (then _ _ _ _ _ (then _ _ _ _ _ c.with_gap.ensures c.with_mark.ensures)
     c.with_square.ensures)
 
-pub returns-in-NoMove : goal.returns-in-NoMove
+pub returns-in-None : goal.returns-in-None
 unfolding advice_text appended
-returns-in-NoMove c = rw c.in-NoMove.is
+returns-in-None c = rw c.in-None.is

@@ -1,5 +1,5 @@
 -- Cutting and answering byte by byte, in parts of any size, gives the true slips of the text's lines; and 13 bytes of a line are enough.
-use Rattle.std.specs.Prelude.{◌≡◌, refl, Bool, true, false, cond, ℕ, ◌<◌, eqb, ltb, length, take}
+use Rattle.std.specs.Prelude.{◌≡◌, refl, Bool, true, false, cond, ℕ, ◌<◌, eqb, ltb, length, take, Err, Result}
 use Rattle.std.proofs.Common.{sym, ap, subst, ◌∙◌, arith, ltb-true, ltb-false, take_all, length-take-le}
 use mathlib.Core.List.{List, [], ◌∷◌, ◌++◌, append_assoc, append-nil, foldl-append}
 use Prim.Native.Char.{code}
@@ -138,7 +138,7 @@ stream-true held t bytes w =
 -- ---- what is kept of a line
 
 -- a line longer than 13 bytes has the wrong shape, whatever its bytes are
-too_long : (l : List ℕ) → 12 < length l → request_of l ≡ Request.Refused 12
+too_long : (l : List ℕ) → 12 < length l → request_of l ≡ Err 12
 unfolding request_of
 too_long l h =
     rw (shape-longer position_shape l (λ e. omega (arith, e, h)), shape-longer number_shape l (λ e. omega (arith, e, h)))
@@ -154,4 +154,4 @@ kept-enough l = go (ltb 13 (length l)) refl
 
 pub kept-reply : (l : List ℕ) (held : ℕ) (t : List ℕ) → reply_of (take 13 l) held t ≡ reply_of l held t
 unfolding reply_of
-kept-reply l held t = ap (λ (r : Request). request_reply r held t) (kept-enough l)
+kept-reply l held t = ap (λ (r : Result Request ℕ). request_reply r held t) (kept-enough l)

@@ -1,28 +1,20 @@
 -- `stream::write_text` meets its contract: the loop keeps that writing what is left gives what writing the whole gives.
-use mathlib.Core.Path.{◌≡◌, refl, ◌∙◌, sym}
-use Prim.Native.Nat.{◌-◌, ◌≤◌}
-use native.Mathlib.Omega.{arith}
-use lib.ListN.{length, drop}
-use borrow.Author.Rules.{rules}
-use Rattle.stream.specs.Keeping.{sheet, put, put_all}
+use Rattle.std.proofs.Common.{refl, ◌∙◌, sym, arith}
+use Rattle.stream.specs.Keeping.{put}
 use Rattle.stream.proofs.laws.Laws.{next-byte, no_byte}
 use Rattle.stream.proofs.write_text.Goals as goal
 
-pub loop-i-init : goal.loop-i-init
-loop-i-init c = (omega arith, refl, refl)
+pub loop-byte-init : goal.loop-byte-init
+loop-byte-init c = (refl, refl)
 
-pub loop-i-preserved : goal.loop-i-preserved
-loop-i-preserved c =
-    let l = c.loop-i in let t =
-    c.args.text.now in (
-      omega arith,
-      c.write_byte-end.auto.output ∙ l.invariant.1,
-      l.invariant.2
-          ∙ next-byte put _ _ t l.i (omega arith) c.write_byte-end.ensures,
+pub loop-byte-preserved : goal.loop-byte-preserved
+loop-byte-preserved c =
+    let l = c.loop-byte in (
+      c.write_byte-end.auto.output ∙ l.invariant.0,
+      l.invariant.1
+          ∙ next-byte put _ _ c.args.text.now l.byte-index c.loop-byte-test.true c.write_byte-end.ensures,
     )
 
 pub returns : goal.returns
 returns c =
-    sym
-    (c.loop-i.invariant.2
-    ∙ no_byte put _ c.args.text.now c.loop-i.i (omega arith))
+    sym (c.loop-byte.invariant.1 ∙ no_byte put _ c.args.text.now c.loop-byte.byte-index (omega arith))

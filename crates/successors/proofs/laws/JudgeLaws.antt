@@ -1,5 +1,5 @@
 -- A byte compared with the moves of three pieces, a piece at a time.
-use Rattle.std.specs.Prelude.{◌≡◌, Bool, false, ◌&&◌, ℕ, ◌^◌, ◌<◌, eqb}
+use Rattle.std.specs.Prelude.{◌≡◌, Bool, false, ◌&&◌, ℕ, ◌^◌, ◌<◌, eqb, Option, Some, None}
 use Rattle.std.proofs.Math.Path.{refl, sym, ap, ap₂, subst}
 use Rattle.std.proofs.Common.{◌∙◌, arith}
 use Rattle.std.proofs.Math.Bool.{true, not, and-true, and-false}
@@ -9,20 +9,18 @@ use Rattle.finite.specs.Members.{any, any-in, any_out}
 use Rattle.theory.specs.Play.{suits}
 use Rattle.theory.specs.Judge.{refutes}
 use Rattle.board.specs.Sets.{has, members, lowest_square, set_of}
-use Rattle.board.proofs.laws.SetLaws.{has-none, has-set_of, set_of-same, set_is, set-has, members-in, members-out}
+use Rattle.board.proofs.laws.SetLaws.{has-none, has-set_of, set_of-same, set_is, set-has, members-in, members-out, members-none}
 use Rattle.board.proofs.laws.LowestLaws.{lowest-of}
 use Rattle.rules.specs.Rules.{Board, moved}
-use Rattle.successors.specs.declared.Sifted.{Sifted}
-use Rattle.successors.specs.declared.Judged.{Judged}
 use Rattle.successors.specs.Successors.{sifted_by, sifted_from, joined, judged_from}
 use Rattle.successors.proofs.laws.SiftLaws.{sift-start, sift-end}
 
 module _ (byte : Board → ℕ) (c : ℕ) (b : Board) where
   -- a piece without such a move
   pub no-moves : (from : ℕ) (goes : ℕ → Bool) (targets : ℕ) → targets ≡ set_of goes → targets ≡ 0
-      → Sifted.Suited 0 ≡ sifted_by byte c b from goes
+      → Some 0 ≡ sifted_by byte c b from goes
   no-moves from goes targets e z =
-      sift-end byte c b from goes 0 targets (omega arith) z (sift-start byte c b from goes targets e)
+      sift-end byte c b from goes 0 targets (omega arith) (ap members z ∙ members-none) (sift-start byte c b from goes targets e)
 
   -- moves that all lead to one byte
   module _ (from : ℕ) (goes : ℕ → Bool) (targets : ℕ) (e : targets ≡ set_of goes) (k : ℕ)
@@ -30,7 +28,7 @@ module _ (byte : Board → ℕ) (c : ℕ) (b : Board) where
     abbrev spoilt : Bool
     spoilt = any (λ t. refutes c (byte (moved b from t))) (members (set_of goes))
 
-    pub same-refuted : targets < 2 ^ 64 → (targets ≡ 0 → ⊥) → refutes c k ≡ true → Sifted.Refuted ≡ sifted_by byte c b from goes
+    pub same-refuted : targets < 2 ^ 64 → (targets ≡ 0 → ⊥) → refutes c k ≡ true → None ≡ sifted_by byte c b from goes
     unfolding sifted_by
     same-refuted h n r =
         let to = lowest_square targets in
@@ -56,36 +54,36 @@ module _ (byte : Board → ℕ) (c : ℕ) (b : Board) where
         go true f = f tt
         go false f = refl
 
-    pub same-suited : refutes c k ≡ false → suits c k ≡ true → Sifted.Suited targets ≡ sifted_by byte c b from goes
+    pub same-suited : refutes c k ≡ false → suits c k ≡ true → Some targets ≡ sifted_by byte c b from goes
     unfolding sifted_by
     same-suited r s =
-        ap Sifted.Suited (e ∙ set_of-same goes _ (λ u h. sym (alike u ∙ rw s (and-true (goes u))))) ∙ sym (rw (unspoilt r))
+        ap Some (e ∙ set_of-same goes _ (λ u h. sym (alike u ∙ rw s (and-true (goes u))))) ∙ sym (rw (unspoilt r))
 
-    pub same-unmet : refutes c k ≡ false → suits c k ≡ false → Sifted.Suited 0 ≡ sifted_by byte c b from goes
+    pub same-unmet : refutes c k ≡ false → suits c k ≡ false → Some 0 ≡ sifted_by byte c b from goes
     unfolding sifted_by
     same-unmet r s =
-        ap Sifted.Suited (set_is _ 0 (omega arith) (λ u h. has-none u ∙ sym (alike u ∙ rw s (and-false (goes u)))))
+        ap Some (set_is _ 0 (omega arith) (λ u h. has-none u ∙ sym (alike u ∙ rw s (and-false (goes u)))))
         ∙ sym (rw (unspoilt r))
 
-  module _ (x y z : ℕ) (u : Sifted) (eu : u ≡ sifted_from byte c b x) where
-    pub king-refuted : u ≡ Sifted.Refuted → Judged.Refuted ≡ judged_from byte c b x y z
+  module _ (x y z : ℕ) (u : Option ℕ) (eu : u ≡ sifted_from byte c b x) where
+    pub king-refuted : u ≡ None → None ≡ judged_from byte c b x y z
     unfolding judged_from
-    king-refuted h = sym (ap (λ (s : Sifted). joined s (sifted_from byte c b y) (sifted_from byte c b z)) (sym eu ∙ h))
+    king-refuted h = sym (ap (λ (s : Option ℕ). joined s (sifted_from byte c b y) (sifted_from byte c b z)) (sym eu ∙ h))
 
-    module _ (k : ℕ) (hu : u ≡ Sifted.Suited k) (v : Sifted) (ev : v ≡ sifted_from byte c b y) where
-      pub first-refuted : v ≡ Sifted.Refuted → Judged.Refuted ≡ judged_from byte c b x y z
+    module _ (k : ℕ) (hu : u ≡ Some k) (v : Option ℕ) (ev : v ≡ sifted_from byte c b y) where
+      pub first-refuted : v ≡ None → None ≡ judged_from byte c b x y z
       unfolding judged_from
-      first-refuted h = sym (ap₂ (λ (s t : Sifted). joined s t (sifted_from byte c b z)) (sym eu ∙ hu) (sym ev ∙ h))
+      first-refuted h = sym (ap₂ (λ (s t : Option ℕ). joined s t (sifted_from byte c b z)) (sym eu ∙ hu) (sym ev ∙ h))
 
-      module _ (f : ℕ) (hv : v ≡ Sifted.Suited f) (w : Sifted) (ew : w ≡ sifted_from byte c b z) where
-        so_far : judged_from byte c b x y z ≡ joined (Sifted.Suited k) (Sifted.Suited f) w
+      module _ (f : ℕ) (hv : v ≡ Some f) (w : Option ℕ) (ew : w ≡ sifted_from byte c b z) where
+        so_far : judged_from byte c b x y z ≡ joined (Some k) (Some f) w
         unfolding judged_from
-        so_far = ap₂ (λ (s t : Sifted). joined s t (sifted_from byte c b z)) (sym eu ∙ hu) (sym ev ∙ hv)
-            ∙ ap (joined (Sifted.Suited k) (Sifted.Suited f)) (sym ew)
+        so_far = ap₂ (λ (s t : Option ℕ). joined s t (sifted_from byte c b z)) (sym eu ∙ hu) (sym ev ∙ hv)
+            ∙ ap (joined (Some k) (Some f)) (sym ew)
 
-        pub second-refuted : w ≡ Sifted.Refuted → Judged.Refuted ≡ judged_from byte c b x y z
-        second-refuted h = sym (so_far ∙ ap (joined (Sifted.Suited k) (Sifted.Suited f)) h)
+        pub second-refuted : w ≡ None → None ≡ judged_from byte c b x y z
+        second-refuted h = sym (so_far ∙ ap (joined (Some k) (Some f)) h)
 
-        pub all-suited : (s : ℕ) → w ≡ Sifted.Suited s
-            → Judged.Found (record { king = k; first = f; second = s }) ≡ judged_from byte c b x y z
-        all-suited s h = sym (so_far ∙ ap (joined (Sifted.Suited k) (Sifted.Suited f)) h)
+        pub all-suited : (s : ℕ) → w ≡ Some s
+            → Some (record { king = k; first = f; second = s }) ≡ judged_from byte c b x y z
+        all-suited s h = sym (so_far ∙ ap (joined (Some k) (Some f)) h)

@@ -1,5 +1,5 @@
 -- The bytes of the successors where there is one man, White's: each at a number that code comes to by a way of its own, and of bare kings a draw.
-use Rattle.std.specs.Prelude.{◌≡◌, Bool, true, cond, not, ◌&&◌, ◌||◌, List, ℕ, ◌+◌, ◌*◌, ◌-◌, ◌/◌, ◌%◌, ◌≤◌, ◌<◌, T, leb, get_or}
+use Rattle.std.specs.Prelude.{◌≡◌, Bool, true, cond, not, ◌&&◌, ◌||◌, List, ℕ, ◌+◌, ◌*◌, ◌-◌, ◌/◌, ◌%◌, ◌≤◌, ◌<◌, T, get_or}
 use Rattle.std.proofs.Math.Path.{refl}
 use Rattle.std.proofs.Common.{sym, ap, subst, ◌∙◌, arith}
 use Rattle.std.proofs.Math.Bool.{false, and-false}
@@ -11,7 +11,6 @@ use borrow.Author.Tests.{le-leb, le-ltb, eq-eqb, ne_eqb}
 use Rattle.finite.specs.Truth.{and_left, and_right, or_cases, true_of, of-true, refuted, implies, implied, false_of}
 use Rattle.finite.specs.Below.{all_below, below}
 use Rattle.board.specs.SetLaws.{bit}
-use Rattle.board.specs.Sets.{has}
 use Rattle.rules.specs.Rules.{moved, can_move}
 use Rattle.rules.proofs.laws.CanMove.{can-on}
 use Rattle.numbering.specs.Kings.{separate, pair_of}

@@ -1,5 +1,5 @@
 -- What stands at a number: a legal position, or nothing that is one.
-use Rattle.std.specs.Prelude.{◌≡◌, refl, Bool, true, false, cond, not, ◌&&◌, ℕ, ◌-◌, T, eqb}
+use Rattle.std.specs.Prelude.{◌≡◌, refl, Bool, true, false, cond, not, ◌&&◌, ℕ, ◌-◌, T, eqb, None, Option, Some}
 use Rattle.std.proofs.Common.{sym, ap, subst, ◌∙◌, eq-eqb}
 use Rattle.rules.specs.Rules.{Board, in_check, legal, legal_with_pawn}
 use Rattle.numbering.specs.Keys.{board_at}
@@ -15,7 +15,6 @@ use Rattle.position.proofs.laws.PosedLaws.{complete-pawnless}
 use Rattle.position.proofs.laws.StandingWith.{legal-standing-with, pawnless-same}
 use Rattle.four_men.specs.Reading.{legal_number_of}
 use Rattle.four_men.proofs.laws.Numbered.{live-is}
-use Rattle.successors.specs.declared.Standing.{Standing}
 use Rattle.successors.specs.Successors.{StandingAt}
 
 -- a complete place is legal exactly where the side not to move is not in check
@@ -39,7 +38,7 @@ complete-legal m q c =
 
 module _ (m : Men) (n : ℕ) (q : Place) (k : T (known (material_for m)))
     (at : board_in m q ≡ board_at (men_of (material_for m)) n) where
-  pub found-unused : used (board_at (men_of (material_for m)) n) ≡ false → StandingAt m n Standing.Nothing
+  pub found-unused : used (board_at (men_of (material_for m)) n) ≡ false → StandingAt m n None
   found-unused e =
       live-is (material_for m) k n ∙ ap (λ (x : Bool). x && legal (board_at (men_of (material_for m)) n)) e
 
@@ -49,18 +48,18 @@ module _ (m : Men) (n : ℕ) (q : Place) (k : T (known (material_for m)))
         live-is (material_for m) k n ∙ ap (λ (x : Bool). x && legal (board_at (men_of (material_for m)) n)) u
         ∙ ap legal (sym at) ∙ complete-legal m q c
 
-    pub found-illegal : in_check (board_in m q) (1 - q.side) ≡ true → StandingAt m n Standing.Nothing
+    pub found-illegal : in_check (board_in m q) (1 - q.side) ≡ true → StandingAt m n None
     found-illegal e = number-legal ∙ ap not e
 
-    pub found-legal : in_check (board_in m q) (1 - q.side) ≡ false → StandingAt m n (Standing.Legal q)
+    pub found-legal : in_check (board_in m q) (1 - q.side) ≡ false → StandingAt m n (Some q)
     found-legal e = (number-legal ∙ ap not e, c, at)
 
 -- what is found tells
-pub told-legal : (m : Men) (n : ℕ) (s : Standing) (q : Place) → s ≡ Standing.Legal q → StandingAt m n s
-    → StandingAt m n (Standing.Legal q)
+pub told-legal : (m : Men) (n : ℕ) (s : Option Place) (q : Place) → s ≡ Some q → StandingAt m n s
+    → StandingAt m n (Some q)
 told-legal m n s q e w = subst (StandingAt m n) e w
 
-pub told-nothing : (m : Men) (n : ℕ) (s : Standing) → s ≡ Standing.Nothing → StandingAt m n s
+pub told-nothing : (m : Men) (n : ℕ) (s : Option Place) → s ≡ None → StandingAt m n s
     → legal_number_of (material_for m) n ≡ false
 told-nothing m n s e w = subst (StandingAt m n) e w
 

@@ -1,5 +1,5 @@
 -- The board of a place: its men, what a move leaves of it, from which squares its moves start.
-use Rattle.std.specs.Prelude.{◌≡◌, refl, Bool, true, false, cond, ◌&&◌, ◌||◌, ◌⊎◌, [], ◌∷◌, ℕ, ◌-◌, ◌≤◌, ◌<◌, T, leb, eqb}
+use Rattle.std.specs.Prelude.{◌≡◌, refl, Bool, true, false, cond, ◌&&◌, ◌||◌, ◌⊎◌, [], ◌∷◌, ℕ, ◌-◌, ◌≤◌, ◌<◌, T, leb, eqb, None, Some}
 use Rattle.std.proofs.Common.{sym, ap, ap₂, ◌∙◌, inl, inr, ⊎_elim, arith, ltb→lt}
 use Rattle.std.proofs.Math.Path.{subst⁻¹}
 use Rattle.std.proofs.Math.Bool.{or-false}
@@ -13,7 +13,6 @@ use Rattle.rules.specs.declared.Piece.{Piece}
 use Rattle.rules.specs.Rules.{Board, empty, piece_of, pieces, apart, touching, stands, taking, carried, can_move}
 use Rattle.rules.proofs.laws.CanMove.{can-facts}
 use Rattle.numbering.proofs.laws.ChangeLaws.{coloured}
-use Rattle.position.specs.declared.Slot.TheVariants.{Absent, Present}
 use Rattle.position.specs.declared.Men.{Men}
 use Rattle.position.specs.declared.Place.{Place}
 use Rattle.position.specs.Keyed.{slot_men, board_of, one_man}
@@ -117,7 +116,7 @@ module _ (from to : ℕ) (hf : from < 64) (ht : to < 64) where
 in-slot : (kind colour s : ℕ) (a : Piece) → a ∈ slot_men (slot_at kind colour s) → a.square ≡ s
 in-slot kind colour s a h = go (leb 64 s) h
   where
-    go : (x : Bool) → a ∈ slot_men (cond x Absent (Present (piece_of kind colour s))) → a.square ≡ s
+    go : (x : Bool) → a ∈ slot_men (cond x None (Some (piece_of kind colour s))) → a.square ≡ s
     go true i = elim i [ ]
     go false (Memᴰ.head e) = ap (λ (p : Piece). p.square) e
     go false (Memᴰ.tail i) = elim i [ ]

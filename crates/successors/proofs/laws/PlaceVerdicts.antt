@@ -1,11 +1,9 @@
 -- The verdict on a byte of a complete place, and whether a depth is required there.
 use Rattle.std.proofs.Math.Path.{◌≡◌, refl, sym, ap, subst⁻¹}
 use Rattle.std.proofs.Common.{subst, ◌∙◌, arith, eq-eqb, ne_eqb}
-use Rattle.std.specs.Prelude.{Bool, ◌&&◌, List, ℕ, ◌≤◌, ◌<◌, eqb}
+use Rattle.std.specs.Prelude.{Bool, ◌&&◌, List, ℕ, ◌≤◌, ◌<◌, eqb, Option, Some, None}
 use Rattle.std.proofs.Math.Bool.{true, false, cond, and-false}
-use Rattle.finite.specs.Members.{first}
 use Rattle.theory.specs.Required.{required_at}
-use Rattle.theory.proofs.laws.Judge as judging
 use Rattle.board.specs.Sets.{set_of}
 use Rattle.rules.specs.declared.Move.{Move}
 use Rattle.rules.specs.Rules.{Board, empty, king, in_check, can_move, taking, move_of, move_on, moves, mated}
@@ -15,9 +13,7 @@ use Rattle.position.specs.declared.Place.{Place}
 use Rattle.position.specs.Keyed.{board_of}
 use Rattle.position.specs.Posed.{posed, board_in, Complete}
 use Rattle.position.proofs.laws.PosedLaws.{complete-pawnless}
-use Rattle.answers.specs.declared.BestMove.{BestMove}
 use Rattle.movegen.specs.declared.Reach.{Reach}
-use Rattle.successors.specs.declared.Judged.{Judged}
 use Rattle.successors.specs.declared.Verdict.{Verdict}
 use Rattle.successors.specs.declared.Seen.{Seen}
 use Rattle.successors.specs.declared.Weighed.{Weighed}
@@ -45,13 +41,13 @@ module _ (c : ℕ) (r : Reach) (b : Board) where
   over-stuck e = sym (rw e)
 
 module _ (c : ℕ) (b : Board) (s e : ℕ) (h : b.side ≡ s) (k : e ≡ cond (in_check b s) 2 1) where
-  by_end : end_verdict c b ≡ cond (eqb c e) (Verdict.Right BestMove.NoMove) Verdict.Wrong
+  by_end : end_verdict c b ≡ cond (eqb c e) (Verdict.Right None) Verdict.Wrong
   unfolding end_verdict
   by_end =
-      ap (λ (n : ℕ). cond (eqb c n) (Verdict.Right BestMove.NoMove) Verdict.Wrong)
+      ap (λ (n : ℕ). cond (eqb c n) (Verdict.Right None) Verdict.Wrong)
       (ap (λ (t : ℕ). cond (in_check b t) 2 1) h ∙ sym k)
 
-  pub end-right : c ≡ e → Verdict.Right BestMove.NoMove ≡ end_verdict c b
+  pub end-right : c ≡ e → Verdict.Right None ≡ end_verdict c b
   end-right q = sym (by_end ∙ rw (eq-eqb c e q))
 
   pub end-wrong : (c ≡ e → ⊥) → Verdict.Wrong ≡ end_verdict c b
@@ -63,7 +59,7 @@ module _ (c : ℕ) (b : Board) (s e : ℕ) (h : b.side ≡ s) (k : e ≡ cond (i
   unfolding verdict_of
   end-required byte v = same_test (eqb c e) (eqb c (required_at chess byte b)) _ _ (sym by_end ∙ v)
     where
-      same_test : (x y : Bool) (a d : BestMove)
+      same_test : (x y : Bool) (a d : Option Move)
           → cond x (Verdict.Right a) Verdict.Wrong ≡ cond y (Verdict.Right d) Verdict.Wrong → x ≡ y
       same_test true true a d q = refl
       same_test false false a d q = refl
@@ -85,7 +81,7 @@ module _ (m : Men) (q : Place) where
 
   -- no byte suits, as code finds it
   pub weighs-none : (byte : Board → ℕ) (c : ℕ) (stuck : Bool) (sets : Reach)
-      → judged_from byte c (board_in m q) (king_at q) q.first q.second ≡ Judged.Found sets → (s : Seen)
+      → judged_from byte c (board_in m q) (king_at q) q.first q.second ≡ Some sets → (s : Seen)
       → s ≡ seen_in (king_at q) q.first q.second sets → 64 ≤ s.from → (r : Reach) → Reaches m q r
       → no_targets r ≡ stuck → NoneSuits m q byte c stuck
   weighs-none byte c stuck sets e s i h r t n =
@@ -134,15 +130,15 @@ module _ (m : Men) (q : Place) where
       abbrev bytes : Board → ℕ
       bytes = bytes_in m first second table
 
-      abbrev judged : Judged
+      abbrev judged : Option Reach
       judged = judged_from bytes c (board_in m q) (king_at q) q.first q.second
 
-      place-refuted : (c ≡ 0 → ⊥) → judged ≡ Judged.Refuted → Verdict.Wrong ≡ verdict_of bytes c (board_in m q)
+      place-refuted : (c ≡ 0 → ⊥) → judged ≡ None → Verdict.Wrong ≡ verdict_of bytes c (board_in m q)
       place-refuted n e =
           verdict-refuted bytes (board_in m q) c plain n
           (found-refuting bytes (board_in m q) (king_at q) q.first q.second (starts m q) c e)
 
-      module _ (n : c ≡ 0 → ⊥) (sets : Reach) (e : judged ≡ Judged.Found sets) (s : Seen)
+      module _ (n : c ≡ 0 → ⊥) (sets : Reach) (e : judged ≡ Some sets) (s : Seen)
           (i : s ≡ seen_in (king_at q) q.first q.second sets) where
         f : Sets bytes (board_in m q) (king_at q) q.first q.second (starts m q) c sets
         f = found-sets bytes (board_in m q) (king_at q) q.first q.second (starts m q) c sets e
@@ -165,9 +161,9 @@ module _ (m : Men) (q : Place) where
 
         place-met : s.from < 64 → (takes : Bool) (v : Move) → takes ≡ taking (board_in m q) s.to
             → v ≡ move_of s.from s.to takes
-            → Verdict.Right (BestMove.Play v) ≡ verdict_of bytes c (board_in m q)
+            → Verdict.Right (Some v) ≡ verdict_of bytes c (board_in m q)
         place-met h takes v t u =
-            ap (λ (x : Move). Verdict.Right (BestMove.Play x)) (u ∙ ap (move_of s.from s.to) t)
+            ap (λ (x : Move). Verdict.Right (Some x)) (u ∙ ap (move_of s.from s.to) t)
             ∙ verdict-met bytes (board_in m q) c plain n f.clear
             (s.from, s.to, (shows h).can, (shows h).suiting) (move_on (board_in m q) s.from s.to)
             (seen_first bytes c (board_in m q) (king_at q) q.first q.second sets f.of-king f.of-first
@@ -205,5 +201,5 @@ module _ (m : Men) (q : Place) where
           weighed-on = seen-on n one.sets one.found s one.seen one.on
 
           pub weighed-met : (takes : Bool) (v : Move) → takes ≡ taking (board_in m q) s.to
-              → v ≡ move_of s.from s.to takes → Verdict.Right (BestMove.Play v) ≡ verdict_of bytes c (board_in m q)
+              → v ≡ move_of s.from s.to takes → Verdict.Right (Some v) ≡ verdict_of bytes c (board_in m q)
           weighed-met takes v t u = place-met n one.sets one.found s one.seen one.on takes v t u

@@ -1,28 +1,27 @@
 -- The loop that compares a byte with one piece's successors, and what it tells.
-use Rattle.std.specs.Prelude.{◌≡◌, ◌⊎◌, Bool, not, ◌&&◌, ◌||◌, List, ℕ, ◌^◌, ◌<◌, eqb}
+use Rattle.std.specs.Prelude.{◌≡◌, ◌⊎◌, Bool, not, ◌&&◌, ◌||◌, List, [], ℕ, ◌^◌, ◌<◌, eqb, Option, Some, None}
 use Rattle.std.proofs.Math.Path.{refl, sym, ap, ap₂, subst}
 use Rattle.std.proofs.Common.{◌∙◌, inl, inr, ⊎_elim, arith, eqb-true}
 use Rattle.std.proofs.Math.Bool.{true, false, cond}
 use Rattle.std.specs.Int.Bits.{bit_or}
 use Rattle.std.proofs.lemmas.Nat.{or_lt}
 use Rattle.std.proofs.Math.Dec.{T}
-use Rattle.finite.specs.Truth.{of-true, refuted, and_left, or_left, or_right, or_cases, same_test}
-use Rattle.finite.specs.Members.{any, any-in, any_out}
+use Rattle.finite.specs.Truth.{of-true, fails, refuted, and_left, or_left, or_right, or_cases, same_test}
+use Rattle.finite.specs.Members.{any, any-in, any_out, none_in}
 use Rattle.theory.specs.Play.{suits}
 use Rattle.theory.specs.Judge.{refutes}
 use Rattle.board.specs.Sets.{has, members, set_of}
-use Rattle.board.proofs.laws.SetLaws.{has-none, has-or, has-set_of, set_of-lt, set_is, set-has, members-in, members-out, members-none}
+use Rattle.board.proofs.laws.SetLaws.{has-none, has-or, has-set_of, set_of-lt, set_is, set-has, members-in, members-out}
 use Rattle.board.proofs.laws.LowestLaws.{Lowest}
 use Rattle.rules.specs.Rules.{Board, moved, can_move}
 use Rattle.rules.proofs.laws.CanMove.{can-on}
-use Rattle.successors.specs.declared.Sifted.{Sifted}
 use Rattle.successors.specs.Successors.{sifted_by, sifted_from, alongside}
 
-cond-refuted : (x : Bool) (s : ℕ) → cond x Sifted.Refuted (Sifted.Suited s) ≡ Sifted.Refuted → x ≡ true
+cond-refuted : (x : Bool) (s : ℕ) → cond x None (Some s) ≡ None → x ≡ true
 cond-refuted true s e = refl
 cond-refuted false s e = let z : ◌≡◌ {A = ℕ} 0 1 = cc in absurd (omega arith)
 
-cond-suited : (x : Bool) (s t : ℕ) → cond x Sifted.Refuted (Sifted.Suited s) ≡ Sifted.Suited t
+cond-suited : (x : Bool) (s t : ℕ) → cond x None (Some s) ≡ Some t
     → (x ≡ false) × (t ≡ s)
 cond-suited true s t e = let z : ◌≡◌ {A = ℕ} 0 1 = cc in absurd (omega arith)
 cond-suited false s t e = (refl, (cc))
@@ -54,7 +53,7 @@ module _ (byte : Board → ℕ) (c : ℕ) (b : Board) (from : ℕ) (goes : ℕ �
     unfolding any
     one_more = rw (low.first, e)
 
-    pub sift-refuted : refutes c k ≡ true → Sifted.Refuted ≡ sifted_by byte c b from goes
+    pub sift-refuted : refutes c k ≡ true → None ≡ sifted_by byte c b from goes
     unfolding sifted_by
     sift-refuted r = sym (rw (w.same-spoilt, one_more, r))
 
@@ -92,17 +91,20 @@ module _ (byte : Board → ℕ) (c : ℕ) (b : Board) (from : ℕ) (goes : ℕ �
         sorted false o false s true h = refl
         sorted false o false s false h = refl
 
-  pub sift-end : (found rest : ℕ) → found < 2 ^ 64 → rest ≡ 0 → Sifting found rest
-      → Sifted.Suited found ≡ sifted_by byte c b from goes
+  pub sift-end : (found rest : ℕ) → found < 2 ^ 64 → members rest ≡ [] → Sifting found rest
+      → Some found ≡ sifted_by byte c b from goes
   unfolding sifted_by
   sift-end found rest h z w =
-      ap Sifted.Suited (set_is (λ t. goes t && suits c (after t)) found h
-      (λ u k. sym (none_left (has found u) (suits c (after u)) (has rest u) (ap (λ (s : ℕ). has s u) z ∙ has-none u))
+      ap Some (set_is (λ t. goes t && suits c (after t)) found h
+      (λ u k. sym (none_left (has found u) (suits c (after u)) (has rest u) (left_out u k))
       ∙ w.same-suited u k))
       ∙ sym (rw (w.same-spoilt ∙ clear))
     where
       clear : spoilt (members rest) ≡ false
-      clear = unfold any in rw (z, members-none)
+      clear = unfold any in rw z
+
+      left_out : (u : ℕ) → u < 64 → has rest u ≡ false
+      left_out u k = fails (has rest u) (λ t. none_in z (members-in rest u k t))
 
       none_left : (f s r : Bool) → r ≡ false → (f || (r && s)) ≡ f
       none_left true s r q = refl
@@ -170,28 +172,36 @@ module _ (byte : Board → ℕ) (c : ℕ) (b : Board) (from : ℕ) (goes : ℕ �
         split true false e = refl
         split false d e = refl
 
-    module _ (x : Sifted) (ex : x ≡ sifted_by byte c b from within) where
-      pub parts-refuted : x ≡ Sifted.Refuted → Sifted.Refuted ≡ sifted_by byte c b from goes
+    module _ (x : Option ℕ) (ex : x ≡ sifted_by byte c b from within) where
+      pub parts-refuted : x ≡ None → None ≡ sifted_by byte c b from goes
       unfolding sifted_by
       parts-refuted h = sym (rw (spoilt-parts, cond-refuted (spoilt (members (set_of within))) _ (sym ex ∙ h)))
 
-      pub parts-suited : (a : ℕ) → x ≡ Sifted.Suited a → (y : Sifted) → y ≡ sifted_by byte c b from beyond
+      pub parts-suited : (a : ℕ) → x ≡ Some a → (y : Option ℕ) → y ≡ sifted_by byte c b from beyond
           → alongside a y ≡ sifted_by byte c b from goes
       unfolding sifted_by
       parts-suited a h y ey =
           let k = cond-suited (spoilt (members (set_of within))) _ a (sym ex ∙ h) in
           ap₂ alongside k.1 ey
           ∙ go (spoilt (members (set_of beyond)))
-          ∙ ap₂ (λ (z : Bool) (n : ℕ). cond z Sifted.Refuted (Sifted.Suited n))
+          ∙ ap₂ (λ (z : Bool) (n : ℕ). cond z None (Some n))
           (sym (spoilt-parts ∙ ap (λ (z : Bool). z || spoilt (members (set_of beyond))) k.0)) suited-parts
         where
           go : (z : Bool)
               → alongside (set_of (λ t. within t && suits c (after t)))
-              (cond z Sifted.Refuted (Sifted.Suited (set_of (λ t. beyond t && suits c (after t)))))
-              ≡ cond z Sifted.Refuted (Sifted.Suited (bit_or (set_of (λ t. within t && suits c (after t)))
+              (cond z None (Some (set_of (λ t. beyond t && suits c (after t)))))
+              ≡ cond z None (Some (bit_or (set_of (λ t. within t && suits c (after t)))
               (set_of (λ t. beyond t && suits c (after t)))))
           go true = refl
           go false = refl
+
+      -- the other moves: one refutes the byte, or none does
+      module _ (a : ℕ) (h : x ≡ Some a) (y : Option ℕ) (ey : y ≡ sifted_by byte c b from beyond) where
+        pub rest-refuted : y ≡ None → None ≡ sifted_by byte c b from goes
+        rest-refuted n = ap (alongside a) (sym n) ∙ parts-suited a h y ey
+
+        pub both-suited : (k : ℕ) → y ≡ Some k → Some (bit_or a k) ≡ sifted_by byte c b from goes
+        both-suited k n = ap (alongside a) (sym n) ∙ parts-suited a h y ey
 
 -- ---- what it tells of all legal targets
 
@@ -202,7 +212,7 @@ module _ (byte : Board → ℕ) (c : ℕ) (b : Board) (from : ℕ) where
   abbrev refuting : List ℕ → Bool
   refuting = any (λ t. refutes c (left t))
 
-  pub told-refuted : sifted_from byte c b from ≡ Sifted.Refuted
+  pub told-refuted : sifted_from byte c b from ≡ None
       → (t : ℕ) × T (can_move b from t) × T (refutes c (left t))
   unfolding sifted_by
   told-refuted e =
@@ -213,7 +223,7 @@ module _ (byte : Board → ℕ) (c : ℕ) (b : Board) (from : ℕ) where
       let i = members-out (set_of (can_move b from)) o.0 o.1 in
       (o.0, subst T (has-set_of (can_move b from) o.0 i.0) i.1, o.2)
 
-  pub told-suited : (s : ℕ) → sifted_from byte c b from ≡ Sifted.Suited s
+  pub told-suited : (s : ℕ) → sifted_from byte c b from ≡ Some s
       → (s ≡ set_of (λ t. can_move b from t && suits c (left t)))
       × ((t : ℕ) → T (can_move b from t) → T (refutes c (left t)) → ⊥)
   unfolding sifted_by

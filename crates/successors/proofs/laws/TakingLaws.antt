@@ -1,5 +1,5 @@
 -- The legal targets from a square in two sets: where a man is taken, and where none is.
-use Rattle.std.specs.Prelude.{◌≡◌, Bool, not, ◌&&◌, ℕ, ◌^◌, ◌<◌, T}
+use Rattle.std.specs.Prelude.{◌≡◌, Bool, not, ◌&&◌, ℕ, ◌^◌, ◌<◌, T, Option}
 use Rattle.std.proofs.Common.{sym, ap, ap₂, ◌∙◌, arith}
 use Rattle.std.proofs.Math.Path.{subst⁻¹}
 use Rattle.std.specs.Int.Bits.{bit_and}
@@ -11,7 +11,6 @@ use Rattle.rules.specs.Rules.{Board, can_move}
 use Rattle.position.specs.declared.Men.{Men}
 use Rattle.position.specs.declared.Place.{Place}
 use Rattle.position.specs.Posed.{board_in}
-use Rattle.successors.specs.declared.Sifted.{Sifted}
 use Rattle.successors.specs.Successors.{sifted_by}
 use Rattle.successors.specs.Quiet.{of_man, taking_to, quiet_to}
 
@@ -44,7 +43,7 @@ pub quiet-legal : (m : Men) (q : Place) (from t : ℕ) → T (quiet_to m q from 
 quiet-legal m q from t z = and_left (can_move (board_in m q) from t) (not (of_man q t)) z
 
 -- of the piece on a square that code has by another name
-pub taking-at : (m : Men) (q : Place) (bytes : Board → ℕ) (c targets : ℕ) (r : Sifted) {x from : ℕ} → from ≡ x
+pub taking-at : (m : Men) (q : Place) (bytes : Board → ℕ) (c targets : ℕ) (r : Option ℕ) {x from : ℕ} → from ≡ x
     → (targets ≡ set_of (taking_to m q from) → r ≡ sifted_by bytes c (board_in m q) from (taking_to m q from))
     → targets ≡ set_of (taking_to m q x) → r ≡ sifted_by bytes c (board_in m q) x (taking_to m q x)
 taking-at m q bytes c targets r {x} {from} e f t =

@@ -1,5 +1,5 @@
 -- From what the three pieces' moves tell to the verdict on a byte, and whether a depth is required.
-use Rattle.std.specs.Prelude.{◌≡◌, Bool, ◌&&◌, not, ◌⊎◌, ℕ, ◌+◌, ◌≤◌, ◌<◌}
+use Rattle.std.specs.Prelude.{◌≡◌, Bool, ◌&&◌, not, ◌⊎◌, ℕ, ◌+◌, ◌≤◌, ◌<◌, Option, Some, None}
 use Rattle.std.proofs.Math.Path.{refl, sym, subst}
 use Rattle.std.proofs.Common.{ap, ◌∙◌, inl, inr, arith, eqb→eq}
 use Rattle.std.proofs.Math.Bool.{true, false, cond}
@@ -9,7 +9,7 @@ use mathlib.Core.List.{List, [], ◌∷◌, map}
 use Rattle.std.proofs.Math.Option.{some}
 use Rattle.std.proofs.Math.Dec.{T, eqb}
 use borrow.Author.Tests.{eq-eqb, ne_eqb, eqb-true, eqb-false}
-use Rattle.finite.specs.Truth.{and_left, and_right, true_of, of-true, fails, refuted, eqb-sym, same_test, and_both, true-not-false}
+use Rattle.finite.specs.Truth.{and_left, and_right, true_of, of-true, fails, eqb-sym, same_test, and_both, true-not-false}
 use Rattle.finite.specs.Members.{◌∈◌, any-in, any_out, map-in, map-out, first, none_in}
 use Rattle.theory.specs.Required.{Rule, best, required, required_at}
 use Rattle.theory.specs.Play.{suits}
@@ -19,43 +19,40 @@ use Rattle.theory.proofs.laws.Step.{required-moves}
 use Rattle.theory.proofs.laws.Judge as judging
 use Rattle.board.specs.Sets.{set_of, lowest_square}
 use Rattle.rules.specs.declared.Move.{Move}
-use Rattle.rules.specs.Rules.{Board, empty, king, in_check, moved, can_move, move_on, moves, mated}
+use Rattle.rules.specs.Rules.{Board, empty, in_check, moved, can_move, move_on, moves, mated}
 use Rattle.rules.proofs.laws.CanMove.{can-on}
 use Rattle.rules.specs.Chess.{chess, played}
 use Rattle.rules.proofs.laws.ChessLaws.{of-moves}
-use Rattle.answers.specs.declared.BestMove.{BestMove}
 use Rattle.endings.specs.Answers.{advice_of}
 use Rattle.movegen.specs.declared.Reach.{Reach}
-use Rattle.successors.specs.declared.Sifted.{Sifted}
-use Rattle.successors.specs.declared.Judged.{Judged}
 use Rattle.successors.specs.declared.Verdict.{Verdict}
 use Rattle.successors.specs.Successors.{sifted_from, joined, judged_from, suited_from, verdict_of, no_targets, end_verdict, over_of}
 use Rattle.successors.proofs.laws.Plain.{Plain, listed, leaves}
-use Rattle.successors.proofs.laws.PlaceLaws.{StartsAt, starts}
+use Rattle.successors.proofs.laws.PlaceLaws.{StartsAt}
 use Rattle.successors.proofs.laws.SiftLaws.{told-refuted, told-suited}
 use Rattle.successors.proofs.laws.ChoiceLaws.{zero-fails, fails-zero, suiting_set, suits_to, shown}
 
 -- ---- three together
 
-joined-refuted : (u v w : Sifted) → joined u v w ≡ Judged.Refuted
-    → (u ≡ Sifted.Refuted) ⊎ ((v ≡ Sifted.Refuted) ⊎ (w ≡ Sifted.Refuted))
-joined-refuted Sifted.Refuted v w e = inl refl
-joined-refuted (Sifted.Suited a) Sifted.Refuted w e = inr (inl refl)
-joined-refuted (Sifted.Suited a) (Sifted.Suited b) Sifted.Refuted e = inr (inr refl)
-joined-refuted (Sifted.Suited a) (Sifted.Suited b) (Sifted.Suited c) e =
+joined-refuted : (u v w : Option ℕ) → joined u v w ≡ None
+    → (u ≡ None) ⊎ ((v ≡ None) ⊎ (w ≡ None))
+joined-refuted None v w e = inl refl
+joined-refuted (Some a) None w e = inr (inl refl)
+joined-refuted (Some a) (Some b) None e = inr (inr refl)
+joined-refuted (Some a) (Some b) (Some c) e =
     let z : ◌≡◌ {A = ℕ} 0 1 = cc in absurd (omega arith)
 
-joined-found : (u v w : Sifted) (sets : Reach) → joined u v w ≡ Judged.Found sets
-    → (u ≡ Sifted.Suited sets.king) × (v ≡ Sifted.Suited sets.first) × (w ≡ Sifted.Suited sets.second)
-joined-found Sifted.Refuted v w sets e = let z : ◌≡◌ {A = ℕ} 0 1 = cc in absurd (omega arith)
-joined-found (Sifted.Suited a) Sifted.Refuted w sets e = let z : ◌≡◌ {A = ℕ} 0 1 = cc in absurd (omega arith)
-joined-found (Sifted.Suited a) (Sifted.Suited b) Sifted.Refuted sets e =
+joined-found : (u v w : Option ℕ) (sets : Reach) → joined u v w ≡ Some sets
+    → (u ≡ Some sets.king) × (v ≡ Some sets.first) × (w ≡ Some sets.second)
+joined-found None v w sets e = let z : ◌≡◌ {A = ℕ} 0 1 = cc in absurd (omega arith)
+joined-found (Some a) None w sets e = let z : ◌≡◌ {A = ℕ} 0 1 = cc in absurd (omega arith)
+joined-found (Some a) (Some b) None sets e =
     let z : ◌≡◌ {A = ℕ} 0 1 = cc in absurd (omega arith)
-joined-found (Sifted.Suited a) (Sifted.Suited b) (Sifted.Suited c) sets e =
+joined-found (Some a) (Some b) (Some c) sets e =
     let r : ◌≡◌ {A = Reach} (record { king = a; first = b; second = c }) sets = cc in (
-      ap (λ (x : Reach). Sifted.Suited x.king) r,
-      ap (λ (x : Reach). Sifted.Suited x.first) r,
-      ap (λ (x : Reach). Sifted.Suited x.second) r,
+      ap (λ (x : Reach). Some x.king) r,
+      ap (λ (x : Reach). Some x.first) r,
+      ap (λ (x : Reach). Some x.second) r,
     )
 
 -- ---- the byte required
@@ -155,7 +152,7 @@ module _ (byte : Board → ℕ) (b : Board) where
     unfolding verdict_of
     wrong n = sym (rw (ne_eqb c (required_at chess byte b) (λ e. n (sym e))))
 
-    pub right : required_at chess byte b ≡ c → (a : BestMove) → a ≡ advice_of (suited_from byte c b)
+    pub right : required_at chess byte b ≡ c → (a : Option Move) → a ≡ advice_of (suited_from byte c b)
         → Verdict.Right a ≡ verdict_of byte c b
     unfolding verdict_of
     right e a q = sym (rw (eq-eqb c (required_at chess byte b) (sym e), ← q))
@@ -169,8 +166,8 @@ module _ (byte : Board → ℕ) (b : Board) where
       verdict-refuted r = wrong (refuted-other m c (omega arith) r)
 
       pub verdict-met : (Refuting c → ⊥) → Suiting c → (v : Move) → suited_from byte c b ≡ some v
-          → Verdict.Right (BestMove.Play v) ≡ verdict_of byte c b
-      verdict-met clear s v e = right (met-required m c (omega arith) clear s) (BestMove.Play v) (sym (ap advice_of e))
+          → Verdict.Right (Some v) ≡ verdict_of byte c b
+      verdict-met clear s v e = right (met-required m c (omega arith) clear s) (Some v) (sym (ap advice_of e))
 
       -- none suits: by the end of the game
       pub verdict-unmet : (reach : Reach) → no_targets reach ≡ empty (moves b) → (Suiting c → ⊥)
@@ -179,9 +176,9 @@ module _ (byte : Board → ℕ) (b : Board) where
       verdict-unmet reach e none-suits = rw e (go (moves b) refl)
         where
           over : moves b ≡ [] → (x : Bool) → eqb c (cond (in_check b b.side) 2 1) ≡ x
-              → cond x (Verdict.Right BestMove.NoMove) Verdict.Wrong ≡ verdict_of byte c b
+              → cond x (Verdict.Right None) Verdict.Wrong ≡ verdict_of byte c b
           over z true q =
-              right (required-over z ∙ sym (eqb-true c (cond (in_check b b.side) 2 1) q)) BestMove.NoMove
+              right (required-over z ∙ sym (eqb-true c (cond (in_check b b.side) 2 1) q)) None
               (unfold suited_from first in sym (rw z))
           over z false q =
               wrong (λ r. eqb-false c (cond (in_check b b.side) 2 1) q (sym r ∙ required-over z))
@@ -189,7 +186,7 @@ module _ (byte : Board → ℕ) (b : Board) where
           go : (l : List Move) → moves b ≡ l
               → cond (empty l)
               (cond (eqb c (cond (in_check b b.side) 2 1))
-              (Verdict.Right BestMove.NoMove) Verdict.Wrong) Verdict.Wrong
+              (Verdict.Right None) Verdict.Wrong) Verdict.Wrong
               ≡ verdict_of byte c b
           go [] z = over z (eqb c (cond (in_check b b.side) 2 1)) refl
           go (x ∷ l) z =
@@ -197,8 +194,8 @@ module _ (byte : Board → ℕ) (b : Board) where
               let w : ◌≡◌ {A = ℕ} 0 1 = cc in omega arith)
 
     -- what a verdict tells
-    told : (same : Bool) (v : Verdict) (a : BestMove) → v ≡ cond same (Verdict.Right a) Verdict.Wrong
-        → (v ≡ Verdict.Wrong → same ≡ false) × ((x : BestMove) → v ≡ Verdict.Right x → (same ≡ true) × (x ≡ a))
+    told : (same : Bool) (v : Verdict) (a : Option Move) → v ≡ cond same (Verdict.Right a) Verdict.Wrong
+        → (v ≡ Verdict.Wrong → same ≡ false) × ((x : Option Move) → v ≡ Verdict.Right x → (same ≡ true) × (x ≡ a))
     told true v a e = (λ w. let z : ◌≡◌ {A = ℕ} 0 1 = cc in absurd (omega arith), λ x w. (refl, (cc)))
     told false v a e = (λ w. refl, λ x w. let z : ◌≡◌ {A = ℕ} 0 1 = cc in absurd (omega arith))
 
@@ -207,7 +204,7 @@ module _ (byte : Board → ℕ) (b : Board) where
     unfolding verdict_of
     told-wrong v e w = (told (eqb c (required_at chess byte b)) v (advice_of (suited_from byte c b)) e).0 w
 
-    pub told-right : (v : Verdict) (a : BestMove) → v ≡ verdict_of byte c b → v ≡ Verdict.Right a
+    pub told-right : (v : Verdict) (a : Option Move) → v ≡ verdict_of byte c b → v ≡ Verdict.Right a
         → (eqb c (required_at chess byte b) ≡ true) × (a ≡ advice_of (suited_from byte c b))
     unfolding verdict_of
     told-right v a e w = (told (eqb c (required_at chess byte b)) v (advice_of (suited_from byte c b)) e).1 a w
@@ -241,7 +238,7 @@ module _ (byte : Board → ℕ) (b : Board) where
   -- ---- of three pieces from whose squares all moves start
 
   module _ (x y z : ℕ) (starts : (from to : ℕ) → T (can_move b from to) → StartsAt x y z from) where
-    pub found-refuting : (c : ℕ) → judged_from byte c b x y z ≡ Judged.Refuted → Refuting c
+    pub found-refuting : (c : ℕ) → judged_from byte c b x y z ≡ None → Refuting c
     unfolding judged_from
     found-refuting c e =
         ⊎_elim (λ q. let r = told-refuted byte c b x q in (x, r.0, r.1, r.2))
@@ -255,7 +252,7 @@ module _ (byte : Board → ℕ) (b : Board) where
       pub of-second : sets.second ≡ suiting_set byte c b z
       pub clear : Refuting c → ⊥
 
-    pub found-sets : (c : ℕ) (sets : Reach) → judged_from byte c b x y z ≡ Judged.Found sets → Sets c sets
+    pub found-sets : (c : ℕ) (sets : Reach) → judged_from byte c b x y z ≡ Some sets → Sets c sets
     unfolding judged_from
     found-sets c sets e =
         let j = joined-found (sifted_from byte c b x) (sifted_from byte c b y) (sifted_from byte c b z) sets e in

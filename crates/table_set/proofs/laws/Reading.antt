@@ -1,14 +1,13 @@
 -- Laws by which the reader's code is proved.
 use Rattle.std.proofs.Math.Path.{◌≡◌, refl, sym}
 use Rattle.std.proofs.Common.{◌∙◌}
-use Rattle.std.specs.Prelude.{Bool, not, List, [], ltb, eqb, take, drop}
+use Rattle.std.specs.Prelude.{Bool, not, List, [], ltb, eqb, take, drop, Err, Ok, Result}
 use Rattle.std.proofs.Math.Bool.{true, false, cond}
 use Prim.Native.Nat.{ℕ, zero, suc, ◌+◌, ◌*◌, ◌-◌, ◌<◌, ◌≤◌}
 use native.Mathlib.Omega.{arith}
 use Rattle.std.proofs.Math.ListN.{length}
 use borrow.Author.Tests.{lt-leb, le-leb, lt-ltb, le-ltb, eq-eqb, ne_eqb}
 use Rattle.endings.specs.Ending.{table_size}
-use Rattle.sets.specs.declared.Found.{Found}
 use Rattle.sets.specs.Layout.{word_at, header_size, set_size}
 use Rattle.sets.specs.Answers.{right_entry, right_entries, right_set, find_entry, find_of, part_of}
 use Rattle.sets.proofs.laws.Right.{set_long, set-few}
@@ -79,12 +78,12 @@ module _ (s : List ℕ) where
 -- ---- where an ending's table starts
 
 module _ (s : List ℕ) (code : ℕ) where
-  pub find-code : 3 < code → Found.Refused 1 ≡ find_of s code
+  pub find-code : 3 < code → Err 1 ≡ find_of s code
   unfolding find_of
   find-code h = sym (rw (lt-ltb 3 code h))
 
   module _ (known : code ≤ 3) (b : Bool) (eb : b ≡ right_set s) where
-    pub find-wrong : b ≡ false → Found.Refused 14 ≡ find_of s code
+    pub find-wrong : b ≡ false → Err 14 ≡ find_of s code
     unfolding find_of
     find-wrong e = sym (rw (le-ltb 3 code known, sym eb ∙ e))
 
@@ -93,7 +92,7 @@ module _ (s : List ℕ) (code : ℕ) where
     find-entries e n en = sym (rw (le-ltb 3 code known, sym eb ∙ e, ← en))
 
   pub found_here : (left at offset w : ℕ) → 0 < left → w ≡ word_at s at → w ≡ code
-      → find_entry left s at offset code ≡ Found.At offset
+      → find_entry left s at offset code ≡ Ok offset
   unfolding find_entry
   found_here zero at offset w h ew e = absurd (omega arith)
   found_here (suc left) at offset w h ew e = rw (← ew, eq-eqb w code e)
@@ -104,32 +103,32 @@ module _ (s : List ℕ) (code : ℕ) where
   found-later zero at offset w h ew e = absurd (omega arith)
   found-later (suc left) at offset w h ew e = let z : suc left - 1 ≡ left = omega arith in rw (z, ← ew, ne_eqb w code e)
 
-  pub found-not : (left at offset : ℕ) → left ≤ 0 → find_entry left s at offset code ≡ Found.Refused 15
+  pub found-not : (left at offset : ℕ) → left ≤ 0 → find_entry left s at offset code ≡ Err 15
   unfolding find_entry
   found-not zero at offset h = refl
   found-not (suc left) at offset h = absurd (omega arith)
 
   -- a table that is found lies inside the set
-  entry-inside : (left at offset o : ℕ) → find_entry left s at offset code ≡ Found.At o
+  entry-inside : (left at offset o : ℕ) → find_entry left s at offset code ≡ Ok o
       → offset + table_size * left ≤ length s → o + table_size ≤ length s
   unfolding find_entry
   entry-inside zero at offset o e h = let z : ◌≡◌ {A = ℕ} 0 1 = cc in absurd (omega arith)
   entry-inside (suc left) at offset o e h =
       go (eqb (word_at s at) code) (λ e. entry-inside left (at + 12) (offset + table_size) o e (omega arith)) e
     where
-      go : (b : Bool) → (find_entry left s (at + 12) (offset + table_size) code ≡ Found.At o → o + table_size ≤ length s)
-          → cond b (Found.At offset) (find_entry left s (at + 12) (offset + table_size) code) ≡ Found.At o
+      go : (b : Bool) → (find_entry left s (at + 12) (offset + table_size) code ≡ Ok o → o + table_size ≤ length s)
+          → cond b (Ok offset) (find_entry left s (at + 12) (offset + table_size) code) ≡ Ok o
           → o + table_size ≤ length s
       go true later e = let z : offset ≡ o = cc in omega arith
       go false later e = later e
 
-  pub found_inside : (o : ℕ) → find_of s code ≡ Found.At o → o + table_size ≤ length s
+  pub found_inside : (o : ℕ) → find_of s code ≡ Ok o → o + table_size ≤ length s
   unfolding find_of
   found_inside o e = go (ltb 3 code) (right_set s) refl e
     where
       go : (a b : Bool) → b ≡ right_set s
-          → cond a (Found.Refused 1)
-          (cond (not b) (Found.Refused 14) (find_entry (word_at s 0) s 4 (header_size (word_at s 0)) code)) ≡ Found.At o
+          → cond {A = Result ℕ ℕ} a (Err 1)
+          (cond (not b) (Err 14) (find_entry (word_at s 0) s 4 (header_size (word_at s 0)) code)) ≡ Ok o
           → o + table_size ≤ length s
       go true b eb e = let z : ◌≡◌ {A = ℕ} 0 1 = cc in absurd (omega arith)
       go false false eb e = let z : ◌≡◌ {A = ℕ} 0 1 = cc in absurd (omega arith)
@@ -137,14 +136,14 @@ module _ (s : List ℕ) (code : ℕ) where
           let l = set-passed s true eb refl in entry-inside (word_at s 0) 4 (header_size (word_at s 0)) o e (omega arith)
 
   -- the part that is handed back
-  module _ (f : Found) (ef : f ≡ find_of s code) where
-    pub part_room : (o : ℕ) → f ≡ Found.At o → o + table_size ≤ length s
+  module _ (f : Result ℕ ℕ) (ef : f ≡ find_of s code) where
+    pub part_room : (o : ℕ) → f ≡ Ok o → o + table_size ≤ length s
     part_room o e = found_inside o (sym ef ∙ e)
 
-    pub part-found : (o : ℕ) → f ≡ Found.At o → take (o + table_size - o) (drop o s) ≡ part_of s code
+    pub part-found : (o : ℕ) → f ≡ Ok o → take (o + table_size - o) (drop o s) ≡ part_of s code
     unfolding part_of
     part-found o e = let z : o + table_size - o ≡ table_size = omega arith in rw (z, ← ef, e)
 
-    pub part-refused : (r : ℕ) → f ≡ Found.Refused r → [] ≡ part_of s code
+    pub part-refused : (r : ℕ) → f ≡ Err r → [] ≡ part_of s code
     unfolding part_of
     part-refused r e = sym (rw (← ef, e))

@@ -1,13 +1,11 @@
 -- What the writer's two loops keep, one law for each way a turn can go.
-use Rattle.std.specs.Prelude.{◌≡◌, refl, Bool, true, false, List, ◌∷◌, ◌++◌, ℕ, ◌+◌, ◌*◌, ◌-◌, ◌<◌, ◌≤◌, length}
+use Rattle.std.specs.Prelude.{◌≡◌, refl, Bool, true, false, List, ◌∷◌, ◌++◌, ℕ, ◌+◌, ◌*◌, ◌-◌, ◌<◌, ◌≤◌, length, Err, Ok, Option, Result}
 use Rattle.std.proofs.Math.Path.{sym}
 use Rattle.std.proofs.Common.{ap, ◌∙◌, arith}
 use Rattle.finite.specs.Pieces.{over}
 use Rattle.finite.specs.PieceLaws.{over_nothing, length_over, over-over}
-use Rattle.answers.specs.declared.Filled.{Filled}
 use Rattle.endings.specs.Ending.{table_size}
 use Rattle.sets.specs.declared.Choice.{Choice}
-use Rattle.sets.specs.declared.Written.{Written}
 use Rattle.sets.specs.Layout.{chosen, codes_from, codes_of, word4, header_size, set_size, entries_of, header_of}
 use Rattle.sets.specs.Answers.{is_refusal, filled_at, SetWritten, write_of}
 use Rattle.sets.proofs.laws.Finish.{finish, finish-end, finish-on, finish-refused, write-start}
@@ -126,7 +124,7 @@ module _ (ch : Choice) (w : SetWritten) (s₀ s : List ℕ) (at code : ℕ) (now
       pub tabled-room : at + table_size ≤ length s
       tabled-room = omega (arith, now.room, ap length (codes-take ch code b eb h e))
 
-      module _ (a : Filled) (refused : Bool) (u : List ℕ) (ea : a ≡ (filled_at code at s).answer)
+      module _ (a : Result (Option ℕ) ℕ) (refused : Bool) (u : List ℕ) (ea : a ≡ (filled_at code at s).answer)
           (er : refused ≡ is_refusal a) (eu : u ≡ (filled_at code at s).bytes) where
         pub tabled-take : length u ≡ length s → refused ≡ false → Tabled ch w s₀ u (at + table_size) (code + 1)
         tabled-take l d =
@@ -139,14 +137,14 @@ module _ (ch : Choice) (w : SetWritten) (s₀ s : List ℕ) (at code : ℕ) (now
               whole = rw eu (finish-on code at s cs h tabled-room (rw ea at (sym er ∙ d))) ∙ (rw z at now.whole);
             }
 
-        pub tabled-refused : refused ≡ true → w ≡ record { answer = Written.Refused 10; bytes = u }
+        pub tabled-refused : refused ≡ true → w ≡ record { answer = Err 10; bytes = u }
         tabled-refused d =
             let z = codes-take ch code b eb h e in
             sym (rw z at now.whole)
             ∙ rw eu (finish-refused code at s (codes_from ch (4 - (code + 1)) (code + 1)) h tabled-room
             (rw ea at (sym er ∙ d)))
 
-  pub tabled-end : 4 ≤ code → w ≡ record { answer = Written.Done; bytes = s }
+  pub tabled-end : 4 ≤ code → w ≡ record { answer = Ok tt; bytes = s }
   tabled-end h =
       let z = codes-end ch code h in
       sym (rw z at now.whole) ∙ finish-end at s (omega (arith, now.room, ap length z))
@@ -155,7 +153,7 @@ module _ (ch : Choice) (w : SetWritten) (s₀ s : List ℕ) (at code : ℕ) (now
 
 module _ (ch : Choice) (n : ℕ) (t s₀ : List ℕ) (en : n ≡ length (codes_of ch)) (l : length t ≡ set_size n)
     (e : s₀ ≡ over t 0 (header_of (codes_of ch))) where
-  pub write-is : (u : List ℕ) (a : Written) → finish (codes_of ch) (header_size n) s₀ ≡ record { answer = a; bytes = u }
+  pub write-is : (u : List ℕ) (a : Result (Unit {0}) ℕ) → finish (codes_of ch) (header_size n) s₀ ≡ record { answer = a; bytes = u }
       → (a ≡ (write_of ch t).answer) × (u ≡ (write_of ch t).bytes)
   write-is u a q =
       let k : write_of ch t ≡ record { answer = a; bytes = u } = sym (write-start ch t n en l) ∙ (rw e at q) in

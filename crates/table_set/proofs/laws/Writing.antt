@@ -1,5 +1,6 @@
 -- Laws by which the writer's code is proved: the codes left, what the tables left give, and a part lent to the fill.
-use Rattle.std.specs.Prelude.{◌≡◌, refl, Bool, false, cond, List, [], ◌∷◌, ◌++◌, ℕ, suc, ◌+◌, ◌-◌, ◌<◌, ◌≤◌, length, take, drop}
+use Rattle.std.specs.Prelude.{◌≡◌, refl, Bool, false, cond, List, [], ◌∷◌, ◌++◌, ℕ, suc, ◌+◌, ◌-◌, ◌<◌, ◌≤◌, length, take, drop, Err, Ok, Result, Option}
+use mir.Val.{bool_byte}
 use Rattle.std.proofs.Math.Path.{sym}
 use Rattle.std.proofs.Common.{◌∙◌, arith, length-take, length-drop}
 use Rattle.std.proofs.Math.Bool.{true}
@@ -8,12 +9,9 @@ use Rattle.std.proofs.Math.Dec.{eqb}
 use borrow.Author.Tests.{eq-eqb, ne_eqb}
 use Rattle.finite.specs.Mapped.{map_from, cleared-same}
 use Rattle.finite.specs.Pieces.{over}
-use Rattle.answers.specs.declared.Filled.{Filled}
 use Rattle.endings.specs.Ending.{table_size}
 use Rattle.endings.specs.Answers.{fill_of}
 use Rattle.sets.specs.declared.Choice.{Choice}
-use Rattle.sets.specs.declared.Found.{Found}
-use Rattle.sets.specs.declared.Written.{Written}
 use Rattle.sets.specs.Layout.{chosen, codes_from, codes_of, set_size, header_of}
 use Rattle.sets.specs.Answers.{is_refusal, filled_at, fill_in_of, write_of, start_of, find_of}
 
@@ -40,7 +38,7 @@ unfolding codes_from
 codes-end ch code h = let z : 4 - code ≡ 0 = omega arith in rw z
 
 pub codes-count : (ch : Choice)
-    → (cond ch.queen 1 0 + cond ch.rook 1 0 + cond ch.bishop 1 0 + cond ch.knight 1 0
+    → (bool_byte ch.queen + bool_byte ch.rook + bool_byte ch.bishop + bool_byte ch.knight
     ≡ length (codes_of ch)) × (length (codes_of ch) ≤ 4)
 unfolding codes_of codes_from chosen
 codes-count ch = go ch.queen ch.rook ch.bishop ch.knight
@@ -49,7 +47,7 @@ codes-count ch = go ch.queen ch.rook ch.bishop ch.knight
     more b code l = cond b (code ∷ l) l
 
     go : (q r b k : Bool)
-        → (cond q 1 0 + cond r 1 0 + cond b 1 0 + cond k 1 0 ≡ length (more q 0 (more r 1 (more b 2 (more k 3 [])))))
+        → (bool_byte q + bool_byte r + bool_byte b + bool_byte k ≡ length (more q 0 (more r 1 (more b 2 (more k 3 [])))))
         × (length (more q 0 (more r 1 (more b 2 (more k 3 [])))) ≤ 4)
     go true true true true = (refl, omega arith)
     go true true true false = (refl, omega arith)
@@ -72,27 +70,27 @@ codes-count ch = go ch.queen ch.rook ch.bishop ch.knight
 
 module _ (ch : Choice) (s : List ℕ) (n : ℕ) (en : n ≡ length (codes_of ch)) where
   pub write-unlike : (length s ≡ set_size n → ⊥)
-      → (Written.Refused 14 ≡ (write_of ch s).answer) × (s ≡ (write_of ch s).bytes)
+      → (Err 14 ≡ (write_of ch s).answer) × (s ≡ (write_of ch s).bytes)
   unfolding write_of
   write-unlike no? =
       let e = ne_eqb (length s) (set_size (length (codes_of ch))) (λ l. no? (rw en l)) in (sym (rw e), sym (rw e))
 
   -- the header alone
   pub start-unlike : (length s ≡ set_size n → ⊥)
-      → (Written.Refused 14 ≡ (start_of ch s).answer) × (s ≡ (start_of ch s).bytes)
+      → (Err 14 ≡ (start_of ch s).answer) × (s ≡ (start_of ch s).bytes)
   unfolding start_of
   start-unlike no? =
       let e = ne_eqb (length s) (set_size (length (codes_of ch))) (λ l. no? (rw en l)) in (sym (rw e), sym (rw e))
 
   pub start_is : length s ≡ set_size n → (u : List ℕ) → u ≡ over s 0 (header_of (codes_of ch))
-      → (Written.Done ≡ (start_of ch s).answer) × (u ≡ (start_of ch s).bytes)
+      → (Ok tt ≡ (start_of ch s).answer) × (u ≡ (start_of ch s).bytes)
   unfolding start_of
   start_is l u eu = let e : eqb (length s) (set_size (length (codes_of ch))) ≡ true =
       eq-eqb (length s) (set_size (length (codes_of ch))) (omega arith) in (sym (rw e), eu ∙ sym (rw e))
 
 -- ---- a part that was lent to the fill, back in its place
 
-pub part-put : (code at k : ℕ) (s ys : List ℕ) (a : Filled) → k ≡ table_size → at + table_size ≤ length s
+pub part-put : (code at k : ℕ) (s ys : List ℕ) (a : Result (Option ℕ) ℕ) → k ≡ table_size → at + table_size ≤ length s
     → a ≡ (fill_of code (take k (drop at s))).answer → ys ≡ (fill_of code (take k (drop at s))).bytes
     → length ys ≡ length (take k (drop at s))
     → (a ≡ (fill_of code (take table_size (drop at s))).answer)
@@ -106,7 +104,7 @@ part-put code at k s ys a ek fits ea ey ly =
 
 -- ---- a table filled at its place
 
-module _ (code at : ℕ) (s t : List ℕ) (a : Filled) (b : Bool)
+module _ (code at : ℕ) (s t : List ℕ) (a : Result (Option ℕ) ℕ) (b : Bool)
     (ea : a ≡ (fill_of code (take table_size (drop at s))).answer)
     (et : t ≡ over s at (fill_of code (take table_size (drop at s))).bytes) (eb : b ≡ is_refusal a) where
   pub at-kept : b ≡ false → (a ≡ (filled_at code at s).answer) × (t ≡ (filled_at code at s).bytes)
@@ -120,13 +118,13 @@ module _ (code at : ℕ) (s t : List ℕ) (a : Filled) (b : Bool)
 
 -- ---- a table filled where it is found
 
-module _ (code : ℕ) (s : List ℕ) (f : Found) (ef : f ≡ find_of s code) where
-  pub in-found : (at : ℕ) → f ≡ Found.At at → (a : Filled) (u : List ℕ) → a ≡ (filled_at code at s).answer
+module _ (code : ℕ) (s : List ℕ) (f : Result ℕ ℕ) (ef : f ≡ find_of s code) where
+  pub in-found : (at : ℕ) → f ≡ Ok at → (a : Result (Option ℕ) ℕ) (u : List ℕ) → a ≡ (filled_at code at s).answer
       → u ≡ (filled_at code at s).bytes → (a ≡ (fill_in_of code s).answer) × (u ≡ (fill_in_of code s).bytes)
   unfolding fill_in_of
   in-found at e a u ea eu = (ea ∙ sym (rw (← ef, e)), eu ∙ sym (rw (← ef, e)))
 
-  pub in-refused : (r : ℕ) → f ≡ Found.Refused r
-      → (Filled.Refused r ≡ (fill_in_of code s).answer) × (s ≡ (fill_in_of code s).bytes)
+  pub in-refused : (r : ℕ) → f ≡ Err r
+      → (Err r ≡ (fill_in_of code s).answer) × (s ≡ (fill_in_of code s).bytes)
   unfolding fill_in_of
   in-refused r e = (sym (rw (← ef, e)), sym (rw (← ef, e)))

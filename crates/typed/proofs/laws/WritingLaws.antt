@@ -1,11 +1,10 @@
 -- Writing a number with its check: refusals 8 and 9 exactly in their cases and for any man alike; what is written is accepted on a line, and leads
 -- back.
-use Rattle.std.specs.Prelude.{◌≡◌, refl, Bool, true, false, cond, List, ℕ, ◌<◌, ◌≤◌, leb, replicate}
+use Rattle.std.specs.Prelude.{◌≡◌, refl, Bool, true, false, cond, List, ℕ, ◌<◌, ◌≤◌, leb, replicate, Err, Ok}
 use Rattle.std.proofs.Common.{ap, ◌∙◌, arith, lit<, leb-true, leb-false}
 use Rattle.std.proofs.lemmas.Bool.{lt-leb}
 use Rattle.check_digits.specs.Check.{with_check, digit_bytes}
 use Rattle.position.specs.declared.Position.{Position}
-use Rattle.index.specs.declared.Placed.{Placed}
 use Rattle.index.specs.Answers.{placed_at, position_at, unused}
 use Rattle.index.proofs.laws.AnswerLaws.{placed-above, placed-unused, placed-used}
 use Rattle.lines.specs.Grammar.{kind_named}
@@ -16,12 +15,12 @@ use Rattle.typed.specs.Writing.{written_by, written_of, typed_line, LeadsBack}
 
 -- ---- for the code: by what numbering back answers
 
-pub writes_at : (n : ℕ) (p : Position) → Placed.At p ≡ placed_at 0 n → (bs : List ℕ) → bs ≡ digit_bytes 7 (with_check n)
+pub writes_at : (n : ℕ) (p : Position) → Ok p ≡ placed_at 0 n → (bs : List ℕ) → bs ≡ digit_bytes 7 (with_check n)
     → ◌≡◌ {A = Written} (record { refusal = 0; digits = bs }) (written_of n)
 unfolding written_of written_by
 writes_at n p e bs d = rw (← e, d)
 
-pub writes-refused : (n k : ℕ) → Placed.Refused k ≡ placed_at 0 n
+pub writes-refused : (n k : ℕ) → Err k ≡ placed_at 0 n
     → ◌≡◌ {A = Written} (record { refusal = k; digits = replicate 7 0 }) (written_of n)
 unfolding written_of written_by
 writes-refused n k e = rw (← e)
@@ -48,8 +47,8 @@ writes-used n h u = rw (placed-used 0 n (lit< tt) h u)
 -- ---- for any man alike
 
 either : (n : ℕ) (a u : Bool) (p q : Position)
-    → written_by n (cond a (Placed.Refused 8) (cond u (Placed.Refused 9) (Placed.At p)))
-    ≡ written_by n (cond a (Placed.Refused 8) (cond u (Placed.Refused 9) (Placed.At q)))
+    → written_by n (cond a (Err 8) (cond u (Err 9) (Ok p)))
+    ≡ written_by n (cond a (Err 8) (cond u (Err 9) (Ok q)))
 unfolding written_by
 either n true u p q = refl
 either n false true p q = refl

@@ -1,11 +1,13 @@
 -- The library's answers fit their words, so that each word is read back with nothing asked of the answer; only
 -- look-up and filling read lent tables, whose members are bytes.
-use Rattle.std.specs.Prelude.{◌≡◌, Bool, cond, not, ◌&&◌, List, [], ◌∷◌, ◌++◌, ℕ, zero, suc, ◌-◌, ◌%◌, ◌^◌, ◌≤◌, ◌<◌, T, leb, length, get_or}
+use Rattle.answers.specs.Advice.{BestMove}
+use Rattle.std.specs.Prelude.{◌≡◌, Bool, cond, not, ◌&&◌, List, [], ◌∷◌, ◌++◌, ℕ, zero, suc, ◌-◌, ◌%◌, ◌^◌, ◌≤◌, ◌<◌, T, leb, length, get_or, Err, None, Ok, Some, Result, Option}
 use Rattle.std.proofs.Math.Path.{refl, subst⁻¹}
 use Rattle.std.proofs.Common.{sym, ap, subst, ltb→lt}
 use Rattle.std.proofs.Math.Bool.{true, false}
 use mathlib.Core.List.Memᴰ
-use Rattle.std.proofs.Math.Option.{Option, none, some}
+use Rattle.std.proofs.Math.Option as maybe
+use Rattle.std.proofs.Math.Option.{none, some}
 use native.Mathlib.Omega.{arith}
 use Rattle.std.proofs.Math.Dec.{eqb, ltb}
 use borrow.Author.Tests.{leb-false, eqb-true, eqb-false, ltb-true}
@@ -31,14 +33,10 @@ use Rattle.numbering.specs.Number.{number_of}
 use Rattle.numbering.proofs.laws.ClassLaws.{number_lt}
 use Rattle.pawn_numbers.specs.PawnNumber.{pawn_number, pawn_board}
 use Rattle.pawn_numbers.proofs.laws.NormalPawn.{number_lt as pawn-number-lt}
-use Rattle.position.specs.declared.Slot.{Slot}
-use Rattle.position.specs.declared.Slot.TheVariants.{Absent, Present}
 use Rattle.position.specs.declared.Position.{Position}
 use Rattle.position.specs.Keyed.{slot_men, board_of, man_in, man_kind, man_square, keyed}
 use Rattle.position.specs.Refusals.{bad_men_of, placing_with, standing_with}
 use Rattle.position.proofs.laws.BothSizes.{placed-men-with, placing-with-most, standing-with-most}
-use Rattle.index.specs.declared.NumberAnswer.{NumberAnswer}
-use Rattle.index.specs.declared.Placed.{Placed}
 use Rattle.index.specs.Answers.{number_with, placed_with}
 use Rattle.index.specs.Endings.{number_in, board_for, used_in, normal_in, map_in}
 use Rattle.index.proofs.laws.EndingsLaws.{pieces-number}
@@ -46,12 +44,9 @@ use Rattle.index.proofs.laws.PawnLaws.{pawn_keyed, keyed-pawn, keyed-pieces, key
 use Rattle.index.proofs.laws.CompleteLaws.{PlacedOf, placed-facts-with}
 use Rattle.index.proofs.laws.NormalPlaceLaws.{placed-has}
 use Rattle.move_list.proofs.laws.Served.{served-moves, few-moves}
-use Rattle.move_list.specs.declared.Counted.{Counted}
 use Rattle.move_list.specs.Answers.{count_answer}
-use Rattle.answers.specs.declared.BestMove.{BestMove}
 use Rattle.answers.specs.declared.Answer.{Answer}
 use Rattle.answers.specs.declared.Checked.{Checked}
-use Rattle.answers.specs.declared.Filled.{Filled}
 use Rattle.endings.specs.Ending.{byte_of}
 use Rattle.endings.specs.Answers.{Fill, advice_of, mapped_advice, answer_of, chosen_by}
 use Rattle.four_men.specs.Lending.{Lent, part_of, borrowed}
@@ -78,11 +73,11 @@ refusal-fits n most e h k = let low = positive n (eqb-false n 0 e) in (low, omeg
 -- ---- number, position and count
 
 -- two slots hold at most two men: at most 4,096 numbers for each pair of kings and side to move
-few-spread : (f s : Slot) → bad_men_of f s ≡ false → spread (material_of (slot_men f ++ slot_men s)) ≤ 4096
+few-spread : (f s : Option Piece) → bad_men_of f s ≡ false → spread (material_of (slot_men f ++ slot_men s)) ≤ 4096
 unfolding spread material_of
-few-spread Absent s e = absurd (refuted e tt)
-few-spread (Present a) Absent e = omega arith
-few-spread (Present a) (Present c) e = omega arith
+few-spread None s e = absurd (refuted e tt)
+few-spread (Some a) None e = omega arith
+few-spread (Some a) (Some c) e = omega arith
 
 pieces-few : (p : Position) → placing_with p ≡ 0 → number_of (board_of p) < 2 ^ 31
 unfolding board_of
@@ -114,8 +109,8 @@ number_fits p = go (eqb (placing_with p) 0) refl
   where
     go : (b : Bool) → eqb (placing_with p) 0 ≡ b
         → NumberFits
-        (cond b (NumberAnswer.Number (number_in (material_in (board_of p).men) (board_of p)))
-        (NumberAnswer.Refused (placing_with p)))
+        (cond b (Ok (number_in (material_in (board_of p).men) (board_of p)))
+        (Err (placing_with p)))
     go true e = number-few p (eqb-true (placing_with p) 0 e)
     go false e = refusal-fits (placing_with p) 18 e (placing-with-most p) (omega arith)
 
@@ -123,12 +118,12 @@ number_fits p = go (eqb (placing_with p) 0) refl
 abbrev on : Piece → Bool
 on m = ltb m.square 64
 
-slots-on : (f s : Slot) → T (all on (slot_men f ++ slot_men s)) → Byte (man_in f).square × Byte (man_in s).square
+slots-on : (f s : Option Piece) → T (all on (slot_men f ++ slot_men s)) → Byte (man_in f).square × Byte (man_in s).square
 unfolding all
-slots-on Absent Absent t = (omega arith, omega arith)
-slots-on Absent (Present c) t = (omega arith, omega (arith, ltb→lt c.square 64 (and_left (on c) true t)))
-slots-on (Present a) Absent t = (omega (arith, ltb→lt a.square 64 (and_left (on a) true t)), omega arith)
-slots-on (Present a) (Present c) t = (
+slots-on None None t = (omega arith, omega arith)
+slots-on None (Some c) t = (omega arith, omega (arith, ltb→lt c.square 64 (and_left (on c) true t)))
+slots-on (Some a) None t = (omega (arith, ltb→lt a.square 64 (and_left (on a) true t)), omega arith)
+slots-on (Some a) (Some c) t = (
   omega (arith, ltb→lt a.square 64 (and_left (on a) (on c && true) t)),
   omega (arith, ltb→lt c.square 64 (and_left (on c) true (and_right (on a) (on c && true) t))),
 )
@@ -165,8 +160,8 @@ placed-fits m n = go (given m) refl (leb (size_of m) n) refl (used_in m n) refl
   where
     go : (a : Bool) → given m ≡ a → (b : Bool) → leb (size_of m) n ≡ b → (c : Bool) → used_in m n ≡ c
         → PlacedFits m
-        (cond (not a) (Placed.Refused 1)
-        (cond b (Placed.Refused 8) (cond c (Placed.At (keyed (board_for m n))) (Placed.Refused 9))))
+        (cond (not a) (Err 1)
+        (cond b (Err 8) (cond c (Ok (keyed (board_for m n))) (Err 9))))
     go false e b f c g = (omega arith, omega arith)
     go true e true f c g = (omega arith, omega arith)
     go true e false f false g = (omega arith, omega arith)
@@ -183,7 +178,7 @@ unfolding count_answer
 count_fits p = go (eqb (standing_with p) 0) refl
   where
     go : (b : Bool) → eqb (standing_with p) 0 ≡ b
-        → CountFits (cond b (Counted.Count (length (moves (board_of p)))) (Counted.Refused (standing_with p)))
+        → CountFits (cond b (Ok (length (moves (board_of p)))) (Err (standing_with p)))
     go true e = omega (arith, moves-few p (eqb-true (standing_with p) 0 e))
     go false e = refusal-fits (standing_with p) 18 e (standing-with-most p) (omega arith)
 
@@ -219,7 +214,7 @@ module _ (m : Material) (l : Lent) (t : List ℕ) where
   fill-true-fits f (FillTrueOf.none-decided e w d) = subst FilledFits (sym e) tt
   fill-true-fits f (FillTrueOf.too-deep e z n h d) = subst FilledFits (sym e) (omega arith, omega arith)
 
-  refused-so : (k : ℕ) → RefusalFits k → fill_with m l t ≡ record { answer = Filled.Refused k; bytes = t }
+  refused-so : (k : ℕ) → RefusalFits k → fill_with m l t ≡ record { answer = Err k; bytes = t }
       → FilledFits (fill_with m l t).answer
   refused-so k h e = subst (λ (f : Fill). FilledFits f.answer) (sym e) h
 
@@ -243,9 +238,9 @@ module _ (m : Material) (l : Lent) (t : List ℕ) where
     where
       go : (a b d : Bool) (low : ℕ) (c : Bool) → ltb low (size_of m) ≡ c
           → CheckedFits
-          (cond (not a) (Checked.Refused 1)
-          (cond (not b) (Checked.Refused 7)
-          (cond (not d) (Checked.Refused 17) (cond c (Checked.Wrong low) Checked.Accepted))))
+          (cond (not a) (Err 1)
+          (cond (not b) (Err 7)
+          (cond (not d) (Err 17) (cond c (Ok (Checked.Wrong low)) (Ok Checked.Accepted)))))
       go false b d low c e = (omega arith, omega arith)
       go true false d low c e = (omega arith, omega arith)
       go true true false low c e = (omega arith, omega arith)
@@ -271,7 +266,7 @@ suited-on bytes b m e =
     let w = (of-moves b m i).1 in (w.from_on, w.to-on, becomes-few b m w)
 
 -- and stay there under a map
-advice-fits : (k : Symmetry) (o : Option Move)
+advice-fits : (k : Symmetry) (o : maybe.Option Move)
     → ((m : Move) → o ≡ some m → (m.from < 64) × (m.to < 64) × (m.becomes < 5))
     → AdviceFits (mapped_advice k (advice_of o))
 advice-fits k none h = tt
@@ -327,7 +322,7 @@ value-fits : (n : ℕ) (a : BestMove) → Byte n → AdviceFits a → AnswerFits
 unfolding answer_of
 value-fits n a h k = go (leb n 1) (eqb (n % 2) 1)
   where
-    go : (x y : Bool) → AnswerFits (cond x (Answer.Draw a) (cond y (Answer.Win (n - 2) a) (Answer.Loss (n - 2) a)))
+    go : (x y : Bool) → AnswerFits (cond x (Ok (Answer.Draw a)) (cond y (Ok (Answer.Win (n - 2) a)) (Ok (Answer.Loss (n - 2) a))))
     go true y = k
     go false true = (omega arith, k)
     go false false = (omega arith, k)
@@ -351,10 +346,10 @@ module _ (l : Lent) (t : List ℕ) (p : Position) where
       (value-fits (bytes (board_of p)) advice (reads_fit own l t (board_of p) h g)
       (chosen-fits (map_in own) (normal_in own) bytes (board_of p)))
     where
-      go : (a : Bool) → eqb (standing_with p) 0 ≡ a → (f c : Bool) (x : Answer) → AnswerFits x
+      go : (a : Bool) → eqb (standing_with p) 0 ≡ a → (f c : Bool) (x : Result Answer ℕ) → AnswerFits x
           → AnswerFits
-          (cond (not a) (Answer.Refused (standing_with p))
-          (cond (not f) (Answer.Refused 7) (cond (not c) (Answer.Refused 11) x)))
+          (cond (not a) (Err (standing_with p))
+          (cond (not f) (Err 7) (cond (not c) (Err 11) x)))
       go false e f c x k = refusal-fits (standing_with p) 18 e (standing-with-most p) (omega arith)
       go true e false c x k = (omega arith, omega arith)
       go true e true false x k = (omega arith, omega arith)
@@ -366,7 +361,7 @@ pub counted-fits : (l : Lent) (t : List ℕ) (c : ℕ) (p : Position) → SmallB
 unfolding look_up_at_with at_count
 counted-fits l t c p h g = go (is_refused (look_up_with l t p)) (ltb 99 c)
   where
-    go : (a b : Bool) → AnswerFits (cond a (look_up_with l t p) (cond b (Answer.Refused 19) (look_up_with l t p)))
+    go : (a b : Bool) → AnswerFits (cond a (look_up_with l t p) (cond b (Err 19) (look_up_with l t p)))
     go true b = look-up-fits l t p h g
     go false true = (omega arith, omega arith)
     go false false = look-up-fits l t p h g

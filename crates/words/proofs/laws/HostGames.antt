@@ -1,7 +1,7 @@
 -- The theorem about games at the C boundary, for every ending: `sledgewren_check` answered 0 for these bytes, and a
 -- side plays the moves that it reads from the answers of `sledgewren_look_up` for them, at any counts from 0 to 99,
 -- through captures and promotions until bare kings.
-use Rattle.std.specs.Prelude.{◌≡◌, Bool, true, false, ◌↔◌, List, [], ◌∷◌, ℕ, ◌≤◌, T, eqb}
+use Rattle.std.specs.Prelude.{◌≡◌, Bool, true, false, ◌↔◌, List, [], ◌∷◌, ℕ, ◌≤◌, T, eqb, Ok, Result}
 use Rattle.std.proofs.Common.{sym, subst, ◌∙◌}
 use Rattle.std.proofs.Math.Path.{ap, fun_ext}
 use Rattle.std.proofs.Math.Bool.{cond}
@@ -35,8 +35,8 @@ use Rattle.words.specs.HostGame.{look_up_word, host_move, PlaysRead, HostPromise
 
 -- an answer of 0 says that the table is accepted, and nothing else says so
 pub zero-accepted : (m : Material) (l : Lent) (t : List ℕ) → checked_word (check_with m l t) ≡ 0
-    → check_with m l t ≡ Checked.Accepted
-zero-accepted m l t e = checks-apart (check_with m l t) Checked.Accepted (checked-fits m l t) tt e
+    → check_with m l t ≡ Ok Checked.Accepted
+zero-accepted m l t e = checks-apart (check_with m l t) (Ok Checked.Accepted) (checked-fits m l t) tt e
 
 module _ (m : Material) (l : Lent) (t : List ℕ) (small : SmallBytes l) (bytes : TableBytes t) where
   -- the table then on the board is bytes
@@ -107,7 +107,7 @@ host-games m l t small bytes e b g o side ms game plays =
       answers = λ i h n c k. let q = at_ply chess b ms i in subst (TrueAnswerIn q) (sym (told q c)) (counts.answers i h n c k);
       marked = λ i h n c k. let q = at_ply chess b ms i in
           subst (λ (x : Bool). T x ↔ Within q c) (sym (mark-told m l t small bytes q c)) (counts.marked i h n c k);
-      clear = λ c k x. subst (λ (a : Answer). ClearBy a side b ms c) (sym (told b c))
+      clear = λ c k x. subst (λ (a : Result Answer ℕ). ClearBy a side b ms c) (sym (told b c))
           (counts.clear c k (subst T (mark-told m l t small bytes b c) x));
       promised = λ c k. subst (λ (pick : Board → Option Move). Promised chess (reads chess (numbered m l) t) pick side b ms)
           (sym (host-desk m l t small bytes c k)) f.game.promised;

@@ -1,5 +1,5 @@
 -- The word of a move played is read back, and what play answers fits it.
-use Rattle.std.specs.Prelude.{◌≡◌, refl, Bool, true, false, ◌&&◌, ◌||◌, ◌++◌, ℕ, ◌+◌, ◌*◌, ◌^◌, ◌<◌, T, ltb}
+use Rattle.std.specs.Prelude.{◌≡◌, refl, Bool, true, false, ◌&&◌, ◌||◌, ◌++◌, ℕ, ◌+◌, ◌*◌, ◌^◌, ◌<◌, T, ltb, None, Option, Some, Err, Ok, Result}
 use Rattle.std.proofs.Common.{sym, subst, mod-eq_of_lt, arith, ltb→lt, eqb→eq, ne_eqb}
 use Rattle.finite.specs.Truth.{and_left, and_right, of-true}
 use Rattle.finite.specs.Members.{all}
@@ -9,13 +9,10 @@ use Rattle.rules.specs.Rules.{Board, piece_of, known, known_or_pawn, legal_with_
 use Rattle.rules.proofs.laws.Legal.{legal_of-facts, legal-with-pawn}
 use Rattle.numbering.specs.declared.Material.{Material}
 use Rattle.numbering.specs.Material.{material_in, legal_in}
-use Rattle.position.specs.declared.Slot.{Slot}
-use Rattle.position.specs.declared.Slot.TheVariants.{Absent, Present}
 use Rattle.position.specs.declared.Position.{Position}
 use Rattle.position.specs.Keyed.{slot_men, board_of}
 use Rattle.position.specs.Refusals.{standing_with}
 use Rattle.position.proofs.laws.BothSizes.{standing-with-most}
-use Rattle.playing.specs.declared.Played.{Played}
 use Rattle.playing.specs.Playing.{play_of}
 use Rattle.playing.proofs.laws.PlayTrue.{played-true, refused-played}
 use Rattle.words.specs.Reading.{bits, Byte, RefusalFits, ReadBack, OneWord}
@@ -26,12 +23,12 @@ use Rattle.words.proofs.laws.AnswersFit.{refusal-fits}
 
 -- ---- a man in 16 bits
 
-short-size : (s : Slot) → ShortFits s → short_man s < 2 ^ 16
-short-size Absent f = omega arith
-short-size (Present m) f = rw (mod-eq_of_lt f.0, mod-eq_of_lt f.1) (omega (arith, f.0, f.1, f.2))
+short-size : (s : Option Piece) → ShortFits s → short_man s < 2 ^ 16
+short-size None f = omega arith
+short-size (Some m) f = rw (mod-eq_of_lt f.0, mod-eq_of_lt f.1) (omega (arith, f.0, f.1, f.2))
 
 short-there : (kind colour square : ℕ) → kind < 2 ^ 4 → colour < 2 → square < 2 ^ 8
-    → short_read (kind + colour * 2 ^ 4 + 2 ^ 5 + square * 2 ^ 8) ≡ Present (piece_of kind colour square)
+    → short_read (kind + colour * 2 ^ 4 + 2 ^ 5 + square * 2 ^ 8) ≡ Some (piece_of kind colour square)
 short-there k c q hk hc hq =
     let word : ℕ = k + c * 2 ^ 4 + 2 ^ 5 + q * 2 ^ 8 in
     let kind : bits 0 4 word ≡ k =
@@ -46,8 +43,8 @@ short-there k c q hk hc hq =
 
 -- 16 bits give a man back
 pub short_back : ReadBack ShortFits short_man short_read
-short_back Absent f = refl
-short_back (Present m) f =
+short_back None f = refl
+short_back (Some m) f =
     rw (mod-eq_of_lt f.0, mod-eq_of_lt f.1)
     (short-there m.kind m.colour m.square f.0 f.1 f.2)
 
@@ -80,7 +77,7 @@ after-bits s w b f g hs hw hb hf hg =
     }
 
 pub played-read : ReadBack PlayedFits played_word played_read
-played-read (Played.At p) h =
+played-read (Ok (Some p)) h =
     let b = after-bits p.side p.white_king p.black_king (short_man p.first) (short_man p.second)
     h.side h.white h.black (short-size p.first h.first) (short-size p.second h.second) in
     rw (
@@ -94,8 +91,8 @@ played-read (Played.At p) h =
       short_back p.first h.first,
       short_back p.second h.second,
     )
-played-read Played.NotLegal h = refl
-played-read (Played.Refused k) h =
+played-read (Ok None) h = refl
+played-read (Err k) h =
     let legal : bits 15 1 k ≡ 0 = field 15 1 k 0 0 k (omega arith) (omega (arith, h.1)) (omega arith) in
     let low : bits 0 8 k ≡ k = field 0 8 0 k 0 k (omega arith) (omega arith) h.1 in
     rw (legal, low, ne_eqb k 0 (λ z. omega (arith, h.0)))
@@ -125,17 +122,17 @@ man-kind m t = go (known m) refl t
           ltb→lt m.colour 2 (and_right (pawn m) (ltb m.colour 2) r),
         )
 
-man-fits : (m : Piece) → T (known_or_pawn m) → T (on m) → ShortFits (Present m)
+man-fits : (m : Piece) → T (known_or_pawn m) → T (on m) → ShortFits (Some m)
 man-fits m k o =
     let r = man-kind m k in (omega (arith, r.0), r.1, omega (arith, ltb→lt m.square 64 o))
 
-men-fit : (f s : Slot) → T (all known_or_pawn (slot_men f ++ slot_men s)) → T (all on (slot_men f ++ slot_men s))
+men-fit : (f s : Option Piece) → T (all known_or_pawn (slot_men f ++ slot_men s)) → T (all on (slot_men f ++ slot_men s))
     → ShortFits f × ShortFits s
 unfolding all
-men-fit Absent Absent k o = (tt, tt)
-men-fit Absent (Present n) k o = (tt, man-fits n (and_left (known_or_pawn n) true k) (and_left (on n) true o))
-men-fit (Present m) Absent k o = (man-fits m (and_left (known_or_pawn m) true k) (and_left (on m) true o), tt)
-men-fit (Present m) (Present n) k o = (
+men-fit None None k o = (tt, tt)
+men-fit None (Some n) k o = (tt, man-fits n (and_left (known_or_pawn n) true k) (and_left (on n) true o))
+men-fit (Some m) None k o = (man-fits m (and_left (known_or_pawn m) true k) (and_left (on m) true o), tt)
+men-fit (Some m) (Some n) k o = (
   man-fits m (and_left (known_or_pawn m) (known_or_pawn n && true) k) (and_left (on m) (on n && true) o),
   man-fits n (and_left (known_or_pawn n) true (and_right (known_or_pawn m) (known_or_pawn n && true) k))
       (and_left (on n) true (and_right (on m) (on n && true) o)),
@@ -168,12 +165,12 @@ after-fits p t =
 pub played-fits : (p : Position) (from to becomes : ℕ) → PlayedFits (play_of p from to becomes)
 played-fits p from to becomes = go (play_of p from to becomes) refl
   where
-    go : (a : Played) → play_of p from to becomes ≡ a → PlayedFits a
-    go (Played.At q) e =
+    go : (a : Result (Option Position) ℕ) → play_of p from to becomes ≡ a → PlayedFits a
+    go (Ok (Some q)) e =
         after-fits q
         (legal-admitted (material_in (board_of p).men) (board_of q) (played-true p from to becomes q e).legal-after)
-    go Played.NotLegal e = tt
-    go (Played.Refused k) e =
+    go (Ok None) e = tt
+    go (Err k) e =
         let r = refused-played p from to becomes k e in
         subst RefusalFits (sym r.0) (refusal-fits (standing_with p) 18 r.1 (standing-with-most p) (omega arith))
 

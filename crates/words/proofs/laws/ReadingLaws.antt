@@ -1,16 +1,11 @@
 -- Each word is read back by the header's bit ranges, and no two answers have one word.
-use Rattle.std.specs.Prelude.{◌≡◌, refl, Bool, true, false, ℕ, ◌+◌, ◌*◌, ◌^◌, ◌<◌, eqb}
+use Rattle.std.specs.Prelude.{◌≡◌, refl, Bool, true, false, ℕ, ◌+◌, ◌*◌, ◌^◌, ◌<◌, eqb, Err, None, Ok, Option, Some, Result}
 use Rattle.std.proofs.Common.{sym, ap, ◌∙◌, arith, ne_eqb}
 use Rattle.rules.specs.declared.Move.{Move}
-use Rattle.answers.specs.declared.BestMove.{BestMove}
 use Rattle.answers.specs.declared.Answer.{Answer}
 use Rattle.answers.specs.declared.Checked.{Checked}
-use Rattle.answers.specs.declared.Filled.{Filled}
 use Rattle.numbering.specs.declared.Material.{Material}
 use Rattle.position.specs.Keyed.{man_square}
-use Rattle.index.specs.declared.NumberAnswer.{NumberAnswer}
-use Rattle.index.specs.declared.Placed.{Placed}
-use Rattle.move_list.specs.declared.Counted.{Counted}
 use Rattle.endings.specs.GamePromise.{given, move_of_answer}
 pub use Rattle.given_words.proofs.laws.BitLaws.{field}
 use Rattle.words.specs.Words.{number_word, second_square, placed_word, count_word, filled_word, checked_word, flag_of, advice_word, answer_word, marked_word}
@@ -35,11 +30,11 @@ module _ {A : Type 0} (Fits : A → Type 0) (word : A → ℕ) (read : ℕ → A
 -- ---- number
 
 pub number-read : ReadBack NumberFits number_word number_read
-number-read (NumberAnswer.Number n) h =
+number-read (Ok n) h =
     let high : bits 31 1 n ≡ 0 = field 31 1 n 0 0 n (omega arith) h (omega arith) in
     let low : bits 0 31 n ≡ n = field 0 31 0 n 0 n (omega arith) (omega arith) h in
     rw (high, low)
-number-read (NumberAnswer.Refused k) h =
+number-read (Err k) h =
     let high : bits 31 1 (2 ^ 31 + k) ≡ 1 =
     field 31 1 k 1 0 (2 ^ 31 + k) (omega arith) (omega (arith, h.1)) (omega arith) in
     let low : bits 0 8 (2 ^ 31 + k) ≡ k = field 0 8 0 k (2 ^ 23) (2 ^ 31 + k) (omega arith) (omega arith) h.1 in
@@ -74,11 +69,11 @@ place-bits s w f b g hs hw hf hb hg =
     }
 
 pub placed-read : (m : Material) → ReadBack (PlacedFits m) placed_word (placed_read m)
-placed-read m (Placed.At p) h =
+placed-read m (Ok p) h =
     let b = place-bits p.side p.white_king (man_square p) p.black_king (second_square p) h.side h.white
     h.square h.black h.second in
-    rw (b.none, b.side-read, b.white-read, b.first_read, b.black-read, b.second-read) (ap Placed.At (sym h.own))
-placed-read m (Placed.Refused k) h = refusal-read _ Placed.Refused k h
+    rw (b.none, b.side-read, b.white-read, b.first_read, b.black-read, b.second-read) (ap Ok (sym h.own))
+placed-read m (Err k) h = refusal-read _ Err k h
 
 pub places-apart : (m : Material) → OneWord (PlacedFits m) placed_word
 places-apart m = one_word (PlacedFits m) placed_word (placed_read m) (placed-read m)
@@ -86,11 +81,11 @@ places-apart m = one_word (PlacedFits m) placed_word (placed_read m) (placed-rea
 -- ---- count
 
 pub count-read : ReadBack CountFits count_word count_read
-count-read (Counted.Count n) h =
+count-read (Ok n) h =
     let none : bits 0 8 (n * 2 ^ 8) ≡ 0 = field 0 8 0 0 n (n * 2 ^ 8) (omega arith) (omega arith) (omega arith) in
     let count : bits 8 8 (n * 2 ^ 8) ≡ n = field 8 8 0 n 0 (n * 2 ^ 8) (omega arith) (omega arith) h in
     rw (none, count)
-count-read (Counted.Refused k) h = refusal-read _ Counted.Refused k h
+count-read (Err k) h = refusal-read _ Err k h
 
 pub counts-apart : OneWord CountFits count_word
 counts-apart = one_word CountFits count_word count_read count-read
@@ -98,14 +93,14 @@ counts-apart = one_word CountFits count_word count_read count-read
 -- ---- fill
 
 pub filled-read : ReadBack FilledFits filled_word filled_read
-filled-read (Filled.Greatest n) h =
+filled-read (Ok (Some n)) h =
     let word : ℕ = 2 ^ 8 + n * 2 ^ 16 in
     let none : bits 0 8 word ≡ 0 = field 0 8 0 0 (1 + n * 2 ^ 8) word (omega arith) (omega arith) (omega arith) in
     let some : bits 8 1 word ≡ 1 = field 8 1 0 1 (n * 2 ^ 7) word (omega arith) (omega arith) (omega arith) in
     let depth : bits 16 8 word ≡ n = field 16 8 (2 ^ 8) n 0 word (omega arith) (omega arith) h in
     rw (none, some, depth)
-filled-read Filled.NoneDecided h = refl
-filled-read (Filled.Refused k) h = refusal-read _ Filled.Refused k h
+filled-read (Ok None) h = refl
+filled-read (Err k) h = refusal-read _ Err k h
 
 pub fills-apart : OneWord FilledFits filled_word
 fills-apart = one_word FilledFits filled_word filled_read filled-read
@@ -113,14 +108,14 @@ fills-apart = one_word FilledFits filled_word filled_read filled-read
 -- ---- check
 
 pub checked-read : ReadBack CheckedFits checked_word checked_read
-checked-read Checked.Accepted h = refl
-checked-read (Checked.Wrong n) h =
+checked-read (Ok Checked.Accepted) h = refl
+checked-read (Ok (Checked.Wrong n)) h =
     let word : ℕ = 2 ^ 8 + n * 2 ^ 32 in
     let none : bits 0 8 word ≡ 0 = field 0 8 0 0 (1 + n * 2 ^ 24) word (omega arith) (omega arith) (omega arith) in
     let wrong : bits 8 1 word ≡ 1 = field 8 1 0 1 (n * 2 ^ 23) word (omega arith) (omega arith) (omega arith) in
     let lowest : bits 32 32 word ≡ n = field 32 32 (2 ^ 8) n 0 word (omega arith) (omega arith) h in
     rw (none, wrong, lowest)
-checked-read (Checked.Refused k) h = refusal-read _ Checked.Refused k h
+checked-read (Err k) h = refusal-read _ Err k h
 
 pub checks-apart : OneWord CheckedFits checked_word
 checks-apart = one_word CheckedFits checked_word checked_read checked-read
@@ -182,30 +177,30 @@ abbrev marked : Bool → ℕ → ℕ
 marked x word = word + flag_of x * 2 ^ 25
 
 module _ (x : Bool) where
-  play-bits : (v n : ℕ) (m : Move) → Byte v → Byte n → AdviceFits (BestMove.Play m)
+  play-bits : (v n : ℕ) (m : Move) → Byte v → Byte n → AdviceFits (Some m)
       → ValueBits v n 1 m.from m.to (flag_of m.takes) m.becomes (flag_of x)
-      (marked x (v * 2 ^ 8 + n * 2 ^ 16 + advice_word (BestMove.Play m)))
+      (marked x (v * 2 ^ 8 + n * 2 ^ 16 + advice_word (Some m)))
   play-bits v n m hv hn h =
       value-bits v n 1 m.from m.to (flag_of m.takes) m.becomes (flag_of x) hv hn (omega arith) h.0 h.1
       (flag-fits m.takes) (omega (arith, h.2)) (flag-fits x)
 
   none-bits : (v n : ℕ) → Byte v → Byte n
-      → ValueBits v n 0 0 0 0 0 (flag_of x) (marked x (v * 2 ^ 8 + n * 2 ^ 16 + advice_word BestMove.NoMove))
+      → ValueBits v n 0 0 0 0 0 (flag_of x) (marked x (v * 2 ^ 8 + n * 2 ^ 16 + advice_word None))
   none-bits v n hv hn =
       value-bits v n 0 0 0 0 0 (flag_of x) hv hn (omega arith) (omega arith) (omega arith) (omega arith) (omega arith)
       (flag-fits x)
 
-  advice-back : (v n : ℕ) (a : BestMove) → Byte v → Byte n → AdviceFits a
+  advice-back : (v n : ℕ) (a : Option Move) → Byte v → Byte n → AdviceFits a
       → advice_read (marked x (v * 2 ^ 8 + n * 2 ^ 16 + advice_word a)) ≡ a
-  advice-back v n (BestMove.Play m) hv hn h =
+  advice-back v n (Some m) hv hn h =
       let b = play-bits v n m hv hn h in
       rw (b.given-read, b.from-read, b.to_read, b.takes-read, b.becomes-read, flag-read m.takes)
-  advice-back v n BestMove.NoMove hv hn h = let b = none-bits v n hv hn in rw b.given-read
+  advice-back v n None hv hn h = let b = none-bits v n hv hn in rw b.given-read
 
-  value-back : (v n : ℕ) (a : BestMove) → Byte v → Byte n → AdviceFits a
+  value-back : (v n : ℕ) (a : Option Move) → Byte v → Byte n → AdviceFits a
       → marked_read (marked x (v * 2 ^ 8 + n * 2 ^ 16 + advice_word a))
       ≡ record { answer = value_read v n a; within_fifty = x }
-  value-back v n (BestMove.Play m) hv hn h =
+  value-back v n (Some m) hv hn h =
       let b = play-bits v n m hv hn h in
       rw (
         b.none,
@@ -220,12 +215,12 @@ module _ (x : Bool) where
         b.mark-read,
         flag-read x,
       )
-  value-back v n BestMove.NoMove hv hn h =
+  value-back v n None hv hn h =
       let b = none-bits v n hv hn in
       rw (b.none, b.value-read, b.depth-read, b.given-read, b.mark-read, flag-read x)
 
   refused-back : (k : ℕ) → RefusalFits k
-      → marked_read (marked x k) ≡ record { answer = Answer.Refused k; within_fifty = x }
+      → marked_read (marked x k) ≡ record { answer = Err k; within_fifty = x }
   refused-back k h =
       let low : bits 0 8 (marked x k) ≡ k =
       field 0 8 0 k (flag_of x * 2 ^ 17) (marked x k) (omega arith) (omega arith) h.1 in
@@ -233,19 +228,19 @@ module _ (x : Bool) where
       field 25 1 k (flag_of x) 0 (marked x k) (omega arith) (omega (arith, h.1)) (flag-fits x) in
       rw (low, ne_eqb k 0 (λ z. omega arith), mark, flag-read x)
 
-  answer_back : (a : Answer) → AnswerFits a
+  answer_back : (a : Result Answer ℕ) → AnswerFits a
       → marked_read (marked x (answer_word a)) ≡ record { answer = a; within_fifty = x }
-  answer_back (Answer.Win n a) h = value-back 1 n a (omega arith) h.0 h.1
-  answer_back (Answer.Loss n a) h = value-back 2 n a (omega arith) h.0 h.1
-  answer_back (Answer.Draw a) h = value-back 3 0 a (omega arith) (omega arith) h
-  answer_back (Answer.Refused k) h = refused-back k h
+  answer_back (Ok (Answer.Win n a)) h = value-back 1 n a (omega arith) h.0 h.1
+  answer_back (Ok (Answer.Loss n a)) h = value-back 2 n a (omega arith) h.0 h.1
+  answer_back (Ok (Answer.Draw a)) h = value-back 3 0 a (omega arith) (omega arith) h
+  answer_back (Err k) h = refused-back k h
 
   -- the move by itself; a refusal has none
-  pub advice-read : (a : Answer) → AnswerFits a → given (advice_read (marked x (answer_word a))) ≡ move_of_answer a
-  advice-read (Answer.Win n a) h = ap given (advice-back 1 n a (omega arith) h.0 h.1)
-  advice-read (Answer.Loss n a) h = ap given (advice-back 2 n a (omega arith) h.0 h.1)
-  advice-read (Answer.Draw a) h = ap given (advice-back 3 0 a (omega arith) (omega arith) h)
-  advice-read (Answer.Refused k) h =
+  pub advice-read : (a : Result Answer ℕ) → AnswerFits a → given (advice_read (marked x (answer_word a))) ≡ move_of_answer a
+  advice-read (Ok (Answer.Win n a)) h = ap given (advice-back 1 n a (omega arith) h.0 h.1)
+  advice-read (Ok (Answer.Loss n a)) h = ap given (advice-back 2 n a (omega arith) h.0 h.1)
+  advice-read (Ok (Answer.Draw a)) h = ap given (advice-back 3 0 a (omega arith) (omega arith) h)
+  advice-read (Err k) h =
       let none : bits 24 1 (marked x k) ≡ 0 =
       field 24 1 k 0 (flag_of x) (marked x k) (omega arith) (omega (arith, h.1)) (omega arith) in
       rw none

@@ -1,5 +1,5 @@
 -- A black king without men: from each square he goes to those next to it that White's pieces, who stand still, do not attack; nothing else moves.
-use Rattle.std.specs.Prelude.{◌≡◌, Bool, true, false, ◌&&◌, ◌||◌, ◌⊎◌, ℕ, ◌-◌, ◌<◌, T, eqb}
+use Rattle.std.specs.Prelude.{◌≡◌, Bool, true, false, ◌&&◌, ◌||◌, ◌⊎◌, ℕ, ◌<◌, T, eqb}
 use Rattle.std.proofs.Math.Path.{refl, ap₂, subst⁻¹}
 use Rattle.std.proofs.Common.{sym, ap, subst, ◌∙◌, inl, inr, arith, ne_eqb, eqb-true}
 use Rattle.std.proofs.Math.Bool.{not}

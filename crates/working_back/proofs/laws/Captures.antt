@@ -1,5 +1,5 @@
 -- Captures taken back: the numbers of the lent tables that hold depth k - 1.
-use Rattle.std.specs.Prelude.{◌≡◌, refl, Bool, true, cond, ◌⊎◌, List, ℕ, ◌+◌, ◌-◌, ◌*◌, ◌<◌, ◌≤◌, T, eqb, length}
+use Rattle.std.specs.Prelude.{◌≡◌, refl, Bool, true, cond, ◌⊎◌, List, ℕ, ◌+◌, ◌*◌, ◌<◌, ◌≤◌, T, eqb, length, Option, Some}
 use Rattle.std.proofs.Common.{sym, subst, ◌∙◌, inl, inr, ⊎_elim, arith, lt-ltb, eq-eqb, ne_eqb}
 use Rattle.std.proofs.Math.Path.{ap, ap₂, subst⁻¹}
 use Rattle.std.proofs.Math.Bool.{false}
@@ -23,7 +23,6 @@ use Rattle.four_men.specs.Lending.{lent}
 use Rattle.four_men.specs.Reading.{full, legal_number_of, numbered}
 use Rattle.four_men.proofs.laws.Numbered.{live-is, live_at}
 use Rattle.successors.specs.Successors.{StandingAt}
-use Rattle.successors.specs.declared.Standing.{Standing}
 use Rattle.retracting.specs.Retracting.{LegalLeft, lone_of, left_place}
 use Rattle.retracting.proofs.laws.Leaving.{left-lone, left-number, left-legal}
 use Rattle.working_back.specs.Admitted.{over, Admitted}
@@ -86,7 +85,7 @@ module _ (m : Men) (first second : List ℕ) (k : ℕ) (u : List ℕ) (a : Admit
     lone_is : material_for (lone_of m taken) ≡ Material.One kind
     lone_is = one_piece kind (kinds-small m first second u a two taken)
 
-    module _ (t : Place) (w : StandingAt (lone_of m taken) j (Standing.Legal t)) where
+    module _ (t : Place) (w : StandingAt (lone_of m taken) j (Some t)) where
       legal-lone : T (legal (board_in (lone_of m taken) t))
       legal-lone =
           let M = material_for (lone_of m taken) in
@@ -139,7 +138,7 @@ module _ (m : Men) (first second : List ℕ) (k : ℕ) (u : List ℕ) (a : Admit
       pub lone-in : j < 59136
       lone-in = let z = lent-of-long m first second u a two taken in omega (arith, h, ap length es ∙ z)
 
-      pub lone-standing : (men : Men) (s : Standing) → men ≡ lone_of m taken
+      pub lone-standing : (men : Men) (s : Option Place) → men ≡ lone_of m taken
           → (T (known (material_for men)) → men.colour < 2 → j < size_of (material_for men) → StandingAt men j s)
           → StandingAt (lone_of m taken) j s
       lone-standing men s e f =

@@ -1,5 +1,5 @@
 -- A pass that works back finds every number that it is to settle: it has a move to a position of depth k - 1, in this table or in a lent one.
-use Rattle.std.specs.Prelude.{◌≡◌, false, not, ◌⊎◌, ℕ, ◌+◌, ◌-◌, ◌<◌, ◌≤◌, eqb, length, get_or}
+use Rattle.std.specs.Prelude.{◌≡◌, false, not, ◌⊎◌, ℕ, ◌+◌, ◌<◌, ◌≤◌, eqb, length, get_or}
 use Rattle.std.proofs.Math.Path.{refl, ap, subst⁻¹}
 use Rattle.std.proofs.Common.{sym, subst, ◌∙◌, inr, arith, le-leb, lt-ltb}
 use Rattle.std.proofs.Math.Bool.{cond}

@@ -1,10 +1,11 @@
 -- The three pieces that may have moved into a position.
 use Rattle.finite.specs.Truth.{of-true, and_left, and_right, or_cases}
-use Rattle.std.specs.Prelude.{◌≡◌, refl, Bool, true, false, cond, ◌&&◌, ◌||◌, ◌⊎◌, List, ℕ, zero, suc, ◌+◌, ◌-◌, ◌<◌, ◌≤◌, leb, eqb}
+use Rattle.std.specs.Prelude.{◌≡◌, Bool, true, false, cond, ◌&&◌, ◌||◌, ◌⊎◌, List, ℕ, zero, suc, ◌+◌, ◌-◌, ◌<◌, ◌≤◌, leb, eqb}
 use Rattle.std.proofs.Common.{sym, subst, ◌∙◌, inl, ⊎_elim, arith, eqb→eq, leb→le, eq-eqb, ne_eqb}
 use Rattle.std.proofs.Math.Path.{ap, subst⁻¹}
 use Rattle.std.proofs.Math.Logic.{inr}
 use Rattle.std.proofs.lemmas.Bool.{eqb-false}
+use Rattle.board.proofs.laws.SetLaws.{members-none}
 use Rattle.rules.specs.Rules.{carried}
 use Rattle.rules.specs.Chess.{chess}
 use Rattle.rules.proofs.laws.CanMove.{can-on}
@@ -119,13 +120,13 @@ module _ (m : Men) (q : Place) (taken : ℕ) (w : LegalLeft m q taken) where
     -- the man of the side to move has not just moved
     own-none : (kind owner to : ℕ) → Seat m q kind owner to → owner ≡ q.side → TriesTo m first second k q to u u 0
     own-none kind owner to seat e =
-        taken-end m first second k q taken to u a 0 u 0 0 refl (taken_start m first second k q taken to u a 0)
+        taken-end m first second k q taken to u a 0 u 0 0 members-none (taken_start m first second k q taken to u a 0)
         (no_source m q taken kind owner to w seat e).all
 
     -- nor has one who is not on the board
     off-none : (to : ℕ) → 64 ≤ to → TriesTo m first second k q to u u 0
     off-none to h =
-        taken-end m first second k q taken to u a 0 u 0 0 refl (taken_start m first second k q taken to u a 0)
+        taken-end m first second k q taken to u a 0 u 0 0 members-none (taken_start m first second k q taken to u a 0)
         (λ o from l. let x = (can-on (board_in m o) from to l.can).1 in absurd (omega (arith, x, h)))
 
     pub man-none : (kind owner s to : ℕ) → Seat m q kind owner s → s ≡ to → (eqb owner q.side || leb 64 s) ≡ true → TriesTo m first second k q to u u 0

@@ -1,5 +1,5 @@
 -- The numbers of this table that hold depth k - 1, one after the other.
-use Rattle.std.specs.Prelude.{◌≡◌, ◌⊎◌, List, ℕ, ◌+◌, ◌-◌, ◌*◌, ◌<◌, ◌≤◌, T, length}
+use Rattle.std.specs.Prelude.{◌≡◌, ◌⊎◌, List, ℕ, ◌+◌, ◌*◌, ◌<◌, ◌≤◌, T, length, Some}
 use Rattle.std.proofs.Common.{sym, subst, ◌∙◌, inl, inr, ⊎_elim, arith}
 use Rattle.std.proofs.Math.Path.{ap, subst⁻¹}
 use Rattle.std.proofs.Math.ListN.{get_or}
@@ -20,7 +20,6 @@ use Rattle.index.proofs.laws.EndingsLaws.{pieces-number}
 use Rattle.four_men.specs.Reading.{numbered, legal_number_of}
 use Rattle.four_men.proofs.laws.Numbered.{live-is, live_at}
 use Rattle.successors.specs.Successors.{StandingAt}
-use Rattle.successors.specs.declared.Standing.{Standing}
 use Rattle.retracting.specs.Retracting.{LegalLeft}
 use Rattle.retracting.proofs.laws.Sources.{all_left}
 use Rattle.working_back.specs.Admitted.{over, Admitted}
@@ -39,7 +38,7 @@ not_last j a b h e = omega arith
 
 -- what stands at a live number
 pub standing-live : (m : Men) (j : ℕ) (q : Place) → T (known (material_for m)) → StandsAt m j q → T (legal_number_of (material_for m) j)
-    → StandingAt m j (Standing.Legal q)
+    → StandingAt m j (Some q)
 standing-live m j q w s t = (
   true_of t,
   used-complete m j q s
@@ -110,7 +109,7 @@ module _ (m : Men) (first second : List ℕ) (k : ℕ) (u : List ℕ) (a : Admit
   )
 
 module _ (m : Men) (first second : List ℕ) (k j : ℕ) where
-  pub place-legal : (q : Place) → StandingAt m j (Standing.Legal q) → LegalLeft m q 0
+  pub place-legal : (q : Place) → StandingAt m j (Some q) → LegalLeft m q 0
   place-legal q w =
       all_left m q w.1
       (subst⁻¹ (λ (b : Board). T (legal b)) w.2
@@ -127,7 +126,7 @@ module _ (m : Men) (first second : List ℕ) (k j : ℕ) where
         go (inl x) = sym x ∙ e
         go (inr x) = absurd (omega (arith, e, x.1))
 
-    ripe-at : (q : Place) → StandingAt m j (Standing.Legal q) → j < length u → (t : List ℕ) → get_or t j 0 ≡ 1 + k
+    ripe-at : (q : Place) → StandingAt m j (Some q) → j < length u → (t : List ℕ) → get_or t j 0 ≡ 1 + k
         → Ready chess (over m first second) k t → Ripe m first second k t q
     unfolding numbered
     ripe-at q w h t e r =
@@ -141,7 +140,7 @@ module _ (m : Men) (first second : List ℕ) (k j : ℕ) where
               ∙ ap (λ (i : ℕ). get_or t i 0) x.2 ∙ e;
         }
 
-    pub at-legal : (q : Place) (v : List ℕ) (did : ℕ) → j < length u → get_or u j 0 ≡ 1 + k → StandingAt m j (Standing.Legal q)
+    pub at-legal : (q : Place) (v : List ℕ) (did : ℕ) → j < length u → get_or u j 0 ≡ 1 + k → StandingAt m j (Some q)
         → TriesInto m first second k q u v did → TriesAt m first second k j u v did
     at-legal q v did h e w f = (
       f.0,

@@ -1,5 +1,5 @@
 -- A position that has a move to one of depth k - 1: what trying its number comes to.
-use Rattle.std.specs.Prelude.{◌≡◌, true, false, Bool, not, ◌⊎◌, List, ℕ, ◌+◌, ◌-◌, ◌%◌, ◌<◌, ◌≤◌, T, eqb, length, get_or, set}
+use Rattle.std.specs.Prelude.{◌≡◌, true, false, Bool, not, ◌⊎◌, List, ℕ, ◌+◌, ◌%◌, ◌<◌, ◌≤◌, T, eqb, length, get_or, set}
 use Rattle.std.proofs.Common.{sym, ap, subst, ◌∙◌, inr, ⊎_elim, arith, eqb→eq}
 use Rattle.std.proofs.Math.Path.{subst⁻¹}
 use Rattle.std.proofs.Math.Logic.{inl}

@@ -1,11 +1,12 @@
 -- Squares looked at one after the other: those no longer in the rest do not pass a test; what is known of them is kept.
-use Rattle.std.specs.Prelude.{◌≡◌, refl, Bool, true, false, not, ◌&&◌, ◌||◌, ◌⊎◌, ℕ, ◌^◌, ◌<◌, T, eqb}
+use Rattle.std.specs.Prelude.{◌≡◌, refl, Bool, true, false, not, ◌&&◌, ◌||◌, ◌⊎◌, [], ℕ, ◌^◌, ◌<◌, T, eqb}
 use Rattle.std.proofs.Common.{ap, subst, ◌∙◌, inl, inr, ⊎_elim, eqb→eq}
 use Rattle.std.proofs.Math.Path.{subst⁻¹}
 use Rattle.std.specs.Int.Bits.{bit_and, and_lt}
-use Rattle.finite.specs.Truth.{decided, refuted, and_left, and_right, and_both, or_cases}
-use Rattle.board.specs.Sets.{has, set_of, lowest_square}
-use Rattle.board.proofs.laws.SetLaws.{has-none, has-and, set-has}
+use Rattle.finite.specs.Members.{none_in}
+use Rattle.finite.specs.Truth.{decided, and_left, and_right, and_both, or_cases}
+use Rattle.board.specs.Sets.{has, members, set_of, lowest_square}
+use Rattle.board.proofs.laws.SetLaws.{members-in, has-and, set-has}
 use Rattle.board.proofs.laws.LowestLaws.{Lowest}
 use Rattle.working_back.proofs.laws.Sources.{lowest-in}
 
@@ -19,9 +20,9 @@ module _ (f : ℕ → Bool) (goals : ℕ) where
       (λ x. ⊎_elim (λ b. inr (ap f (eqb→eq s t b) ∙ e)) (λ b. inl b) (or_cases (eqb s t) (has rest' s) (subst T (low.others s h) x)))
       (λ x. inr x) (u s h g)
 
-  pub unpassed-end : (rest : ℕ) → rest ≡ 0 → Unpassed rest → (s : ℕ) → s < 64 → T (has goals s) → f s ≡ false
+  pub unpassed-end : (rest : ℕ) → members rest ≡ [] → Unpassed rest → (s : ℕ) → s < 64 → T (has goals s) → f s ≡ false
   unpassed-end rest e u s h g =
-      ⊎_elim (λ x. absurd (refuted (has-none s) (subst (λ (r : ℕ). T (has r s)) e x))) (λ x. x) (u s h g)
+      ⊎_elim (λ x. absurd (none_in e (members-in rest s h x))) (λ x. x) (u s h g)
 
   -- with those that are known not to pass left out
   pub unpassed-start : (known rest : ℕ) → rest ≡ set_of (λ (u : ℕ). has goals u && not (has known u))

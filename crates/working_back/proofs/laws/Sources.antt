@@ -2,11 +2,12 @@
 use Rattle.std.specs.Prelude.{◌≡◌, refl, Bool, true, false, not, ◌&&◌, ◌⊎◌, List, [], ◌∷◌, ℕ, zero, suc, ◌+◌, ◌-◌, ◌<◌, ◌≤◌, ◌^◌, T, eqb, length, set}
 use Rattle.std.proofs.Common.{sym, ap, subst, ◌∙◌, inl, inr, ⊎_elim, arith, eqb→eq}
 use Rattle.std.proofs.Math.Path.{subst⁻¹}
-use Rattle.finite.specs.Truth.{decided, refuted, and_left, and_both, or_cases}
+use Rattle.finite.specs.Members.{none_in}
+use Rattle.finite.specs.Truth.{decided, and_left, and_both, or_cases}
 use Rattle.finite.specs.Filter.{filter, keep, filter-fewer}
 use Rattle.finite.specs.Numbers.{numbers}
 use Rattle.board.specs.Sets.{has, members, squares, lowest_square, set_of}
-use Rattle.board.proofs.laws.SetLaws.{has-none, set-has, squares-out}
+use Rattle.board.proofs.laws.SetLaws.{members-in, set-has, squares-out}
 use Rattle.board.proofs.laws.LowestLaws.{Lowest, lowest-of}
 use Rattle.rules.specs.Chess.{chess}
 use Rattle.rules.proofs.laws.CanMove.{can-on}
@@ -111,7 +112,7 @@ module _ (m : Men) (first second : List ℕ) (k : ℕ) (q : Place) (taken to : �
           ),
     )
 
-    pub taken-end : (v : List ℕ) (rest did : ℕ) → rest ≡ 0 → Taken set u v rest did
+    pub taken-end : (v : List ℕ) (rest did : ℕ) → members rest ≡ [] → Taken set u v rest did
         → ((o : Place) (from : ℕ) → Leads m o from to q → T (has set from) × (o ≡ place_before q taken from to))
         → TriesTo m first second k q to u v did
     taken-end v rest did e f all = (
@@ -122,8 +123,8 @@ module _ (m : Men) (first second : List ℕ) (k : ℕ) (q : Place) (taken to : �
             λ o from l.
                 let x = all o from l in
                 subst⁻¹ (λ (c : Place). Tried chess (over m first second) k t v (number_of (board_in m c))) x.1
-                (⊎_elim (λ g. absurd (refuted (has-none from) (subst (λ (z : ℕ). T (has z from)) e g))) (λ g. g)
-                (p.1 from (can-on (board_in m o) from to l.can).0 x.0)),
+                (let h = (can-on (board_in m o) from to l.can).0 in
+                ⊎_elim (λ g. absurd (none_in e (members-in rest from h g))) (λ g. g) (p.1 from h x.0)),
           ),
     )
 

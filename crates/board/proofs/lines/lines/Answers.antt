@@ -1,19 +1,15 @@
-use mathlib.Core.Path.{◌≡◌, refl, sym, ap, ◌∙◌}
-use mathlib.Core.Bool.{Bool, ◌||◌}
-use Prim.Native.Nat.{ℕ, ◌+◌, ◌-◌, ◌<◌}
+use mathlib.Core.Path.{refl, sym, ap, ◌∙◌}
+use mathlib.Core.Bool.{◌||◌}
+use Prim.Native.Nat.{◌+◌}
 use native.Mathlib.Omega.{arith}
-use borrow.Author.Rules.{rules}
-use Rattle.finite.specs.Members.{any}
-use Rattle.finite.specs.Numbers.{numbers, any-end}
+use Rattle.finite.specs.Numbers.{any-end}
 use Rattle.board.specs.Reach.{line_of, stepped}
 use Rattle.board.specs.Sets.{has}
-use Rattle.board.specs.SetLaws.{bit}
 use Rattle.board.proofs.laws.SetLaws.{has-none}
 use Rattle.board.proofs.laws.SweepLaws.{sweep-end, sweep-line}
-use Rattle.board.specs.StepLaws.{IsStep}
 use Rattle.board.proofs.laws.StepLaws.{step_small, is-stepped}
-use Rattle.board.proofs.laws.WalkBits.{left, nearer, free-board, gathers-on, gathers-last}
-use Rattle.board.proofs.lines.lines.Invariants.{ways, Lines, Walked}
+use Rattle.board.proofs.laws.WalkBits.{nearer, free-board, gathers-on, gathers-last}
+use Rattle.board.proofs.lines.lines.Invariants.{ways}
 use Rattle.board.proofs.lines.lines.Goals as goal
 
 pub lines-init : goal.lines-init

@@ -1,18 +1,13 @@
-use mathlib.Core.Path.{◌≡◌, refl, sym, ap, ◌∙◌}
+use mathlib.Core.Path.{◌≡◌}
 use mathlib.Core.Bool.{Bool, ◌||◌}
-use Prim.Native.Nat.{ℕ, ◌+◌, ◌-◌, ◌<◌}
-use native.Mathlib.Omega.{arith}
-use borrow.Author.Rules.{rules}
+use Prim.Native.Nat.{ℕ, ◌-◌, ◌<◌}
 use Rattle.finite.specs.Members.{any}
-use Rattle.finite.specs.Numbers.{numbers, any-end}
-use Rattle.board.specs.Reach.{line_of, stepped}
+use Rattle.finite.specs.Numbers.{numbers}
+use Rattle.board.specs.Reach.{line_of}
 use Rattle.board.specs.Sets.{has}
 use Rattle.board.specs.SetLaws.{bit}
-use Rattle.board.proofs.laws.SetLaws.{has-none}
-use Rattle.board.proofs.laws.SweepLaws.{sweep-end, sweep-line}
 use Rattle.board.specs.StepLaws.{IsStep}
-use Rattle.board.proofs.laws.StepLaws.{step_small, is-stepped}
-use Rattle.board.proofs.laws.WalkBits.{left, nearer, free-board, gathers-on, gathers-last}
+use Rattle.board.proofs.laws.WalkBits.{left}
 use Rattle.board.proofs.lines.lines.Given as goal
 
 -- one of the lines k up to end leads to t

@@ -6,7 +6,6 @@ use lib.Dec.{eqb}
 use Rattle.board.specs.Sets.{has, lowest_square}
 use Rattle.board.proofs.laws.SetLaws.{has-none, set_is}
 use Rattle.board.proofs.laws.LowestLaws.{common-beyond}
-use borrow.Author.Rules.{rules}
 use Rattle.board.proofs.sets.beyond_lowest.Goals as goal
 
 pub returns-then-set-eq0 : goal.returns-then-set-eq0

@@ -1,6 +1,5 @@
 use mathlib.Core.Path.{sym}
 use Rattle.board.proofs.laws.SetLaws.{has-off}
-use borrow.Author.Rules.{rules}
 use Rattle.board.proofs.sets.has.Goals as goal
 
 pub returns-then-s-ge64 : goal.returns-then-s-ge64

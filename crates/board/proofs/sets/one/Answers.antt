@@ -3,7 +3,6 @@ use native.Mathlib.Omega.{arith}
 use borrow.Author.Tests.{ne_eqb}
 use Rattle.board.specs.SetLaws.{bit}
 use Rattle.board.proofs.laws.SetLaws.{has-none, has-bit, set_is}
-use borrow.Author.Rules.{rules}
 use Rattle.board.proofs.sets.one.Goals as goal
 
 pub returns-then-s-ge64 : goal.returns-then-s-ge64

@@ -3,7 +3,6 @@ use mathlib.Core.Bool.{◌||◌}
 use lib.Bits.{or_lt}
 use Rattle.board.specs.Sets.{has}
 use Rattle.board.proofs.laws.SetLaws.{has-or, set_is, set-has}
-use borrow.Author.Rules.{rules}
 use Rattle.board.proofs.sets.with.Goals as goal
 
 pub returns : goal.returns

@@ -2,7 +2,6 @@ use mathlib.Core.Path.{ap, ◌∙◌}
 use mathlib.Core.Bool.{not, ◌&&◌}
 use Rattle.board.specs.Sets.{has}
 use Rattle.board.proofs.laws.SetLaws.{set_of-same, set-has}
-use borrow.Author.Rules.{rules}
 use Rattle.board.proofs.sets.without.Goals as goal
 
 pub returns : goal.returns

@@ -1,4 +1,3 @@
-use borrow.Author.Rules.{rules}
 use Rattle.board.proofs.laws.StepLaws.{step_is}
 use Rattle.board.proofs.steps.step_at.Goals as goal
 

@@ -1,4 +1,3 @@
-use borrow.Author.Rules.{rules}
 use borrow.Author.Tests.{lt-ltb, le-ltb}
 use Rattle.board.specs.StepLaws.{step_bits}
 use Rattle.board.proofs.laws.StepLaws.{step-bit}

@@ -1,23 +1,23 @@
 -- The directions left give what all give.
+use Rattle.std.specs.Prelude.{Option, Some, None, eqb}
+use Rattle.std.specs.Option.{option_eq}
 use mathlib.Core.Path.{◌≡◌, refl, sym, ap, ◌∙◌}
-use mathlib.Core.Bool.{Bool, true, false}
-use mathlib.Core.Logic.{⊎_elim}
-use Prim.Native.Nat.{ℕ, ◌+◌, ◌-◌, ◌<◌}
-use borrow.Author.Rules.{rules}
-use borrow.Author.Tests.{eq-eqb, ne_eqb}
-use Rattle.finite.specs.Members.{any}
-use Rattle.finite.specs.Numbers.{numbers, any-end, any-first}
+use mathlib.Core.Bool.{true, false}
+use Prim.Native.Nat.{ℕ, ◌+◌, ◌<◌}
+use Rattle.finite.specs.Numbers.{any-end, any-first}
 use Rattle.board.specs.Sets.{has, set_of}
 use Rattle.board.proofs.laws.SetLaws.{set-has}
 use Rattle.board.specs.Walk.{walk_of, met_at, with_target, meets_first}
 use Rattle.board.proofs.laws.WalkLaws.{walk_same}
-use Rattle.board.specs.declared.Met.{Met}
 use Rattle.board.proofs.walks.meets.Invariants.{ways}
-use Rattle.board.proofs.walks.meets.Goals.{in-At+else-u-t, in_default}
 use Rattle.board.proofs.walks.meets.Goals as goal
 
+met_is : (r : Option ℕ) (t : ℕ) → met_at r t ≡ option_eq eqb r (Some t)
+met_is (Some u) t = refl
+met_is None t = refl
+
 -- one more direction: set is occ with t put in, r what the walk over it meets
-module _ (occ from end t k set : ℕ) (r : Met) (e : set ≡ set_of (with_target (has occ) t))
+module _ (occ from end t k set : ℕ) (r : Option ℕ) (e : set ≡ set_of (with_target (has occ) t))
     (q : r ≡ walk_of (has set) from k) (l : k < end) where
   met : meets_first (has occ) from t k ≡ met_at r t
   met = ap (λ m. met_at m t)
@@ -32,15 +32,15 @@ module _ (occ from end t k set : ℕ) (r : Met) (e : set ≡ set_of (with_target
 pub loop-direction-init : goal.loop-direction-init
 loop-direction-init c = refl
 
-pub returns-then-u-t : goal.returns-then-u-t
-returns-then-u-t c =
+pub returns-then-eq : goal.returns-then-eq
+returns-then-eq c =
     let l = c.loop-direction in
     let a = c.args in
     sym
     (l.invariant
     ∙ hit a.occ a.from a.end a.t l.direction _ _ c.with-standing.ensures
     c.walk.ensures c.loop-direction-test.true
-    (rw c.in-At.is (eq-eqb _ _ c.if-u-t.true)))
+    (met_is c.walk.result a.t ∙ sym c.eq.ensures ∙ c.if-eq.true))
 
 pub loop-direction-preserved : goal.loop-direction-preserved
 loop-direction-preserved c =
@@ -49,7 +49,7 @@ loop-direction-preserved c =
     l.invariant
     ∙ miss a.occ a.from a.end a.t l.direction _ _ c.with-standing.ensures
     c.walk.ensures c.loop-direction-test.true
-    (elim c.match-walk.branch [ in-At+else-u-t w ↦ rw w.in-At.is (ne_eqb _ _ w.if-u-t.false) | in_default w ↦ rw w.in_default.is refl ])
+    (met_is c.walk.result a.t ∙ sym c.eq.ensures ∙ c.if-eq.false)
 
 pub returns : goal.returns
 returns c =

@@ -1,17 +1,11 @@
 -- The directions left give what all give.
-use mathlib.Core.Path.{◌≡◌, refl, sym, ap, ◌∙◌}
-use mathlib.Core.Bool.{Bool, true, false}
-use mathlib.Core.Logic.{⊎_elim}
-use Prim.Native.Nat.{ℕ, ◌+◌, ◌-◌, ◌<◌}
-use borrow.Author.Rules.{rules}
-use borrow.Author.Tests.{eq-eqb, ne_eqb}
+use mathlib.Core.Path.{◌≡◌}
+use mathlib.Core.Bool.{Bool}
+use Prim.Native.Nat.{ℕ, ◌-◌}
 use Rattle.finite.specs.Members.{any}
-use Rattle.finite.specs.Numbers.{numbers, any-end, any-first}
-use Rattle.board.specs.Sets.{has, set_of}
-use Rattle.board.proofs.laws.SetLaws.{set-has}
-use Rattle.board.specs.Walk.{walk_of, met_at, with_target, meets_first}
-use Rattle.board.proofs.laws.WalkLaws.{walk_same}
-use Rattle.board.specs.declared.Met.{Met}
+use Rattle.finite.specs.Numbers.{numbers}
+use Rattle.board.specs.Sets.{has}
+use Rattle.board.specs.Walk.{meets_first}
 use Rattle.board.proofs.walks.meets.Given as goal
 
 -- a walk in one of the directions k up to end meets t first

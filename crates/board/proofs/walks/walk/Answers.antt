@@ -1,17 +1,11 @@
 -- What is left of the walk, from the square come to, is what the whole gives.
-use mathlib.Core.Path.{◌≡◌, refl, sym, ap, ◌∙◌}
-use Prim.Native.Nat.{ℕ, ◌<◌}
+use Rattle.std.specs.Prelude.{Some}
+use mathlib.Core.Path.{refl, sym, ap, ◌∙◌}
 use native.Mathlib.Omega.{arith}
-use borrow.Author.Rules.{rules}
 use Rattle.board.specs.Reach.{stepped}
-use Rattle.board.specs.Sets.{has}
-use Rattle.board.specs.SetLaws.{bit}
 use Rattle.board.proofs.laws.StepLaws.{step_small, is-stepped}
-use Rattle.board.specs.Walk.{walk_of}
 use Rattle.board.proofs.laws.WalkLaws.{walk-off, walk-nowhere}
-use Rattle.board.proofs.laws.WalkBits.{left, on-board, nearer, meets-edge, meets-piece, goes_on}
-use Rattle.board.specs.declared.Met.{Met}
-use Rattle.board.proofs.walks.walk.Invariants.{Walking}
+use Rattle.board.proofs.laws.WalkBits.{on-board, nearer, meets-edge, meets-piece, goes_on}
 use Rattle.board.proofs.walks.walk.Goals as goal
 
 pub returns-then-from-ge64 : goal.returns-then-from-ge64
@@ -76,7 +70,7 @@ pub returns-then-at-occ-ne0 : goal.returns-then-at-occ-ne0
 returns-then-at-occ-ne0 c =
     let l = c.loop-at in
     let lands = c.stepped-at.ensures l.invariant.square l.invariant.on l.invariant.is in
-    ap Met.At c.lowest.ensures
+    ap Some c.lowest.ensures
     ∙ sym (l.invariant.rest
     ∙ meets-piece c.args.direction _ l.invariant.square _ c.if-direction-ge8.false
     c.step_at-step.ensures lands c.args.occ c.ranges.occ.fits c.if-at-eq0.false

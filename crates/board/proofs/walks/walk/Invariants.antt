@@ -1,16 +1,10 @@
 -- What is left of the walk, from the square come to, is what the whole gives.
-use mathlib.Core.Path.{◌≡◌, refl, sym, ap, ◌∙◌}
+use mathlib.Core.Path.{◌≡◌}
 use Prim.Native.Nat.{ℕ, ◌<◌}
-use native.Mathlib.Omega.{arith}
-use borrow.Author.Rules.{rules}
-use Rattle.board.specs.Reach.{stepped}
 use Rattle.board.specs.Sets.{has}
 use Rattle.board.specs.SetLaws.{bit}
-use Rattle.board.proofs.laws.StepLaws.{step_small, is-stepped}
 use Rattle.board.specs.Walk.{walk_of}
-use Rattle.board.proofs.laws.WalkLaws.{walk-off, walk-nowhere}
-use Rattle.board.proofs.laws.WalkBits.{left, on-board, nearer, meets-edge, meets-piece, goes_on}
-use Rattle.board.specs.declared.Met.{Met}
+use Rattle.board.proofs.laws.WalkBits.{left}
 use Rattle.board.proofs.walks.walk.Given as goal
 
 -- at is the bit of a square from which the walk goes on

@@ -1,7 +1,6 @@
 -- `checking::check` meets its contract: each return by the tests that led there.
 use mathlib.Core.Path.{refl}
 use mathlib.Core.Bool.{true}
-use borrow.Author.Tests.{not-true, not-false}
 use Rattle.four_men.specs.Lending.{lent}
 use Rattle.checking.proofs.laws.Laws.{refused-ending, refused-lengths, their-table, found-last, one-promised}
 use Rattle.checking.proofs.checker.check.Goals as goal

@@ -1,5 +1,4 @@
 -- `checking::check_with` meets its contract: each return by the tests that led there.
-use borrow.Author.Tests.{not-true, not-false}
 use Rattle.four_men.proofs.laws.Checking.{check-promised-with}
 use Rattle.checking.proofs.laws.Laws.{refused-ending, refused-lengths, their-table, refused-lent, found-last}
 use Rattle.checking.proofs.checker.check_with.Goals as goal

@@ -1,17 +1,11 @@
 -- `checking::lowest_wrong` meets its contract. The loop's invariant: the bytes below n are right, and the place at the
 -- row's first number is kept.
-use mathlib.Core.Path.{◌≡◌, refl}
-use Prim.Native.Nat.{◌-◌, ◌%◌, ◌<◌, ◌≤◌}
+use mathlib.Core.Path.{refl}
+use Prim.Native.Nat.{◌<◌}
 use native.Mathlib.Omega.{arith}
-use lib.Dec.{T}
-use lib.ListN.{length}
-use borrow.Author.Tests.{not-true, not-false}
-use Rattle.numbering.specs.Material.{known, size_of}
+use Rattle.numbering.specs.Material.{size_of}
 use Rattle.position.specs.Posed.{material_for}
-use Rattle.four_men.specs.Lending.{lent}
-use Rattle.deciding.specs.Rows.{RowOf}
 use Rattle.deciding.proofs.laws.Rows.{row_next}
-use Rattle.checking.specs.Right.{Numbers, RightBelow}
 use Rattle.checking.proofs.laws.Laws.{right-more, found-wrong, found_right, size-most}
 use Rattle.checking.proofs.checker.lowest_wrong.Goals as goal
 
@@ -40,12 +34,6 @@ returns-then-not-is_right c =
     let h : c.loop-n.n < size_of (material_for c.args.m) = omega (arith, c.requires.1, c.loop-n-test.true) in
     found-wrong _ _ _ _ _ h c.is_right.ensures c.if-not-is_right.true
     c.loop-n.invariant.1
-
-pub overflow_add-n : goal.overflow_add-n
-overflow_add-n c = omega arith
-
-pub loop-n-smaller : goal.loop-n-smaller
-loop-n-smaller c = omega (arith, c.loop-n-test.true)
 
 pub loop-n-preserved : goal.loop-n-preserved
 loop-n-preserved c =

@@ -1,23 +1,16 @@
 -- `checking::lowest_wrong` meets its contract. The loop's invariant: the bytes below n are right, and the place at the
 -- row's first number is kept.
-use mathlib.Core.Path.{◌≡◌, refl}
-use Prim.Native.Nat.{◌-◌, ◌%◌, ◌<◌, ◌≤◌}
-use native.Mathlib.Omega.{arith}
+use mathlib.Core.Path.{◌≡◌}
+use Prim.Native.Nat.{◌%◌, ◌≤◌}
 use lib.Dec.{T}
 use lib.ListN.{length}
-use borrow.Author.Tests.{not-true, not-false}
-use Rattle.numbering.specs.Material.{known, size_of}
+use Rattle.numbering.specs.Material.{known}
 use Rattle.position.specs.Posed.{material_for}
 use Rattle.four_men.specs.Lending.{lent}
 use Rattle.deciding.specs.Rows.{RowOf}
-use Rattle.deciding.proofs.laws.Rows.{row_next}
-use Rattle.checking.specs.Right.{Numbers, RightBelow}
-use Rattle.checking.proofs.laws.Laws.{right-more, found-wrong, found_right, size-most}
+use Rattle.checking.specs.Right.{RightBelow}
 use Rattle.checking.proofs.checker.lowest_wrong.Given as goal
 
 abbrev pub invariant-loop-n : goal.invariant-loop-n
 invariant-loop-n l = (l.n ≤ length l.table) × RightBelow (material_for l.m) (lent l.first l.second) l.table l.n
     × (T (known (material_for l.m)) → (l.n % 64 ≡ 0 → ⊥) → RowOf l.m l.n l.row)
-
-abbrev pub decreases-loop-n : goal.decreases-loop-n
-decreases-loop-n l = length l.table - l.n

@@ -1,5 +1,4 @@
 -- `checking::part_accepted` meets its contract: a part that is there whole is checked.
-use borrow.Author.Rules.{rules}
 use native.Mathlib.Omega.{arith}
 use Rattle.checking.proofs.laws.Parts.{part-short, part-whole}
 use Rattle.checking.proofs.checker.part_accepted.Goals as goal

@@ -1,7 +1,5 @@
 -- `numbers::is_legal_on` meets its contract: not used, in check, or legal.
 use mathlib.Core.Path.{sym, ◌∙◌}
-use borrow.Author.Rules.{rules}
-use borrow.Author.Tests.{not-true, not-false}
 use Rattle.finite.specs.Truth.{of-true}
 use Rattle.index.proofs.laws.CompleteLaws.{used-complete}
 use Rattle.successors.proofs.laws.NumberLaws.{found-unused, found-illegal, found-legal, checked-other}

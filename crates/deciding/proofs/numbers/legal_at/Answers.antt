@@ -1,5 +1,4 @@
 -- `numbers::legal_at` meets its contract, by the first man.
-use borrow.Author.Rules.{rules}
 use Rattle.deciding.proofs.laws.PawnLaws.{given-pawn, given-known}
 use Rattle.deciding.proofs.laws.StandingLaws.{pieces-standing}
 use Rattle.deciding.proofs.numbers.legal_at.Goals as goal

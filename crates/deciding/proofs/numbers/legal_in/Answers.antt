@@ -1,10 +1,8 @@
 -- `numbers::legal_in` meets its contract: king and pawn; pieces not used, in check, or legal.
+use Rattle.std.specs.Prelude.{Some}
 use mathlib.Core.Path.{sym, ◌∙◌}
-use borrow.Author.Rules.{rules}
-use borrow.Author.Tests.{not-true, not-false}
 use Rattle.finite.specs.Truth.{of-true}
 use Rattle.index.proofs.laws.CompleteLaws.{used-complete}
-use Rattle.successors.specs.declared.Standing.{Standing}
 use Rattle.successors.proofs.laws.NumberLaws.{found-unused, found-illegal, found-legal, checked-other}
 use Rattle.deciding.proofs.laws.PawnLaws.{given-pawn, given-known}
 use Rattle.deciding.proofs.laws.StandingLaws.{pieces-standing}
@@ -35,5 +33,5 @@ returns c =
     let s = c.in_row-q.ensures (f k) in
     let u = sym (c.is_used.ensures s) ∙ c.if-not-is_used.false in
     let w = used-complete _ _ _ s (of-true u) in
-    pieces-standing a.m a.n (Standing.Legal c.in_row-q.result) k (found-legal _ _ _ k s.board u w
+    pieces-standing a.m a.n (Some c.in_row-q.result) k (found-legal _ _ _ k s.board u w
     (checked-other _ _ _ _ _ c.other.ensures (c.checked.ensures w) c.if-checked.false))

@@ -1,7 +1,5 @@
 -- `numbers::legal_of_pawn` meets its contract.
-use borrow.Author.Rules.{rules}
 use mathlib.Core.Path.{sym, ◌∙◌}
-use borrow.Author.Tests.{not-true, not-false}
 use Rattle.deciding.proofs.laws.StandingLaws.{pawn-nothing, pawn-standing}
 use Rattle.deciding.proofs.numbers.legal_of_pawn.Goals as goal
 

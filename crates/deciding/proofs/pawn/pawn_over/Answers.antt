@@ -1,6 +1,4 @@
 -- `pawn::pawn_over` meets its contract: a move is left, or the byte is that of the end, or not.
-use borrow.Author.Rules.{rules}
-use borrow.Author.Tests.{not-true, not-false}
 use Rattle.deciding.proofs.laws.PawnVerdicts.{end_more, end-right, end-wrong}
 use Rattle.deciding.proofs.pawn.pawn_over.Goals as goal
 

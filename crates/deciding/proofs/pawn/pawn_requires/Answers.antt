@@ -1,5 +1,4 @@
 -- `pawn::pawn_requires` meets its contract: by mate, or by the weighing.
-use borrow.Author.Rules.{rules}
 use mathlib.Core.Path.{◌∙◌}
 use Rattle.successors.proofs.laws.VerdictLaws.{depth-mate}
 use Rattle.deciding.proofs.laws.PawnVerdicts.{depth-refuted, depth-met, depth-unmet}

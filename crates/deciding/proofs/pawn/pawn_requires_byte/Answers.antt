@@ -1,6 +1,5 @@
 -- `pawn::pawn_requires_byte` meets its contract: by the verdict.
 use mathlib.Core.Path.{sym}
-use borrow.Author.Rules.{rules}
 use Rattle.successors.proofs.laws.VerdictLaws.{told-wrong, told-right}
 use Rattle.deciding.proofs.pawn.pawn_requires_byte.Goals as goal
 

@@ -1,5 +1,4 @@
 -- `pawn::pawn_verdict` meets its contract: each return by the weighing that led there.
-use borrow.Author.Rules.{rules}
 use Rattle.successors.proofs.laws.VerdictLaws.{verdict-zero}
 use Rattle.deciding.proofs.laws.PawnVerdicts.{pawn-refuted, pawn-met, pawn-unmet}
 use Rattle.deciding.proofs.pawn.pawn_verdict.Goals as goal

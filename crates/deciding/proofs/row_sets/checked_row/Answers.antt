@@ -1,6 +1,5 @@
 -- `row_sets::checked_row` meets its contract: every square, or by the last man.
 use mathlib.Core.Path.{refl}
-use borrow.Author.Rules.{rules}
 use Rattle.finite.specs.Truth.{true-not-false}
 use Rattle.deciding.proofs.laws.RowSets.{every-square, checks-in}
 use Rattle.deciding.proofs.row_sets.checked_row.Goals as goal

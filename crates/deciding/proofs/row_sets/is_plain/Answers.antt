@@ -1,6 +1,5 @@
 -- `row_sets::is_plain` meets its contract.
 use mathlib.Core.Path.{sym, ◌∙◌}
-use borrow.Author.Rules.{rules}
 use borrow.Author.Tests.{eqb-true}
 use Rattle.finite.specs.Truth.{refuted}
 use Rattle.deciding.proofs.row_sets.is_plain.Goals as goal

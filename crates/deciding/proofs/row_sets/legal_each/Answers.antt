@@ -1,17 +1,11 @@
 -- `row_sets::legal_each` meets its contract. The loop's invariant: of the squares below s the set holds those asked for.
-use mathlib.Core.Path.{◌≡◌, sym, ◌∙◌}
-use mathlib.Core.Bool.{◌&&◌}
-use mathlib.Core.Logic.{⊎_elim}
-use Prim.Native.Nat.{ℕ, ◌+◌, ◌-◌, ◌*◌, ◌/◌, ◌<◌, ◌≤◌}
+use mathlib.Core.Path.{sym, ◌∙◌}
+use Prim.Native.Nat.{ℕ, ◌+◌, ◌*◌, ◌/◌}
 use native.Mathlib.Omega.{arith}
-use lib.Dec.{ltb}
-use borrow.Author.Rules.{rules}
 use borrow.Author.Tests.{lt-ltb, le-ltb}
-use Rattle.board.specs.Sets.{has}
 use Rattle.board.proofs.laws.SetLaws.{has-none, set-has}
 use Rattle.position.specs.Posed.{material_for}
 use Rattle.four_men.specs.Reading.{legal_number_of}
-use Rattle.deciding.specs.Rows.{RowOf}
 use Rattle.deciding.proofs.laws.Rows.{row_same}
 use Rattle.deciding.proofs.laws.Gathering.{gathered-in, gathered-out}
 use Rattle.deciding.proofs.row_sets.legal_each.Goals.{then-is_legal_on, else-is_legal_on}
@@ -19,9 +13,6 @@ use Rattle.deciding.proofs.row_sets.legal_each.Goals as goal
 
 pub loop-s-init : goal.loop-s-init
 loop-s-init c = (omega arith, λ r u h. rw (has-none u, le-ltb u 0 (omega arith)))
-
-pub loop-s-smaller : goal.loop-s-smaller
-loop-s-smaller c = omega (arith, c.loop-s-test.true)
 
 pub loop-s-preserved : goal.loop-s-preserved
 loop-s-preserved c =

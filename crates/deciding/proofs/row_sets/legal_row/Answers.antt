@@ -1,6 +1,4 @@
 -- `row_sets::legal_row` meets its contract: each number asked, or by the last man.
-use borrow.Author.Rules.{rules}
-use borrow.Author.Tests.{not-false}
 use Rattle.deciding.proofs.laws.RowSets.{mover, legal-told}
 use Rattle.deciding.proofs.row_sets.legal_row.Goals as goal
 

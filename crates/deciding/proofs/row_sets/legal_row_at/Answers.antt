@@ -1,5 +1,4 @@
 -- `row_sets::legal_row_at` meets its contract.
-use borrow.Author.Rules.{rules}
 use Rattle.deciding.proofs.laws.Rows.{row_first}
 use Rattle.deciding.proofs.row_sets.legal_row_at.Goals as goal
 

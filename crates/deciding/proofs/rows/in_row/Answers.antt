@@ -1,6 +1,5 @@
 -- `rows::in_row` meets its contract.
 use mathlib.Core.Path.{subst⁻¹}
-use borrow.Author.Rules.{rules}
 use Rattle.index.specs.Seats.{StandsAt}
 use Rattle.deciding.proofs.laws.Rows.{row-stands}
 use Rattle.deciding.proofs.rows.in_row.Goals as goal

@@ -1,5 +1,4 @@
 -- `rows::row_at` meets its contract.
-use borrow.Author.Rules.{rules}
 use Rattle.deciding.proofs.laws.Rows.{row_first}
 use Rattle.deciding.proofs.rows.row_at.Goals as goal
 

@@ -1,7 +1,5 @@
 -- `settling::pieces_at` meets its contract.
-use borrow.Author.Rules.{rules}
 use mathlib.Core.Path.{sym, ◌∙◌}
-use borrow.Author.Tests.{not-true, not-false}
 use Rattle.index.proofs.laws.PlaceLaws.{used-not}
 use Rattle.index.proofs.laws.CompleteLaws.{shared-complete}
 use Rattle.deciding.proofs.laws.SettlingLaws.{unused-required, not-required, legal-required}

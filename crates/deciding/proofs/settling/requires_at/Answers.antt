@@ -1,5 +1,4 @@
 -- `settling::requires_at` meets its contract, by the first man.
-use borrow.Author.Rules.{rules}
 use Rattle.deciding.proofs.laws.PawnLaws.{given-known}
 use Rattle.deciding.proofs.settling.requires_at.Goals as goal
 

@@ -1,5 +1,4 @@
 -- `settling::requires_on` meets its contract: a depth is its byte less 2.
-use borrow.Author.Rules.{rules}
 use Rattle.successors.proofs.laws.VerdictLaws.{depth-byte}
 use Rattle.deciding.proofs.settling.requires_on.Goals as goal
 

@@ -1,5 +1,4 @@
 -- `verdicts::requires_depth` meets its contract, by the first man.
-use borrow.Author.Rules.{rules}
 use Prim.Native.Nat.{ℕ, ◌+◌}
 use lib.Dec.{eqb}
 use Rattle.theory.specs.Required.{required_at}

@@ -1,5 +1,4 @@
 -- `filling::start` meets its contract, by the first man.
-use borrow.Author.Rules.{rules}
 use Rattle.deciding.proofs.laws.PawnLaws.{given-known}
 use Rattle.filling.proofs.bytes.start.Goals as goal
 

@@ -2,7 +2,6 @@
 use native.Mathlib.Omega.{arith}
 use Rattle.deciding.proofs.laws.PawnLaws.{given-pawn, given-known}
 use Rattle.filling.proofs.laws.Greatest.{deepest-pawn, deepest-none, deepest-both}
-use borrow.Author.Rules.{rules}
 use Rattle.filling.proofs.deepest.deepest_lent.Goals as goal
 
 pub returns-then-m-eq-PAWN : goal.returns-then-m-eq-PAWN
@@ -18,4 +17,4 @@ returns-then-m-ge4 c =
 pub returns : goal.returns
 returns c =
     deepest-both _ _ _ c.if-m-ge4.false _ _ c.greatest_byte-2.ensures c.greatest_byte-3.ensures _
-    c.greater.ensures (omega (arith, c.greater.type_inv))
+    c.max.ensures (omega (arith, c.max.type_inv))

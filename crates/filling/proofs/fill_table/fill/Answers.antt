@@ -1,6 +1,5 @@
 -- `filling::fill` meets its contract.
 use Rattle.filling.proofs.laws.FillLaws.{promised-one}
-use borrow.Author.Rules.{rules}
 use Rattle.filling.proofs.fill_table.fill.Goals as goal
 
 pub returns : goal.returns

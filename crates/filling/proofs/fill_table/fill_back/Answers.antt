@@ -1,7 +1,5 @@
 -- `filling::fill_back` meets its contract.
 use mathlib.Core.Path.{sym, ◌∙◌}
-use borrow.Author.Rules.{rules}
-use borrow.Author.Tests.{not-true, not-false}
 use Rattle.finite.specs.Truth.{of-true}
 use Rattle.filling.proofs.laws.FillLaws.{back-refused, back-pieces}
 use Rattle.filling.proofs.fill_table.fill_back.Goals as goal

@@ -1,11 +1,9 @@
 -- `filling::fill_by` meets its contract.
 use mathlib.Core.Path.{sym, ◌∙◌}
 use native.Mathlib.Omega.{arith}
-use borrow.Author.Tests.{not-true, not-false}
 use Rattle.finite.specs.Truth.{of-true}
 use Rattle.filling.proofs.laws.Calls.{admitted-by, known_by}
 use Rattle.filling.proofs.laws.FillLaws.{lent-bytes, promised-1, promised-7, promised-17, promised-filled}
-use borrow.Author.Rules.{rules}
 use Rattle.filling.proofs.fill_table.fill_by.Goals as goal
 
 pub returns-then-not-is_given : goal.returns-then-not-is_given

@@ -1,17 +1,9 @@
 -- `filling::fill_men` meets its contract. The loop's invariant: the passes left, from the table as it stands, give what
 -- all passes give.
-use mathlib.Core.Path.{◌≡◌, refl, ◌∙◌}
-use Prim.Native.Nat.{◌-◌, ◌≤◌}
+use mathlib.Core.Path.{refl, ◌∙◌}
 use native.Mathlib.Omega.{arith}
-use lib.ListN.{length}
-use borrow.Author.Rules.{rules}
-use Rattle.table_theory.specs.Tables.{undecided, ended}
-use Rattle.table_theory.specs.Lending.{passes_until}
-use Rattle.rules.specs.Chess.{chess}
 use Rattle.working_back.specs.Admitted.{over}
-use Rattle.filling.specs.Stepping.{deeper_than, last_of}
 use Rattle.working_back.proofs.laws.Admitted.{long, run_long, admitted-kept}
-use Rattle.working_back.specs.Trying.{Ready}
 use Rattle.filling.proofs.laws.StepCode.{step_went, step-ended, ready-after}
 use Rattle.filling.proofs.laws.FillLaws.{start-long, started-ready, filled-so}
 use Rattle.filling.proofs.fill_table.fill_men.Goals as goal

@@ -1,6 +1,5 @@
 -- `filling::fill_one_back` meets its contract.
 use Rattle.filling.proofs.laws.FillLaws.{back_one}
-use borrow.Author.Rules.{rules}
 use Rattle.filling.proofs.fill_table.fill_one_back.Goals as goal
 
 pub returns : goal.returns

@@ -1,5 +1,4 @@
 -- `filling::white_may` meets its contract.
-use borrow.Author.Rules.{rules}
 use Rattle.filling.proofs.laws.Quiet.{quiet-low}
 use Rattle.filling.proofs.halves.white_may.Goals as goal
 

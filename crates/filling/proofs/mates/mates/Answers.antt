@@ -1,5 +1,4 @@
 -- `filling::mates` meets its contract, by the first man.
-use borrow.Author.Rules.{rules}
 use Rattle.deciding.proofs.laws.PawnLaws.{given-known}
 use Rattle.filling.proofs.mates.mates.Goals as goal
 

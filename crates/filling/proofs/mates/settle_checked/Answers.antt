@@ -1,7 +1,5 @@
 -- `filling::settle_checked` meets its contract.
 use mathlib.Core.Path.{refl, sym, ◌∙◌}
-use borrow.Author.Rules.{rules}
-use borrow.Author.Tests.{not-true, not-false}
 use Rattle.deciding.proofs.laws.RowSets.{mate-in-row}
 use Rattle.filling.proofs.laws.Code.{verdict-none}
 use Rattle.filling.proofs.laws.Laws.{settle-no, settle-yes}

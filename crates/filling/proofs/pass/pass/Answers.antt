@@ -1,5 +1,4 @@
 -- `filling::pass` meets its contract.
-use borrow.Author.Rules.{rules}
 use Rattle.filling.proofs.pass.pass.Goals as goal
 
 pub pass_halves-requires : goal.pass_halves-requires

@@ -1,5 +1,4 @@
 -- `filling::pass_halves` meets its contract.
-use borrow.Author.Rules.{rules}
 use Rattle.filling.proofs.laws.Outside.{quiet-outside}
 use Rattle.filling.proofs.pass.pass_halves.Goals as goal
 

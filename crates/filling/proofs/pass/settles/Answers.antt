@@ -1,6 +1,5 @@
 -- `filling::settles` meets its contract.
 use native.Mathlib.Omega.{arith}
-use borrow.Author.Rules.{rules}
 use Rattle.working_back.proofs.laws.Admitted.{in_size, small-number}
 use Rattle.filling.proofs.laws.Code.{verdict-settled, verdict-required}
 use Rattle.filling.proofs.pass.settles.Goals as goal

@@ -1,17 +1,13 @@
 -- `filling::some_settles` meets its contract. The loop's invariant: no number below n is settled.
 use mathlib.Core.Path.{◌≡◌, sym, subst, ◌∙◌}
-use mathlib.Core.Bool.{false}
-use Prim.Native.Nat.{ℕ, ◌<◌, ◌≤◌, ◌-◌}
+use Prim.Native.Nat.{ℕ, ◌<◌, ◌≤◌}
 use native.Mathlib.Omega.{arith}
-use lib.ListN.{length}
-use Rattle.rules.specs.Chess.{chess}
-use Rattle.working_back.specs.Admitted.{over}
-use Rattle.filling.proofs.laws.Laws.{some_below, none_below, none_yet, some-now, none_at_all}
-use Rattle.working_back.proofs.laws.Admitted.{sized, most}
+use Rattle.filling.proofs.laws.Laws.{none_below, none_yet, some-now, none_at_all}
+use Rattle.working_back.proofs.laws.Admitted.{sized}
 use Rattle.filling.proofs.pass.some_settles.Goals as goal
 
 pub loop-n-init : goal.loop-n-init
-loop-n-init c = (omega arith, sym (none_below _ _ _ _))
+loop-n-init c = sym (none_below _ _ _ _)
 
 pub settles-requires : goal.settles-requires
 settles-requires c = (c.loop-n-test.true, c.requires)
@@ -22,23 +18,12 @@ returns-then-settles c =
     (subst (λ (s : ℕ). c.loop-n.n < s) (sized _ _ _ _ c.requires) c.loop-n-test.true)
     c.settles.ensures c.if-settles.true
 
-pub overflow_add-n : goal.overflow_add-n
-overflow_add-n c = omega (arith, most _ _ _ _ c.requires, c.loop-n-test.true)
-
-pub loop-n-smaller : goal.loop-n-smaller
-loop-n-smaller c = omega (arith, c.loop-n-test.true)
-
 pub loop-n-preserved : goal.loop-n-preserved
-loop-n-preserved c =
-    let i = c.loop-n.invariant in (
-      omega (arith, c.loop-n-test.true),
-      none_yet _ _ _ _ _ _ c.settles.ensures c.if-settles.false i.1,
-    )
+loop-n-preserved c = none_yet _ _ _ _ _ _ c.settles.ensures c.if-settles.false c.loop-n.invariant
 
 pub returns : goal.returns
 returns c =
-    let i = c.loop-n.invariant in
-    none_at_all _ _ _ _ _ (at-end _ _ i.0 c.loop-n-test.false ∙ sized _ _ _ _ c.requires) i.1
+    none_at_all _ _ _ _ _ (at-end _ _ (omega arith) c.loop-n-test.false ∙ sized _ _ _ _ c.requires) c.loop-n.invariant
   where
     at-end : (n s : ℕ) → n ≤ s → s ≤ n → n ≡ s
     at-end n s a b = omega arith

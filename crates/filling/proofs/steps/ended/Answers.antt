@@ -1,6 +1,5 @@
 -- `filling::ended` meets its contract.
 use Rattle.filling.proofs.laws.Laws.{ended_some}
-use borrow.Author.Rules.{rules}
 use Rattle.filling.proofs.steps.ended.Goals as goal
 
 pub returns : goal.returns

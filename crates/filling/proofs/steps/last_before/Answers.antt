@@ -1,5 +1,4 @@
 -- `filling::last_before` meets its contract.
-use borrow.Author.Rules.{rules}
 use Rattle.filling.proofs.laws.StepCode.{last-first, last-own, last-kept}
 use Rattle.filling.proofs.steps.last_before.Goals as goal
 

@@ -1,6 +1,5 @@
 -- `filling::last_step` meets its contract.
 use Rattle.filling.proofs.laws.StepCode.{code-deep, code-last}
-use borrow.Author.Rules.{rules}
 use Rattle.filling.proofs.steps.last_step.Goals as goal
 
 pub returns-then-some_settles : goal.returns-then-some_settles

@@ -1,6 +1,5 @@
 -- `filling::step_at` meets its contract.
 use Rattle.filling.proofs.laws.StepCode.{step-254}
-use borrow.Author.Rules.{rules}
 use Rattle.filling.proofs.steps.step_at.Goals as goal
 
 pub returns : goal.returns

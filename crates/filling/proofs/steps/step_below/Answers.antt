@@ -1,7 +1,6 @@
 -- `filling::step_below` meets its contract.
 use Rattle.working_back.proofs.laws.Admitted.{sized}
 use Rattle.filling.proofs.laws.StepCode.{code-more, code-done, code-skip}
-use borrow.Author.Rules.{rules}
 use Rattle.filling.proofs.steps.step_below.Goals as goal
 
 pub returns-then-settled-ne0 : goal.returns-then-settled-ne0

@@ -1,6 +1,5 @@
 -- `filling::start_filling` meets its contract.
 use Rattle.filling.proofs.laws.Handed.{start-one}
-use borrow.Author.Rules.{rules}
 use Rattle.filling.proofs.taking.start_filling.Goals as goal
 
 pub returns : goal.returns

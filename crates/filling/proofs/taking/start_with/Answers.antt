@@ -1,9 +1,7 @@
 -- `filling::start_with` meets its contract.
 use mathlib.Core.Path.{sym, ◌∙◌}
-use borrow.Author.Tests.{not-true, not-false}
 use Rattle.finite.specs.Truth.{of-true}
 use Rattle.filling.proofs.laws.Calls.{start-1, start-7, start-made, start-given}
-use borrow.Author.Rules.{rules}
 use Rattle.filling.proofs.taking.start_with.Goals as goal
 
 pub returns-then-not-is_given : goal.returns-then-not-is_given

@@ -10,16 +10,14 @@ deepest_lent-deepest-requires c = (c.requires.ending, run_long c.args.m c.args.f
 
 pub step_at-requires : goal.step_at-requires
 step_at-requires c =
-    (omega (arith, c.next_depth-k.ensures), c.deepest_lent-deepest.ensures.small, c.requires, λ e. absurd (omega (arith, e)))
+    (omega (arith, c.next_depth-k.ensures), c.deepest_lent-deepest.ensures.small, c.requires, λ e. absurd cc)
 
-pub returns-then-stage-eq-GOING : goal.returns-then-stage-eq-GOING
-returns-then-stage-eq-GOING c =
-    from-going-code _ _ _ _ _ _ _ _ c.deepest_lent-deepest.ensures.holds c.if-stage-eq-GOING.true
-    c.next_depth-k.ensures c.step_at.ensures
+pub returns-in-0 : goal.returns-in-0
+returns-in-0 c =
+    from-going-code _ _ _ _ _ _ _ _ c.deepest_lent-deepest.ensures.holds c.in-0.is c.next_depth-k.ensures c.step_at.ensures
 
-pub returns-then-stage-eq-DONE : goal.returns-then-stage-eq-DONE
-returns-then-stage-eq-DONE c = from-done-code _ _ _ _ _ c.if-stage-eq-DONE.true c.ended-end.ensures
+pub returns-in-1 : goal.returns-in-1
+returns-in-1 c = from-done-code _ _ _ _ _ c.in-1.is c.ended-end.ensures
 
-pub returns : goal.returns
-returns c =
-    from-ten-code _ _ _ _ _ c.if-stage-eq-GOING.false c.if-stage-eq-DONE.false c.refuse.ensures
+pub returns-in_default : goal.returns-in_default
+returns-in_default c = from-ten-code _ _ _ _ _ (search rules) (search rules) c.refuse.ensures

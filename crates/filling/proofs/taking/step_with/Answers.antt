@@ -1,9 +1,7 @@
 -- `filling::step_with` meets its contract.
 use mathlib.Core.Path.{sym, ◌∙◌}
-use borrow.Author.Tests.{not-true, not-false}
 use Rattle.finite.specs.Truth.{of-true}
 use Rattle.filling.proofs.laws.Calls.{step-1, step-7, step-made, admitted-by}
-use borrow.Author.Rules.{rules}
 use Rattle.filling.proofs.taking.step_with.Goals as goal
 
 pub returns-then-not-is_given : goal.returns-then-not-is_given

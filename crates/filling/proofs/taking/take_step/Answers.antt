@@ -1,6 +1,5 @@
 -- `filling::take_step` meets its contract.
 use Rattle.filling.proofs.laws.Handed.{step-one}
-use borrow.Author.Rules.{rules}
 use Rattle.filling.proofs.taking.take_step.Goals as goal
 
 pub returns : goal.returns

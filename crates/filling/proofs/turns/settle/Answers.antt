@@ -1,8 +1,6 @@
 -- `filling::settle` meets its contract.
 use mathlib.Core.Path.{refl}
 use native.Mathlib.Omega.{arith}
-use borrow.Author.Rules.{rules}
-use borrow.Author.Tests.{not-true, not-false}
 use Rattle.working_back.proofs.laws.Admitted.{small-number}
 use Rattle.filling.proofs.laws.Code.{verdict-settled}
 use Rattle.filling.proofs.laws.Laws.{settle-no, settle-yes}

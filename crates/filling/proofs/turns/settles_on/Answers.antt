@@ -1,8 +1,6 @@
 -- `filling::settles_on` meets its contract: king and pawn by the number, pieces by the place.
 use mathlib.Core.Path.{sym, ◌∙◌}
 use native.Mathlib.Omega.{arith}
-use borrow.Author.Rules.{rules}
-use borrow.Author.Tests.{not-true, not-false}
 use Rattle.index.proofs.laws.PlaceLaws.{used-not}
 use Rattle.index.proofs.laws.CompleteLaws.{shared-complete}
 use Rattle.deciding.proofs.laws.PawnLaws.{given-known}

@@ -1,9 +1,8 @@
 -- `index::answers::found_at` meets its contract: a pawn's number, or a number of pieces.
+use Rattle.std.specs.Prelude.{Ok}
 use mathlib.Core.Path.{ap, sym, ◌∙◌}
-use Rattle.index.specs.declared.Placed.{Placed}
 use Rattle.index.specs.Answers.{found_at}
 use Rattle.index.proofs.laws.WithLaws.{pawn-ending, pieces-ending, found-unused, found-position}
-use borrow.Author.Rules.{rules}
 use Rattle.std.proofs.Common.{not}
 use Rattle.index.proofs.answers.found_at.Goals as goal
 
@@ -23,5 +22,5 @@ pub returns : goal.returns
 returns c =
     λ t d h.
     let k = pieces-ending c.args.men c.if-men-eq4.false t in
-    ap Placed.At c.posed.ensures
+    ap Ok c.posed.ensures
     ∙ found-position _ _ k _ (c.place_at-q.ensures k d h) _ c.is_used.ensures (ap not c.if-not-is_used.false)

@@ -2,7 +2,6 @@
 use mathlib.Core.Path.{◌∙◌}
 use Rattle.index.proofs.laws.WithLaws.{number-pieces}
 use Rattle.index.proofs.laws.PawnLaws.{pieces-told, pawn-number-told}
-use borrow.Author.Rules.{rules}
 use Rattle.index.proofs.answers.placed_number.Goals as goal
 
 pub returns-then-man-eq4 : goal.returns-then-man-eq4

@@ -1,8 +1,6 @@
 -- `index::answers::position_with` meets its contract: each return by the tests that led there.
 use mathlib.Core.Path.{sym, ◌∙◌}
-use borrow.Author.Tests.{not-true, not-false}
 use Rattle.index.proofs.laws.WithLaws.{with-unknown, with-above, with-found}
-use borrow.Author.Rules.{rules}
 use Rattle.index.proofs.answers.position_with.Goals as goal
 
 pub returns-then-not-is_given : goal.returns-then-not-is_given

@@ -1,6 +1,5 @@
 -- `index::arranging::normal_by` meets its contract.
 use Rattle.index.specs.Arranging.{normal_by}
-use borrow.Author.Rules.{rules}
 use Rattle.index.proofs.arranging.normal_by.Goals as goal
 
 pub returns : goal.returns

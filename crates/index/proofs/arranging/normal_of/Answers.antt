@@ -4,7 +4,6 @@ use mathlib.Core.Bool.{Bool}
 use Rattle.index.specs.Least.{rising_key}
 use Rattle.index.proofs.laws.LeastLaws.{rising-unlike}
 use Rattle.index.proofs.laws.NormalPlaceLaws.{normal-keys}
-use borrow.Author.Rules.{rules}
 use Rattle.index.proofs.arranging.normal_of.Goals as goal
 
 pub returns-then-alike : goal.returns-then-alike

@@ -3,7 +3,6 @@ use mathlib.Core.Path.{refl, ap, subst⁻¹, ◌∙◌}
 use Rattle.index.specs.Arranging.{normal_as, Normalises}
 use Rattle.index.proofs.laws.NormalPlaceLaws.{normal-found}
 use Rattle.index.proofs.laws.PawnLaws.{pieces-told}
-use borrow.Author.Rules.{rules}
 use Rattle.index.proofs.arranging.normal_place.Goals as goal
 
 pub returns : goal.returns

@@ -1,6 +1,5 @@
 -- `index::arranging::white_first` meets its contract.
 use Rattle.index.specs.Arranging.{white_first}
-use borrow.Author.Rules.{rules}
 use Rattle.index.proofs.arranging.white_first.Goals as goal
 
 pub returns : goal.returns

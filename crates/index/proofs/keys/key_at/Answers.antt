@@ -1,6 +1,5 @@
 -- `index::keys::key_at` meets its contract.
 use mathlib.Core.Path.{sym, ◌∙◌}
-use borrow.Author.Rules.{rules}
 use borrow.Author.Tests.{le-leb, lt-leb}
 use Rattle.index.specs.Seats.{key_at}
 use Rattle.index.proofs.keys.key_at.Goals as goal

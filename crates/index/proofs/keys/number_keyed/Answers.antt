@@ -3,7 +3,6 @@ use mathlib.Core.Path.{◌≡◌, sym, ap, subst, ◌∙◌}
 use mathlib.Core.Bool.{Bool}
 use Prim.Native.Nat.{ℕ, ◌/◌, ◌%◌}
 use lib.Dec.{T}
-use borrow.Author.Rules.{rules}
 use Rattle.numbering.specs.Kings.{in_triangle}
 use Rattle.index.specs.Least.{least_of}
 use Rattle.index.specs.Seats.{number_from}

@@ -1,6 +1,5 @@
 -- `index::keys::reversing` meets its contract.
 use native.Mathlib.Omega.{arith}
-use borrow.Author.Rules.{rules}
 use Rattle.index.proofs.laws.KeyLaws.{flip-bits}
 use Rattle.index.proofs.keys.reversing.Goals as goal
 

@@ -1,6 +1,5 @@
 -- `index::keys::turned` meets its contract.
 use native.Mathlib.Omega.{arith}
-use borrow.Author.Rules.{rules}
 use Rattle.index.proofs.laws.KeyLaws.{turned-three, turned-four}
 use Rattle.index.proofs.keys.turned.Goals as goal
 

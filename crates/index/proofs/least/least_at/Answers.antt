@@ -1,7 +1,6 @@
 -- `index::least::least_at` meets its contract.
 use mathlib.Core.Path.{◌∙◌}
 use Rattle.index.specs.Seats.{least_at}
-use borrow.Author.Rules.{rules}
 use Rattle.index.proofs.least.least_at.Goals as goal
 
 pub returns : goal.returns

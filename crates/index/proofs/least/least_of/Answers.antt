@@ -1,7 +1,6 @@
 -- `index::least::least_of` meets its contract.
 use mathlib.Core.Path.{◌∙◌}
 use Rattle.index.proofs.laws.LeastLaws.{least-like, least-unlike}
-use borrow.Author.Rules.{rules}
 use Rattle.index.proofs.least.least_of.Goals as goal
 
 pub returns-then-like : goal.returns-then-like

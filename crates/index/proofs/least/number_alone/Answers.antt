@@ -1,7 +1,6 @@
 -- `index::least::number_alone` meets its contract.
 use mathlib.Core.Path.{◌∙◌}
 use Rattle.index.proofs.laws.SeatLaws.{number-black}
-use borrow.Author.Rules.{rules}
 use Rattle.index.proofs.least.number_alone.Goals as goal
 
 pub returns-then-colour-eq0 : goal.returns-then-colour-eq0

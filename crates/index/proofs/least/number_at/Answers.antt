@@ -1,7 +1,6 @@
 -- `index::least::number_at` meets its contract.
 use mathlib.Core.Path.{refl}
 use Rattle.index.proofs.laws.KeyLaws.{number-by-key}
-use borrow.Author.Rules.{rules}
 use Rattle.index.proofs.least.number_at.Goals as goal
 
 pub returns : goal.returns

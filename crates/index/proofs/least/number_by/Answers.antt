@@ -1,6 +1,5 @@
 -- `index::least::number_by` meets its contract.
 use mathlib.Core.Path.{sym}
-use borrow.Author.Rules.{rules}
 use Rattle.index.proofs.least.number_by.Goals as goal
 
 pub returns-then-single : goal.returns-then-single

@@ -1,7 +1,6 @@
 -- `index::least::number_from` meets its contract.
 use native.Mathlib.Omega.{arith}
 use Rattle.index.proofs.laws.CornerLaws.{by-pair}
-use borrow.Author.Rules.{rules}
 use Rattle.index.proofs.least.number_from.Goals as goal
 
 pub returns : goal.returns

@@ -2,7 +2,6 @@
 use mathlib.Core.Path.{◌∙◌}
 use Rattle.pairs.proofs.laws.TableLaws.{lent-pair}
 use Rattle.index.proofs.laws.CornerLaws.{number-found, by-pair}
-use borrow.Author.Rules.{rules}
 use Rattle.index.proofs.least.number_listed.Goals as goal
 
 pub returns : goal.returns

@@ -1,7 +1,6 @@
 -- `index::least::number_one` meets its contract.
 use mathlib.Core.Path.{refl, ◌∙◌}
 use Rattle.index.proofs.laws.CornerLaws.{lone-found}
-use borrow.Author.Rules.{rules}
 use Rattle.index.proofs.least.number_one.Goals as goal
 
 pub returns : goal.returns

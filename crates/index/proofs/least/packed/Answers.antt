@@ -2,7 +2,6 @@
 use mathlib.Core.Path.{refl}
 use native.Mathlib.Omega.{arith}
 use Rattle.index.specs.Least.{packed}
-use borrow.Author.Rules.{rules}
 use Rattle.index.proofs.least.packed.Goals as goal
 
 pub returns : goal.returns

@@ -1,6 +1,5 @@
 -- `index::least::place_from` meets its contract.
 use Rattle.index.specs.Seats.{place_from}
-use borrow.Author.Rules.{rules}
 use Rattle.index.proofs.least.place_from.Goals as goal
 
 pub returns : goal.returns

@@ -1,7 +1,6 @@
 -- `index::least::rising_key` meets its contract.
 use mathlib.Core.Path.{sym}
 use Rattle.index.specs.Least.{rising_key}
-use borrow.Author.Rules.{rules}
 use Rattle.index.proofs.least.rising_key.Goals as goal
 
 pub returns-then-y-x : goal.returns-then-y-x

@@ -1,6 +1,5 @@
 -- `index::least::second_from` meets its contract.
 use mathlib.Core.Path.{sym}
-use borrow.Author.Rules.{rules}
 use Rattle.index.proofs.least.second_from.Goals as goal
 
 pub returns-then-single : goal.returns-then-single

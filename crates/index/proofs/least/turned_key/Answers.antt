@@ -2,7 +2,6 @@
 use mathlib.Core.Path.{sym, ◌∙◌}
 use borrow.Author.Tests.{le-leb, lt-leb}
 use Rattle.index.specs.Least.{turned_key}
-use borrow.Author.Rules.{rules}
 use Rattle.index.proofs.least.turned_key.Goals as goal
 
 pub returns-then-second-ge64 : goal.returns-then-second-ge64

@@ -1,7 +1,6 @@
 -- `index::materials::is_known` meets its contract.
 use mathlib.Core.Path.{sym, ap}
 use Rattle.numbering.specs.Material.{known}
-use borrow.Author.Rules.{rules}
 use Rattle.index.proofs.materials.is_known.Goals as goal
 
 pub returns-in-One : goal.returns-in-One

@@ -1,9 +1,8 @@
 -- `index::pawns::pawn_found` meets its contract.
+use Rattle.std.specs.Prelude.{Ok}
 use mathlib.Core.Path.{ap, ap₂, ◌∙◌}
 use Rattle.position.specs.Posed.{posed}
-use Rattle.index.specs.declared.Placed.{Placed}
 use Rattle.index.proofs.laws.PawnLaws.{pawn-unused, pawn-found}
-use borrow.Author.Rules.{rules}
 use Rattle.std.proofs.Common.{not}
 use Rattle.index.proofs.pawns.pawn_found.Goals as goal
 
@@ -13,6 +12,6 @@ returns-then-not-is_pawn_used c =
 
 pub returns : goal.returns
 returns c =
-    ap Placed.At
+    ap Ok
     (c.posed.ensures ∙ ap₂ posed c.pawn_men.ensures c.pawn_place.ensures)
     ∙ pawn-found _ _ c.pawn_place_at-q.ensures _ c.is_pawn_used.ensures (ap not c.if-not-is_pawn_used.false)

@@ -1,6 +1,5 @@
 -- `index::pawns::pawn_normal_place` meets its contract.
 use Rattle.index.specs.Arranging.{pawn_normal_as}
-use borrow.Author.Rules.{rules}
 use Rattle.index.proofs.pawns.pawn_normal_place.Goals as goal
 
 pub returns : goal.returns

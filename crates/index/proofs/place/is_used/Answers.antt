@@ -1,7 +1,6 @@
 -- `index::place::is_used` meets its contract.
 use mathlib.Core.Path.{sym, ◌∙◌}
 use Rattle.index.proofs.laws.PlaceLaws.{used-not, used-is}
-use borrow.Author.Rules.{rules}
 use Rattle.index.proofs.place.is_used.Goals as goal
 
 pub returns-then-shares : goal.returns-then-shares

@@ -2,7 +2,6 @@
 use mathlib.Core.Path.{subst⁻¹}
 use Rattle.index.specs.Seats.{StandsAt}
 use Rattle.index.proofs.laws.PlaceLaws.{stands_one, stands-two}
-use borrow.Author.Rules.{rules}
 use Rattle.index.proofs.place.place_at.Goals as goal
 
 pub returns-then-m-ge4 : goal.returns-then-m-ge4

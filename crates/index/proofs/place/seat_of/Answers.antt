@@ -3,7 +3,6 @@ use Prim.Native.Nat.{◌%◌}
 use native.Mathlib.Omega.{arith}
 use Rattle.numbering.proofs.laws.PairLaws.{kings-of}
 use Rattle.index.specs.Seats.{seat_of}
-use borrow.Author.Rules.{rules}
 use Rattle.index.proofs.place.seat_of.Goals as goal
 
 pub overflow_cast-result-2 : goal.overflow_cast-result-2

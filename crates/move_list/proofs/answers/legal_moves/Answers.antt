@@ -1,5 +1,4 @@
 use Rattle.move_list.proofs.laws.AnswerLaws.{refused-list, given-list}
-use borrow.Author.Rules.{rules}
 use Rattle.move_list.proofs.answers.legal_moves.Goals as goal
 
 pub returns-then-refusal-ne0 : goal.returns-then-refusal-ne0

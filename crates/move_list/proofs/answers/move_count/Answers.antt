@@ -3,7 +3,6 @@ use mathlib.Core.Path.{refl, sym, ◌∙◌}
 use Rattle.move_list.proofs.laws.AnswerLaws.{refused-count, given-count}
 use Rattle.move_list.proofs.laws.PlacingLaws.{standing-refused, standing-check, standing-none}
 use native.Mathlib.Omega.{arith}
-use borrow.Author.Rules.{rules}
 use Rattle.move_list.proofs.answers.move_count.Goals as goal
 
 pub returns-then-refusal-ne0 : goal.returns-then-refusal-ne0

@@ -4,7 +4,6 @@ use Prim.Native.Nat.{◌+◌, ◌*◌}
 use native.Mathlib.Omega.{arith}
 use Rattle.move_list.specs.Counting.{man_count}
 use Rattle.move_list.proofs.laws.CountLaws.{count_none, count-pawn, count-plain}
-use borrow.Author.Rules.{rules}
 use Rattle.move_list.proofs.counting.man_count.Goals as goal
 
 -- the moves of a pawn

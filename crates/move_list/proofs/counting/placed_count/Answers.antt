@@ -2,7 +2,6 @@
 use native.Mathlib.Omega.{arith}
 use Rattle.move_list.proofs.laws.Served.{few-moves}
 use Rattle.move_list.proofs.laws.CountLaws.{counted}
-use borrow.Author.Rules.{rules}
 use Rattle.move_list.proofs.counting.placed_count.Goals as goal
 
 pub man_count-requires : goal.man_count-requires

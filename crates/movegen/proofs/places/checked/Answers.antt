@@ -1,6 +1,5 @@
 -- `movegen::checked` meets its contract.
 use Rattle.position.proofs.laws.PosedLaws.{complete-spread}
-use borrow.Author.Rules.{rules}
 use Rattle.movegen.proofs.places.checked.Goals as goal
 
 pub returns : goal.returns

@@ -1,6 +1,5 @@
 -- `movegen::king_set` meets its contract.
 use borrow.Author.Tests.{eq-eqb, ne_eqb}
-use borrow.Author.Rules.{rules}
 use Rattle.movegen.proofs.places.king_set.Goals as goal
 
 pub returns-then-side-eq0 : goal.returns-then-side-eq0

@@ -5,7 +5,6 @@ use Rattle.position.specs.Keyed.{board_of}
 use Rattle.position.specs.Posed.{posed}
 use Rattle.movegen.specs.Places.{men_strike}
 use Rattle.movegen.proofs.laws.Struck.{check-men}
-use borrow.Author.Rules.{rules}
 use Rattle.movegen.proofs.places.men_check.Goals as goal
 
 pub returns : goal.returns

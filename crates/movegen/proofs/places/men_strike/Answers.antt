@@ -1,6 +1,5 @@
 -- `movegen::men_strike` meets its contract.
 use Rattle.movegen.proofs.laws.Places.{or-first, or-next}
-use borrow.Author.Rules.{rules}
 use Rattle.movegen.proofs.places.men_strike.Goals as goal
 
 pub returns-then-strikes : goal.returns-then-strikes

@@ -1,6 +1,5 @@
 -- `movegen::occupied_at` meets its contract.
 use Rattle.movegen.proofs.laws.Places.{occupied-set}
-use borrow.Author.Rules.{rules}
 use Rattle.movegen.proofs.places.occupied_at.Goals as goal
 
 pub returns : goal.returns

@@ -3,7 +3,6 @@ use mathlib.Core.Path.{sym, ◌∙◌}
 use native.Mathlib.Omega.{arith}
 use borrow.Author.Tests.{eq-eqb, ne_eqb}
 use Rattle.board.proofs.laws.SetLaws.{set_is, has-none}
-use borrow.Author.Rules.{rules}
 use Rattle.movegen.proofs.places.one_if.Goals as goal
 
 pub returns-then-owner-side : goal.returns-then-owner-side

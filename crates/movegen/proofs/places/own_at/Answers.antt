@@ -1,6 +1,5 @@
 -- `movegen::own_at` meets its contract.
 use Rattle.movegen.proofs.laws.Places.{own-set}
-use borrow.Author.Rules.{rules}
 use Rattle.movegen.proofs.places.own_at.Goals as goal
 
 pub returns : goal.returns

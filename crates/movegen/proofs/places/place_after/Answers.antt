@@ -1,6 +1,5 @@
 -- `movegen::place_after` meets its contract.
 use Rattle.movegen.specs.Places.{place_after}
-use borrow.Author.Rules.{rules}
 use Rattle.movegen.proofs.places.place_after.Goals as goal
 
 pub returns : goal.returns

@@ -1,6 +1,5 @@
 -- `movegen::square_after` meets its contract.
 use borrow.Author.Tests.{eq-eqb, ne_eqb}
-use borrow.Author.Rules.{rules}
 use Rattle.movegen.proofs.places.square_after.Goals as goal
 
 pub returns-then-s-to : goal.returns-then-s-to

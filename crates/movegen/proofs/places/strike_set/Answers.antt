@@ -2,7 +2,6 @@
 use mathlib.Core.Path.{ap₂, ◌∙◌}
 use mathlib.Core.Bool.{◌||◌}
 use Rattle.board.proofs.laws.SetLaws.{set-has, has-or}
-use borrow.Author.Rules.{rules}
 use Rattle.movegen.proofs.places.strike_set.Goals as goal
 
 pub returns : goal.returns

@@ -7,7 +7,6 @@ use borrow.Author.Tests.{eq-eqb}
 use Rattle.board.specs.Sets.{has}
 use Rattle.board.proofs.laws.ReachLaws.{reaches-off}
 use Rattle.position.proofs.laws.Pieces.{ne-and}
-use borrow.Author.Rules.{rules}
 use Rattle.movegen.proofs.places.strikes.Goals as goal
 
 pub returns-then-owner-colour : goal.returns-then-owner-colour

@@ -9,7 +9,6 @@ use Rattle.board.specs.Sets.{has}
 use Rattle.board.proofs.laws.ReachLaws.{reaches-off}
 use Rattle.board.proofs.laws.SetLaws.{set_is, has-none}
 use Rattle.position.proofs.laws.Pieces.{ne-and}
-use borrow.Author.Rules.{rules}
 use Rattle.movegen.proofs.places.struck_by.Goals as goal
 
 pub returns-then-owner-colour : goal.returns-then-owner-colour

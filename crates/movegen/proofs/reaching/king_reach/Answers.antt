@@ -2,7 +2,6 @@
 use Rattle.position.specs.Keyed.{board_of}
 use Rattle.position.specs.Posed.{posed}
 use Rattle.movegen.proofs.laws.Reach.{king-view}
-use borrow.Author.Rules.{rules}
 use Rattle.movegen.proofs.reaching.king_reach.Goals as goal
 
 pub returns : goal.returns

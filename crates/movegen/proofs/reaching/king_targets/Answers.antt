@@ -3,7 +3,6 @@ use Rattle.position.specs.Keyed.{board_of}
 use Rattle.position.specs.Posed.{posed}
 use Rattle.position.proofs.laws.PosedLaws.{complete-spread}
 use Rattle.movegen.proofs.laws.Reach.{view_of}
-use borrow.Author.Rules.{rules}
 use Rattle.movegen.proofs.reaching.king_targets.Goals as goal
 
 pub returns : goal.returns

@@ -1,12 +1,11 @@
 -- `movegen::reach_of` meets its contract.
 use Rattle.position.specs.Keyed.{board_of}
-use Rattle.position.specs.Posed.{posed, Complete}
+use Rattle.position.specs.Posed.{posed}
 use Rattle.position.proofs.laws.PosedLaws.{complete-spread}
 use Rattle.movegen.specs.Reach.{View}
 use Rattle.movegen.proofs.laws.Alone.{first-man, second-man}
 use Rattle.movegen.proofs.laws.Reach.{view_of}
 use Rattle.movegen.proofs.laws.Movers.{mover-of, mover-unpinned}
-use borrow.Author.Rules.{rules}
 use Rattle.movegen.proofs.reaching.reach_of.Goals as goal
 
 pub returns-then-strike-own-eq0 : goal.returns-then-strike-own-eq0

@@ -1,11 +1,9 @@
 -- `movegen::shielding` meets its contract.
 use mathlib.Core.Path.{sym, ◌∙◌}
 use native.Mathlib.Omega.{arith}
-use borrow.Author.Tests.{not-true, not-false}
 use Rattle.position.specs.Keyed.{board_of}
 use Rattle.position.specs.Posed.{posed}
 use Rattle.movegen.proofs.laws.Movers.{mover-none, mover-stays, mover-free, mover-parried}
-use borrow.Author.Rules.{rules}
 use Rattle.movegen.proofs.reaching.shielding.Goals as goal
 
 pub returns-then-free-eq0 : goal.returns-then-free-eq0

@@ -1,5 +1,4 @@
 -- `pairs::black_of` meets its contract.
-use borrow.Author.Rules.{rules}
 use Rattle.pairs.proofs.back.black_of.Goals as goal
 
 pub returns : goal.returns

@@ -1,6 +1,5 @@
 -- `pairs::kings_of` meets its contract, by the rule of the lists.
 use native.Mathlib.Omega.{arith}
-use borrow.Author.Rules.{rules}
 use Rattle.pairs.proofs.laws.TableLaws.{kings-found, no-kings, row_lt}
 use Rattle.pairs.proofs.back.kings_of.Goals as goal
 

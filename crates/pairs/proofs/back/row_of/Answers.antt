@@ -1,8 +1,6 @@
 -- `pairs::row_of` meets its contract: what is left of the search gives what the whole gives.
 use mathlib.Core.Path.{◌≡◌, refl, sym, ◌∙◌}
-use Prim.Native.Nat.{◌-◌, ◌≤◌}
 use native.Mathlib.Omega.{arith}
-use Rattle.pairs.specs.Tables.{row_from, row_of}
 use Rattle.pairs.proofs.laws.TableLaws.{row_here, row_next, row_last}
 use Rattle.pairs.proofs.back.row_of.Goals as goal
 
@@ -24,12 +22,6 @@ returns-then-pair-i c =
     sym (row_here l.i c.args.pair c.loop-i-test.true c.if-pair-i.true)
     ∙ l.invariant.1
 
-pub overflow_add-i-in-loop-i : goal.overflow_add-i-in-loop-i
-overflow_add-i-in-loop-i c = omega arith
-
-pub loop-i-smaller : goal.loop-i-smaller
-loop-i-smaller c = omega arith
-
 pub loop-i-preserved : goal.loop-i-preserved
 loop-i-preserved c =
     let l = c.loop-i in (
@@ -39,4 +31,7 @@ loop-i-preserved c =
     )
 
 pub returns : goal.returns
-returns c = sym (row_last c.loop-i.i c.args.pair (omega arith)) ∙ c.loop-i.invariant.1
+returns c =
+    let l = c.loop-i in
+    let e : l.i ≡ 9 = omega arith in
+    sym e ∙ sym (row_last l.i c.args.pair (omega arith)) ∙ l.invariant.1

@@ -1,5 +1,4 @@
 -- `pairs::pair_at` meets its contract: the packed words hold the list.
-use borrow.Author.Rules.{rules}
 use Rattle.pairs.proofs.laws.TableLaws.{entry-packed}
 use Rattle.pairs.proofs.forth.pair_at.Goals as goal
 

@@ -3,7 +3,6 @@ use mathlib.Core.Path.{◌∙◌}
 use Prim.Native.Nat.{◌/◌, ◌%◌}
 use native.Mathlib.Omega.{arith}
 use Rattle.pairs.proofs.laws.PackedKings.{rank_lt, skipped-small, skipped-fits, packed_lt, packed-pair}
-use borrow.Author.Rules.{rules}
 use Rattle.pairs.proofs.forth.pair_by.Goals as goal
 
 pub overflow_mul-i : goal.overflow_mul-i

@@ -1,6 +1,5 @@
 -- `pairs::count_before` meets its contract.
 use mathlib.Core.Path.{refl}
-use borrow.Author.Rules.{rules}
 use Rattle.pairs.proofs.laws.RowLaws.{part-ones, bit-some}
 use Rattle.pairs.proofs.rows.count_before.Goals as goal
 

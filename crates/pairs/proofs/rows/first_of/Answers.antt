@@ -1,6 +1,6 @@
 -- `pairs::first_of` meets its contract: each arm by the square that it names.
 use native.Mathlib.Omega.{arith}
-use borrow.Author.Tests.{ne_eqb}
+use Rattle.std.proofs.lemmas.Bool.Decides.{nat_tests}
 use Rattle.pairs.specs.Rows.{first_of}
 use Rattle.pairs.proofs.rows.first_of.Goals as goal
 
@@ -46,19 +46,4 @@ returns-in-27 c = (rw c.in-27.is, omega arith)
 
 pub returns-in_default : goal.returns-in_default
 unfolding first_of
-returns-in_default c =
-    let other = c.in_default.in_default-own.rest in (
-      simp (
-        ne_eqb _ _ other.0.0.0.0.0.0.0.0.0.1,
-        ne_eqb _ _ other.0.0.0.0.0.0.0.0.1,
-        ne_eqb _ _ other.0.0.0.0.0.0.0.1,
-        ne_eqb _ _ other.0.0.0.0.0.0.1,
-        ne_eqb _ _ other.0.0.0.0.0.1,
-        ne_eqb _ _ other.0.0.0.0.1,
-        ne_eqb _ _ other.0.0.0.1,
-        ne_eqb _ _ other.0.0.1,
-        ne_eqb _ _ other.0.1,
-        ne_eqb _ _ other.1,
-      ),
-      omega arith,
-    )
+returns-in_default c = (grind (arith, nat_tests), omega arith)

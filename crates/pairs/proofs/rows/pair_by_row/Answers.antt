@@ -2,7 +2,6 @@
 use mathlib.Core.Path.{ap, ◌∙◌}
 use Prim.Native.Nat.{ℕ, ◌+◌}
 use native.Mathlib.Omega.{arith}
-use borrow.Author.Rules.{rules}
 use Rattle.pairs.proofs.laws.RowLaws.{no-square, no-bit, bit-pair}
 use Rattle.pairs.proofs.rows.pair_by_row.Goals as goal
 

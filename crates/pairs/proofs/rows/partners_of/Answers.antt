@@ -1,5 +1,6 @@
 -- `pairs::partners_of` meets its contract: each arm by the square that it names.
-use borrow.Author.Tests.{ne_eqb}
+use native.Mathlib.Omega.{arith}
+use Rattle.std.proofs.lemmas.Bool.Decides.{nat_tests}
 use Rattle.pairs.specs.Rows.{partners_of}
 use Rattle.pairs.proofs.rows.partners_of.Goals as goal
 
@@ -45,17 +46,4 @@ returns-in-27 c = rw c.in-27.is
 
 pub returns-in_default : goal.returns-in_default
 unfolding partners_of
-returns-in_default c =
-    let other = c.in_default.in_default-own.rest in
-    simp (
-      ne_eqb _ _ other.0.0.0.0.0.0.0.0.0.1,
-      ne_eqb _ _ other.0.0.0.0.0.0.0.0.1,
-      ne_eqb _ _ other.0.0.0.0.0.0.0.1,
-      ne_eqb _ _ other.0.0.0.0.0.0.1,
-      ne_eqb _ _ other.0.0.0.0.0.1,
-      ne_eqb _ _ other.0.0.0.0.1,
-      ne_eqb _ _ other.0.0.0.1,
-      ne_eqb _ _ other.0.0.1,
-      ne_eqb _ _ other.0.1,
-      ne_eqb _ _ other.1,
-    )
+returns-in_default c = grind (arith, nat_tests)

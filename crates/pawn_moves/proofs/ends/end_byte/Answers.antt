@@ -1,5 +1,4 @@
 -- `ends::end_byte` meets its contract.
-use borrow.Author.Rules.{rules}
 use mathlib.Core.Path.{sym, ◌∙◌}
 use Rattle.pawn_moves.proofs.laws.SeatLaws.{end-check, end_quiet}
 use Rattle.pawn_moves.proofs.ends.end_byte.Goals as goal

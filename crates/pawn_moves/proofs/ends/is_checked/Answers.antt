@@ -1,5 +1,4 @@
 -- `ends::is_checked` meets its contract.
-use borrow.Author.Rules.{rules}
 use mathlib.Core.Path.{ap, ◌∙◌}
 use Rattle.rules.specs.Rules.{Board, in_check}
 use Rattle.position.specs.Keyed.{board_of}

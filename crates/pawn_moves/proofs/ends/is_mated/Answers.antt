@@ -1,7 +1,5 @@
 -- `ends::is_mated` meets its contract.
-use borrow.Author.Rules.{rules}
 use mathlib.Core.Path.{sym, ◌∙◌}
-use borrow.Author.Tests.{not-true, not-false}
 use Rattle.pawn_moves.proofs.laws.SeatLaws.{quiet-mated, stuck-mated}
 use Rattle.pawn_moves.proofs.ends.is_mated.Goals as goal
 

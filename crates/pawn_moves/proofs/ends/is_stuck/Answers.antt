@@ -1,5 +1,4 @@
 -- `ends::is_stuck` meets its contract.
-use borrow.Author.Rules.{rules}
 use Rattle.pawn_moves.proofs.laws.SeatLaws.{stuck-by}
 use Rattle.pawn_moves.proofs.ends.is_stuck.Goals as goal
 

@@ -1,7 +1,5 @@
 -- `numbers::is_pawn_legal` meets its contract.
-use borrow.Author.Rules.{rules}
 use mathlib.Core.Path.{sym, ◌∙◌}
-use borrow.Author.Tests.{not-true, not-false}
 use Rattle.pawn_moves.proofs.laws.SeatLaws.{seat-shared, seat-quiet}
 use Rattle.pawn_moves.proofs.numbers.is_pawn_legal.Goals as goal
 

@@ -1,5 +1,4 @@
 -- `numbers::pawn_seat` meets its contract.
-use borrow.Author.Rules.{rules}
 use mathlib.Core.Path.{refl, ap, ◌∙◌}
 use Rattle.pawn_numbers.specs.Places.{seated}
 use Rattle.pawn_numbers.proofs.laws.PlaceLaws.{place-board}

@@ -1,5 +1,4 @@
 -- `reading::byte_after` meets its contract: a promotion, the pawn taken, or the pawn still there.
-use borrow.Author.Rules.{rules}
 use Rattle.pawn_moves.proofs.laws.AfterLaws.{byte-promoted, byte-taken, byte-kept}
 use Rattle.pawn_moves.proofs.reading.byte_after.Goals as goal
 

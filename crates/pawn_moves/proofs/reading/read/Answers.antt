@@ -1,5 +1,4 @@
 -- `reading::read` meets its contract.
-use borrow.Author.Rules.{rules}
 use Rattle.pawn_moves.proofs.laws.AfterLaws.{read-beyond}
 use Rattle.pawn_moves.proofs.reading.read.Goals as goal
 

@@ -1,5 +1,4 @@
 -- `reading::read_part` meets its contract: beyond the part it is 0, and within by its place in the run.
-use borrow.Author.Rules.{rules}
 use Rattle.pawn_moves.proofs.laws.AfterLaws.{part-beyond, part_at}
 use Rattle.pawn_moves.proofs.reading.read_part.Goals as goal
 

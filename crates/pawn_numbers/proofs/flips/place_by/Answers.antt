@@ -1,6 +1,5 @@
 -- `pawn_numbers::place_by` meets its contract.
 use Rattle.pawn_numbers.specs.Places.{place_by}
-use borrow.Author.Rules.{rules}
 use Rattle.pawn_numbers.proofs.flips.place_by.Goals as goal
 
 pub returns : goal.returns

@@ -5,7 +5,6 @@ use lib.Bits.{bit_xor}
 use Rattle.symmetry.proofs.laws.SymmetryLaws.{mapped-off}
 use Rattle.rules.specs.Changed.{keeping}
 use Rattle.pawn_numbers.proofs.laws.PlaceLaws.{bits-turn}
-use borrow.Author.Rules.{rules}
 use Rattle.pawn_numbers.proofs.flips.square_flipped.Goals as goal
 
 pub returns-then-s-ge64 : goal.returns-then-s-ge64

@@ -4,7 +4,6 @@ use mathlib.Core.Bool.{not, false}
 use Rattle.board.specs.Sets.{has}
 use Rattle.board.proofs.laws.ReachLaws.{reaches-has, king-reaches}
 use Rattle.pawn_numbers.proofs.laws.PlaceLaws.{separated-is}
-use borrow.Author.Rules.{rules}
 use Rattle.pawn_numbers.proofs.numbers.is_pawn_used.Goals as goal
 
 pub returns-then-shared : goal.returns-then-shared

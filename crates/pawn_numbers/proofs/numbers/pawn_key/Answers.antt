@@ -1,6 +1,5 @@
 -- `pawn_numbers::pawn_key` meets its contract.
 use Rattle.pawn_numbers.specs.PawnNumber.{pawn_key}
-use borrow.Author.Rules.{rules}
 use Rattle.pawn_numbers.proofs.numbers.pawn_key.Goals as goal
 
 pub returns : goal.returns

@@ -4,7 +4,6 @@ use Rattle.pawn_numbers.specs.declared.PawnPlace.{PawnPlace}
 use Rattle.pawn_numbers.specs.PawnNumber.{pawn_key}
 use Rattle.pawn_numbers.specs.Places.{seated}
 use Rattle.pawn_numbers.proofs.laws.PlaceLaws.{number-by}
-use borrow.Author.Rules.{rules}
 use Rattle.pawn_numbers.proofs.numbers.pawn_number_at.Goals as goal
 
 pub returns : goal.returns

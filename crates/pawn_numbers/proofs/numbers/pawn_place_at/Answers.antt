@@ -1,7 +1,6 @@
 -- `pawn_numbers::pawn_place_at` meets its contract.
 use mathlib.Core.Path.{refl}
 use Rattle.pawn_numbers.specs.Places.{place_of}
-use borrow.Author.Rules.{rules}
 use Rattle.pawn_numbers.proofs.numbers.pawn_place_at.Goals as goal
 
 pub returns : goal.returns

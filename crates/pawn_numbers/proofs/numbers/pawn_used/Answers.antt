@@ -4,7 +4,6 @@ use Rattle.pawn_numbers.specs.declared.PawnPlace.{PawnPlace}
 use Rattle.pawn_numbers.specs.PawnNumber.{separated, used_pawn}
 use Rattle.pawn_numbers.specs.Places.{seated}
 use Rattle.pawn_numbers.proofs.laws.PlaceLaws.{place-board}
-use borrow.Author.Rules.{rules}
 use Rattle.pawn_numbers.proofs.numbers.pawn_used.Goals as goal
 
 pub returns : goal.returns

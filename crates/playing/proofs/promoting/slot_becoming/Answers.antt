@@ -4,8 +4,8 @@ use Rattle.playing.specs.Playing.{slot_becoming}
 use borrow.Author.Rules.{rules}
 use Rattle.playing.proofs.promoting.slot_becoming.Goals as goal
 
-pub returns-in-Present : goal.returns-in-Present
-returns-in-Present c =
+pub returns-in-Some : goal.returns-in-Some
+returns-in-Some c =
     let a = c.args in
-    sym (ap (slot_becoming a.side a.to a.kind) c.in-Present.is
+    sym (ap (slot_becoming a.side a.to a.kind) c.in-Some.is
     ∙ rw (← c.kind_after.ensures))

@@ -1,8 +1,7 @@
 -- `pocket::tally` meets its contract. The loop's invariant: the three counts of bits are those of the entries below byte i.
-use Prim.Native.Nat.{◌-◌}
+use Prim.Native.Nat.{◌+◌, ◌*◌}
 use native.Mathlib.Omega.{arith}
-use Rattle.pocket.specs.Pocket.{pocket_size}
-use Rattle.pocket.proofs.laws.TallyLaws.{Sums, sums_none, sums-more, sums-room, sums-order, tallied, tally-length}
+use Rattle.pocket.proofs.laws.TallyLaws.{sums_none, sums-more, sums-room, sums-order, tallied, tally-length}
 use Rattle.pocket.proofs.counter.tally.Goals as goal
 
 pub returns-then-pocket-ne-POCKET_SIZE : goal.returns-then-pocket-ne-POCKET_SIZE
@@ -11,16 +10,12 @@ returns-then-pocket-ne-POCKET_SIZE c = tally-length _ c.if-pocket-ne-POCKET_SIZE
 pub loop-i-init : goal.loop-i-init
 loop-i-init c = sums_none _
 
-pub word-w-requires : goal.word-w-requires
-word-w-requires c =
-    omega (arith, c.loop-i-test.true, c.loop-i.invariant.eights, c.if-pocket-ne-POCKET_SIZE.false)
-
 pub overflow_add-low : goal.overflow_add-low
 overflow_add-low c =
     omega (
       arith,
       (sums-room _ _ _ _ _
-          (sums-more _ _ _ _ _ c.loop-i.invariant _ c.loop-i-test.true c.word-w.ensures)).0,
+          (sums-more _ _ _ _ _ c.loop-i.invariant _ (8 * (c.loop-i.i + 1)) (omega arith) (omega (arith, c.loop-i-test.true)) c.word-w.ensures)).0,
     )
 
 pub overflow_add-high : goal.overflow_add-high
@@ -28,7 +23,7 @@ overflow_add-high c =
     omega (
       arith,
       (sums-room _ _ _ _ _
-          (sums-more _ _ _ _ _ c.loop-i.invariant _ c.loop-i-test.true c.word-w.ensures)).1,
+          (sums-more _ _ _ _ _ c.loop-i.invariant _ (8 * (c.loop-i.i + 1)) (omega arith) (omega (arith, c.loop-i-test.true)) c.word-w.ensures)).1,
     )
 
 pub overflow_add-both : goal.overflow_add-both
@@ -36,17 +31,11 @@ overflow_add-both c =
     omega (
       arith,
       (sums-room _ _ _ _ _
-          (sums-more _ _ _ _ _ c.loop-i.invariant _ c.loop-i-test.true c.word-w.ensures)).2,
+          (sums-more _ _ _ _ _ c.loop-i.invariant _ (8 * (c.loop-i.i + 1)) (omega arith) (omega (arith, c.loop-i-test.true)) c.word-w.ensures)).2,
     )
 
-pub overflow_add-i : goal.overflow_add-i
-overflow_add-i c = omega (arith, c.loop-i-test.true)
-
-pub loop-i-smaller : goal.loop-i-smaller
-loop-i-smaller c = omega (arith, c.loop-i-test.true)
-
 pub loop-i-preserved : goal.loop-i-preserved
-loop-i-preserved c = sums-more _ _ _ _ _ c.loop-i.invariant _ c.loop-i-test.true c.word-w.ensures
+loop-i-preserved c = sums-more _ _ _ _ _ c.loop-i.invariant _ (8 * (c.loop-i.i + 1)) (omega arith) (omega (arith, c.loop-i-test.true)) c.word-w.ensures
 
 pub overflow_add-none : goal.overflow_add-none
 overflow_add-none c =
@@ -60,20 +49,8 @@ pub overflow_sub-none-2 : goal.overflow_sub-none-2
 overflow_sub-none-2 c =
     omega (arith, sums-order _ _ _ _ _ c.loop-i.invariant, sums-room _ _ _ _ _ c.loop-i.invariant)
 
-pub overflow_cast-none : goal.overflow_cast-none
-overflow_cast-none c =
-    omega (arith, sums-order _ _ _ _ _ c.loop-i.invariant, sums-room _ _ _ _ _ c.loop-i.invariant)
-
-pub overflow_sub-draws : goal.overflow_sub-draws
-overflow_sub-draws c =
-    omega (arith, sums-order _ _ _ _ _ c.loop-i.invariant, sums-room _ _ _ _ _ c.loop-i.invariant)
-
 pub overflow_cast-draws : goal.overflow_cast-draws
 overflow_cast-draws c =
-    omega (arith, sums-order _ _ _ _ _ c.loop-i.invariant, sums-room _ _ _ _ _ c.loop-i.invariant)
-
-pub overflow_sub-wins : goal.overflow_sub-wins
-overflow_sub-wins c =
     omega (arith, sums-order _ _ _ _ _ c.loop-i.invariant, sums-room _ _ _ _ _ c.loop-i.invariant)
 
 pub overflow_cast-wins : goal.overflow_cast-wins
@@ -85,4 +62,4 @@ overflow_cast-losses c =
     omega (arith, sums-order _ _ _ _ _ c.loop-i.invariant, sums-room _ _ _ _ _ c.loop-i.invariant)
 
 pub returns : goal.returns
-returns c = tallied _ _ _ _ _ c.loop-i.invariant c.loop-i-test.false c.if-pocket-ne-POCKET_SIZE.false
+returns c = tallied _ _ _ _ _ c.loop-i.invariant (omega (arith, c.loop-i-test.false)) c.if-pocket-ne-POCKET_SIZE.false

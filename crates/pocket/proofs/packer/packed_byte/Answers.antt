@@ -1,5 +1,4 @@
 -- `pocket::packed_byte` meets its contract.
-use borrow.Author.Rules.{rules}
 use Rattle.pocket.proofs.laws.PackLaws.{packed-sum}
 use Rattle.pocket.proofs.packer.packed_byte.Goals as goal
 

@@ -1,22 +1,20 @@
 -- `pocket::answer` meets its contract.
-use borrow.Author.Tests.{eq-eqb, ne_eqb}
+use Rattle.std.proofs.Common.{rules}
 use Rattle.pocket.specs.Pocket.{entry_tells}
 use Rattle.pocket.proofs.reader.answer.Goals as goal
 
-pub returns-then-entry-eq0 : goal.returns-then-entry-eq0
+pub returns-in-0 : goal.returns-in-0
 unfolding entry_tells
-returns-then-entry-eq0 c = simp (eq-eqb _ _ c.if-entry-eq0.true)
+returns-in-0 c = search rules
 
-pub returns-then-entry-eq1 : goal.returns-then-entry-eq1
+pub returns-in-1 : goal.returns-in-1
 unfolding entry_tells
-returns-then-entry-eq1 c = simp (ne_eqb _ _ c.if-entry-eq0.false, eq-eqb _ _ c.if-entry-eq1.true)
+returns-in-1 c = search rules
 
-pub returns-then-entry-eq2 : goal.returns-then-entry-eq2
+pub returns-in-2 : goal.returns-in-2
 unfolding entry_tells
-returns-then-entry-eq2 c =
-    simp (ne_eqb _ _ c.if-entry-eq0.false, ne_eqb _ _ c.if-entry-eq1.false, eq-eqb _ _ c.if-entry-eq2.true)
+returns-in-2 c = search rules
 
-pub returns : goal.returns
+pub returns-in_default : goal.returns-in_default
 unfolding entry_tells
-returns c =
-    simp (ne_eqb _ _ c.if-entry-eq0.false, ne_eqb _ _ c.if-entry-eq1.false, ne_eqb _ _ c.if-entry-eq2.false)
+returns-in_default c = search rules

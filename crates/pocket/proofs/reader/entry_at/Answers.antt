@@ -2,7 +2,6 @@
 use mathlib.Core.Path.{refl}
 use Rattle.pocket.specs.Pocket.{entry_at}
 use Rattle.pocket.proofs.laws.LookUpLaws.{entry-beyond}
-use borrow.Author.Rules.{rules}
 use Rattle.pocket.proofs.reader.entry_at.Goals as goal
 
 pub returns-then-pocket-i : goal.returns-then-pocket-i

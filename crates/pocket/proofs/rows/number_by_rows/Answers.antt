@@ -1,6 +1,5 @@
 -- `pocket::number_by_rows` meets its contract: the digits are the key of the normal position.
 use mathlib.Core.Path.{ap, ◌∙◌}
-use borrow.Author.Rules.{rules}
 use Rattle.position.specs.Maps.{normal_position}
 use Rattle.position.proofs.laws.MapLaws.{normal-position}
 use Rattle.index.proofs.laws.AnswerLaws.{position-key}

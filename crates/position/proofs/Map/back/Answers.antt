@@ -1,6 +1,5 @@
 -- `Map::back` meets its contract: the exchange first, then the reversals.
 use mathlib.Core.Path.{ap, ◌∙◌}
-use borrow.Author.Rules.{rules}
 use Rattle.symmetry.specs.Symmetry.{mapped}
 use Rattle.position.specs.Maps.{reversals}
 use Rattle.position.proofs.laws.MapLaws.{back-exchanged, back-plain}

@@ -1,5 +1,4 @@
 -- `Position::exchanged` meets its contract: each square goes by the map.
-use borrow.Author.Rules.{rules}
 use Rattle.symmetry.specs.Symmetry.{exchange}
 use Rattle.position.proofs.laws.MapLaws.{by-squares}
 use Rattle.position.proofs.Position.exchanged.Goals as goal

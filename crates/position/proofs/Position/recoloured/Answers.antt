@@ -1,6 +1,5 @@
 -- `Position::recoloured` meets its contract.
 use Rattle.position.proofs.laws.OwnerLaws.{by_slots}
-use borrow.Author.Rules.{rules}
 use Rattle.position.proofs.Position.recoloured.Goals as goal
 
 pub returns : goal.returns

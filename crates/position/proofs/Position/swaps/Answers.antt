@@ -1,7 +1,6 @@
 -- `Position::swaps` meets its contract: each return by the tests that led there.
 use mathlib.Core.Path.{◌≡◌, ◌∙◌}
 use mathlib.Core.Bool.{Bool, true, false, ◌&&◌, ◌||◌}
-use borrow.Author.Rules.{rules}
 use borrow.Author.Tests.{le-ltb, lt-ltb, eq-eqb, ne_eqb}
 use Rattle.numbering.specs.Normal.{swaps_kings}
 use Rattle.position.specs.Keyed.{board_of}

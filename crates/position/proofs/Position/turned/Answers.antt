@@ -1,5 +1,4 @@
 -- `Position::turned` meets its contract: each square is reversed as the two tests say.
-use borrow.Author.Rules.{rules}
 use Rattle.numbering.specs.Normal.{turn}
 use Rattle.position.proofs.laws.MapLaws.{by-squares}
 use Rattle.position.proofs.Position.turned.Goals as goal

@@ -1,7 +1,6 @@
 -- `Position::white_owned` meets its contract: the colours exchanged, or not.
 use mathlib.Core.Path.{sym, ◌∙◌}
 use Rattle.position.proofs.laws.OwnerLaws.{owned-black, owned-white}
-use borrow.Author.Rules.{rules}
 use Rattle.position.proofs.Position.white_owned.Goals as goal
 
 pub returns-then-m-eq1 : goal.returns-then-m-eq1

@@ -2,7 +2,6 @@ use mathlib.Core.Path.{sym, ◌∙◌}
 use Rattle.board.specs.Sets.{has}
 use Rattle.position.specs.Over.{strikes}
 use Rattle.position.proofs.laws.Pieces.{attacked-four, union-four}
-use borrow.Author.Rules.{rules}
 use Rattle.position.proofs.attack.attack_set.Goals as goal
 
 pub returns : goal.returns

@@ -1,7 +1,6 @@
 use mathlib.Core.Path.{sym}
 use Rattle.board.specs.Sets.{has}
 use Rattle.position.proofs.laws.Pieces.{attacked-four}
-use borrow.Author.Rules.{rules}
 use Rattle.position.proofs.attack.attacked_over.Goals as goal
 
 pub returns : goal.returns

@@ -5,7 +5,6 @@ use Rattle.rules.specs.Rules.{occupied, attacked, in_check, king}
 use Rattle.position.specs.Keyed.{board_of}
 use Rattle.position.specs.Over.{attacked_over}
 use Rattle.position.proofs.laws.Over.{attacked-same}
-use borrow.Author.Rules.{rules}
 use Rattle.position.proofs.attack.in_check.Goals as goal
 
 pub returns : goal.returns

@@ -1,14 +1,12 @@
 -- `position::man_strikes` meets its contract.
 use mathlib.Core.Path.{sym, ◌∙◌}
 use borrow.Author.Tests.{eq-eqb, ne_eqb}
-use Rattle.board.specs.Sets.{has}
 use Rattle.board.proofs.laws.ReachLaws.{reaches_same}
 use Rattle.board.proofs.laws.SetLaws.{set-has}
 use Rattle.rules.specs.Rules.{piece_of, occupied}
 use Rattle.rules.proofs.laws.CanMove.{attacks-piece}
 use Rattle.rules.proofs.laws.OnBoard.{attacks-pawn, hits-has}
 use Rattle.position.specs.Keyed.{board_of}
-use borrow.Author.Rules.{rules}
 use Rattle.position.proofs.attack.man_strikes.Goals as goal
 
 pub returns-then-kind-eq-PAWN : goal.returns-then-kind-eq-PAWN

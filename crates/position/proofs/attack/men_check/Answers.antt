@@ -1,6 +1,5 @@
 -- `position::men_check` meets its contract.
 use Rattle.position.proofs.laws.MenOver.{by_first, by-second}
-use borrow.Author.Rules.{rules}
 use Rattle.position.proofs.attack.men_check.Goals as goal
 
 pub returns-then-slot_strikes : goal.returns-then-slot_strikes

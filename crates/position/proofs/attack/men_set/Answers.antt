@@ -3,7 +3,6 @@ use mathlib.Core.Path.{◌∙◌}
 use Rattle.board.specs.Sets.{has}
 use Rattle.board.proofs.laws.SetLaws.{has-or}
 use Rattle.position.proofs.laws.MenOver.{men-slots}
-use borrow.Author.Rules.{rules}
 use Rattle.position.proofs.attack.men_set.Goals as goal
 
 pub returns : goal.returns

@@ -5,7 +5,6 @@ use Rattle.board.proofs.laws.SetLaws.{has-none, set-has}
 use Rattle.rules.proofs.laws.CanMove.{attacks-piece}
 use Rattle.rules.proofs.laws.OnBoard.{attacks-pawn}
 use Rattle.position.proofs.laws.Pieces.{ne-and, eq-and}
-use borrow.Author.Rules.{rules}
 use Rattle.position.proofs.attack.strike_set.Goals as goal
 
 pub returns-then-m-colour : goal.returns-then-m-colour

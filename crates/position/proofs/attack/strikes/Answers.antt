@@ -4,7 +4,6 @@ use Rattle.board.specs.Sets.{has}
 use Rattle.rules.proofs.laws.CanMove.{attacks-piece}
 use Rattle.rules.proofs.laws.OnBoard.{attacks-pawn, hits-has}
 use Rattle.position.proofs.laws.Pieces.{ne-and, eq-and}
-use borrow.Author.Rules.{rules}
 use Rattle.position.proofs.attack.strikes.Goals as goal
 
 pub returns-then-m-colour : goal.returns-then-m-colour

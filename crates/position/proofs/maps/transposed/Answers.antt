@@ -1,6 +1,5 @@
 -- `position::transposed` meets its contract: on the board and off it.
 use mathlib.Core.Path.{sym}
-use borrow.Author.Rules.{rules}
 use borrow.Author.Tests.{lt-ltb}
 use Rattle.symmetry.specs.Symmetry.{mapped, exchange}
 use Rattle.symmetry.proofs.laws.SymmetryLaws.{mapped-off}

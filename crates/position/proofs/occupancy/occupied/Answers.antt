@@ -2,7 +2,6 @@ use mathlib.Core.Path.{sym, ◌∙◌}
 use Rattle.board.proofs.laws.SetLaws.{set_is, set-has}
 use Rattle.position.specs.Pieces.{stands_on}
 use Rattle.position.proofs.laws.Pieces.{occupied-four, union-four, union-lt}
-use borrow.Author.Rules.{rules}
 use Rattle.position.proofs.occupancy.occupied.Goals as goal
 
 pub returns : goal.returns

@@ -2,7 +2,6 @@ use mathlib.Core.Path.{sym, ◌∙◌}
 use Rattle.board.proofs.laws.SetLaws.{set_is}
 use Rattle.position.specs.Pieces.{own_on}
 use Rattle.position.proofs.laws.Pieces.{stands-four, union-four, union-lt}
-use borrow.Author.Rules.{rules}
 use Rattle.position.proofs.occupancy.own.Goals as goal
 
 pub returns : goal.returns

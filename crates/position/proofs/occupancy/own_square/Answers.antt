@@ -2,7 +2,6 @@ use mathlib.Core.Path.{sym, ◌∙◌}
 use Rattle.finite.specs.Truth.{eqb-sym}
 use Rattle.board.proofs.laws.SetLaws.{has-none, set-has}
 use Rattle.position.proofs.laws.Pieces.{ne-and, eq-and}
-use borrow.Author.Rules.{rules}
 use Rattle.position.proofs.occupancy.own_square.Goals as goal
 
 pub returns-then-m-colour : goal.returns-then-m-colour

@@ -1,4 +1,3 @@
-use borrow.Author.Rules.{rules}
 use Rattle.position.proofs.occupancy.pieces_of.Goals as goal
 
 pub returns : goal.returns

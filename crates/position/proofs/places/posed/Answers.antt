@@ -1,6 +1,5 @@
 -- `position::posed` meets its contract.
 use Rattle.position.specs.Posed.{posed}
-use borrow.Author.Rules.{rules}
 use Rattle.position.proofs.places.posed.Goals as goal
 
 pub returns : goal.returns

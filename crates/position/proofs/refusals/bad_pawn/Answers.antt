@@ -1,6 +1,5 @@
 -- `position::bad_pawn` meets its contract.
 use Rattle.position.proofs.laws.SlotLaws.{astray-by-slots}
-use borrow.Author.Rules.{rules}
 use Rattle.position.proofs.refusals.bad_pawn.Goals as goal
 
 pub returns : goal.returns

@@ -1,6 +1,5 @@
 -- `position::bad_side` meets its contract.
 use Rattle.position.proofs.laws.SlotLaws.{foreign-by-slots}
-use borrow.Author.Rules.{rules}
 use Rattle.position.proofs.refusals.bad_side.Goals as goal
 
 pub returns : goal.returns

@@ -1,6 +1,5 @@
 -- `position::bad_square` meets its contract.
 use Rattle.position.proofs.laws.SlotLaws.{off-by-slots}
-use borrow.Author.Rules.{rules}
 use Rattle.position.proofs.refusals.bad_square.Goals as goal
 
 pub returns : goal.returns

@@ -1,10 +1,9 @@
 -- `position::is_misplaced` meets its contract.
 use mathlib.Core.Path.{sym, ap}
 use Rattle.position.specs.Refusals.{slot_misplaced}
-use borrow.Author.Rules.{rules}
 use Rattle.position.proofs.refusals.is_misplaced.Goals as goal
 
-pub returns-in-Present : goal.returns-in-Present
-returns-in-Present c =
+pub returns-in-Some : goal.returns-in-Some
+returns-in-Some c =
     let x = c.args in
-    sym (ap (slot_misplaced x.white x.black) c.in-Present.is)
+    sym (ap (slot_misplaced x.white x.black) c.in-Some.is)

@@ -1,8 +1,7 @@
 -- `position::is_on` meets its contract.
 use mathlib.Core.Path.{sym, ap}
 use Rattle.position.specs.Refusals.{slot_on}
-use borrow.Author.Rules.{rules}
 use Rattle.position.proofs.refusals.is_on.Goals as goal
 
-pub returns-in-Present : goal.returns-in-Present
-returns-in-Present c = sym (ap (slot_on c.args.square) c.in-Present.is)
+pub returns-in-Some : goal.returns-in-Some
+returns-in-Some c = sym (ap (slot_on c.args.square) c.in-Some.is)

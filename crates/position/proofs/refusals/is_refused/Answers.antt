@@ -7,7 +7,6 @@ use Rattle.board.proofs.laws.ReachLaws.{reaches-has, king-reaches}
 use Rattle.rules.specs.Rules.{touching}
 use Rattle.position.specs.Keyed.{board_of}
 use Rattle.position.proofs.laws.Unrefused.{unrefused}
-use borrow.Author.Rules.{rules}
 use Rattle.position.proofs.refusals.is_refused.Goals as goal
 
 pub returns-then-p-white : goal.returns-then-p-white

@@ -7,7 +7,6 @@ use Rattle.board.specs.Reach.{reaches}
 use Rattle.rules.specs.Rules.{touching}
 use Rattle.position.specs.declared.Position.{Position}
 use Rattle.position.specs.Keyed.{board_of}
-use borrow.Author.Rules.{rules}
 use Rattle.position.proofs.refusals.later_refusal.Goals as goal
 
 -- the answer about Black's king in the set of White's

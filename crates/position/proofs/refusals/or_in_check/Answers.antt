@@ -1,9 +1,7 @@
 -- `position::or_in_check` meets its contract: each return by the tests that led there.
 use mathlib.Core.Path.{◌≡◌, sym, ◌∙◌}
-use mathlib.Core.Bool.{false}
 use borrow.Author.Tests.{eq-eqb, ne_eqb}
-use Rattle.position.specs.Refusals.{kings_touch, other_in_check}
-use borrow.Author.Rules.{rules}
+use Rattle.position.specs.Refusals.{other_in_check}
 use Rattle.position.proofs.refusals.or_in_check.Goals as goal
 
 pub returns-then-refusal-ne0 : goal.returns-then-refusal-ne0

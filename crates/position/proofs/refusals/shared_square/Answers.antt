@@ -1,6 +1,5 @@
 -- `position::shared_square` meets its contract.
 use Rattle.position.proofs.laws.SlotLaws.{shared-by-slots}
-use borrow.Author.Rules.{rules}
 use Rattle.position.proofs.refusals.shared_square.Goals as goal
 
 pub returns : goal.returns

@@ -2,7 +2,6 @@
 use mathlib.Core.Path.{sym, ap, ◌∙◌}
 use Rattle.position.specs.Refusals.{or_in_check, standing_with}
 use Rattle.position.proofs.laws.Unrefused.{placed-kings-with}
-use borrow.Author.Rules.{rules}
 use Rattle.position.proofs.refusals.standing_with.Goals as goal
 
 pub returns : goal.returns

@@ -5,7 +5,6 @@ use Rattle.rules.specs.declared.Piece.{Piece}
 use Rattle.rules.specs.Rules.{can_move}
 use Rattle.position.specs.Keyed.{board_of}
 use Rattle.position_moves.proofs.laws.InPosition.{man-none, man-free}
-use borrow.Author.Rules.{rules}
 use Rattle.position_moves.proofs.in_position.man_targets.Goals as goal
 
 pub returns-then-struck-eq0 : goal.returns-then-struck-eq0

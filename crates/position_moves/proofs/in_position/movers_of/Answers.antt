@@ -2,7 +2,6 @@
 use mathlib.Core.Path.{◌∙◌}
 use Rattle.position_moves.proofs.laws.OneThere.{placed-board, first-held, second-held}
 use Rattle.position_moves.proofs.laws.InPosition.{sight-of, king-in, check-found}
-use borrow.Author.Rules.{rules}
 use Rattle.position_moves.proofs.in_position.movers_of.Goals as goal
 
 pub returns : goal.returns

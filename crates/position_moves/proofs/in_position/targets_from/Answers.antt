@@ -6,7 +6,6 @@ use Rattle.rules.specs.declared.Piece.{Piece}
 use Rattle.rules.specs.Rules.{can_move}
 use Rattle.position.specs.Keyed.{board_of}
 use Rattle.position_moves.proofs.laws.InPosition.{nobody-moves}
-use borrow.Author.Rules.{rules}
 use Rattle.position_moves.proofs.in_position.targets_from.Goals as goal
 
 pub returns-then-from-king_square : goal.returns-then-from-king_square

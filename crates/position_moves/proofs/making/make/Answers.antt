@@ -1,5 +1,4 @@
 use Rattle.movegen.specs.After.{after}
-use borrow.Author.Rules.{rules}
 use Rattle.position_moves.proofs.making.make.Goals as goal
 
 pub returns : goal.returns

@@ -2,7 +2,6 @@ use mathlib.Core.Path.{sym, ◌∙◌}
 use Rattle.board.specs.Sets.{has}
 use Rattle.position.specs.Over.{goes_from}
 use Rattle.position.proofs.laws.Pieces.{goes-four, union-four}
-use borrow.Author.Rules.{rules}
 use Rattle.position_moves.proofs.targets.goes_over.Goals as goal
 
 pub returns : goal.returns

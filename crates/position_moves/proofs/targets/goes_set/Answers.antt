@@ -2,7 +2,6 @@ use Rattle.board.specs.Sets.{has}
 use mathlib.Core.Path.{sym, ◌∙◌}
 use Rattle.board.proofs.laws.SetLaws.{has-none}
 use Rattle.position.proofs.laws.Over.{goes_other, goes-elsewhere, goes-own}
-use borrow.Author.Rules.{rules}
 use Rattle.position_moves.proofs.targets.goes_set.Goals as goal
 
 pub returns-then-m-side : goal.returns-then-m-side

@@ -6,7 +6,6 @@ use Rattle.board.proofs.laws.SetLaws.{set-has}
 use Rattle.rules.specs.Rules.{piece_of}
 use Rattle.rules.proofs.laws.CanMove.{goes-piece}
 use Rattle.rules.proofs.laws.OnBoard.{goes-pawn}
-use borrow.Author.Rules.{rules}
 use Rattle.position_moves.proofs.targets.goes_to.Goals as goal
 
 pub returns-then-kind-eq-PAWN : goal.returns-then-kind-eq-PAWN

@@ -1,7 +1,6 @@
 -- `moves::legal_targets` meets its contract: each return is one of the ways of `Targets`.
 use Rattle.movegen.proofs.laws.Targets.{by-making, by-attacked, by-freedom}
 use mathlib.Core.Path.{sym, ◌∙◌}
-use borrow.Author.Rules.{rules}
 use Rattle.position_moves.proofs.targets.legal_targets.Goals as goal
 
 pub returns-then-has : goal.returns-then-has

@@ -4,7 +4,6 @@ use Prim.Native.Nat.{ℕ}
 use Rattle.board.specs.Sets.{set_of}
 use Rattle.rules.specs.Rules.{stands, taking}
 use Rattle.position.specs.Keyed.{board_of}
-use borrow.Author.Rules.{rules}
 use Rattle.position_moves.proofs.targets.taking_set.Goals as goal
 
 pub returns : goal.returns

@@ -1,6 +1,6 @@
+use Rattle.std.proofs.Common.{arith}
 use Rattle.rules.proofs.laws.PawnSteps.{forward-other}
-use borrow.Author.Rules.{rules}
 use Rattle.rules.proofs.pawn.forward.Goals as goal
 
-pub returns : goal.returns
-returns c = forward-other _ c.if-colour-eq0.false c.if-colour-eq1.false
+pub returns-in_default : goal.returns-in_default
+returns-in_default c = forward-other c.args.colour (omega arith) (omega arith)

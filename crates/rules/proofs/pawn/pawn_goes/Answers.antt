@@ -1,5 +1,4 @@
 use Rattle.rules.proofs.laws.PawnSteps.{goes_set}
-use borrow.Author.Rules.{rules}
 use Rattle.rules.proofs.pawn.pawn_goes.Goals as goal
 
 pub returns : goal.returns

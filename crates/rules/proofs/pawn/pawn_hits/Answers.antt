@@ -1,5 +1,4 @@
 use Rattle.rules.proofs.laws.PawnSteps.{hits-set}
-use borrow.Author.Rules.{rules}
 use Rattle.rules.proofs.pawn.pawn_hits.Goals as goal
 
 pub returns : goal.returns

@@ -1,7 +1,5 @@
 use mathlib.Core.Path.{sym, ◌∙◌}
-use borrow.Author.Tests.{not-true, not-false}
 use Rattle.rules.proofs.laws.PawnSteps.{straight-one, straight-held, straight-two}
-use borrow.Author.Rules.{rules}
 use Rattle.rules.proofs.pawn.straight_on.Goals as goal
 
 pub returns-then-not-on_first_rank : goal.returns-then-not-on_first_rank

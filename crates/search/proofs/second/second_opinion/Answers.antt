@@ -1,9 +1,6 @@
 -- `search::second_opinion` meets its contract. The loop's invariant: the position is decided in none of the depths below n.
-use Prim.Native.Nat.{◌+◌, ◌-◌}
-use native.Mathlib.Omega.{arith}
-use Rattle.position.specs.Keyed.{board_of}
-use Rattle.search.specs.Tried.{Pawnless}
-use Rattle.search.proofs.laws.OpinionLaws.{NoneBelow, served-pawnless, below_none, below_more, found_none, found-win, found-loss, opinion-refused, opinion-deep, opinion-searched}
+use Rattle.std.proofs.Common.{◌+◌, arith}
+use Rattle.search.proofs.laws.OpinionLaws.{served-pawnless, below_none, below_more, found_none, found-win, found-loss, opinion-refused, opinion-deep, opinion-searched}
 use Rattle.search.proofs.second.second_opinion.Goals as goal
 
 pub returns-then-refusal-ne0 : goal.returns-then-refusal-ne0
@@ -28,17 +25,13 @@ returns-then-is_decided c =
     (found-loss _ _ c.loop-n.invariant _ c.loop-n-test.true _ (c.is_decided.ensures (served-pawnless _ 0 _ c.standing_refusal-refusal.ensures c.if-refusal-ne0.false))
     c.if-is_decided.true c.if-n-eq1.false)
 
-pub overflow_add-n : goal.overflow_add-n
-overflow_add-n c = omega arith
-
-pub loop-n-smaller : goal.loop-n-smaller
-loop-n-smaller c = omega arith
-
 pub loop-n-preserved : goal.loop-n-preserved
 loop-n-preserved c =
     below_more _ _ c.loop-n.invariant _ (c.is_decided.ensures (served-pawnless _ 0 _ c.standing_refusal-refusal.ensures c.if-refusal-ne0.false)) c.if-is_decided.false
 
-pub returns : goal.returns
-returns c =
+pub returns-else-is_decided : goal.returns-else-is_decided
+returns-else-is_decided c =
     opinion-searched _ _ _ c.standing_refusal-refusal.ensures c.if-refusal-ne0.false _ c.if-k-gt-MOST.false
-    (found_none _ _ c.loop-n.invariant _ c.loop-n-test.false)
+    (found_none _ (c.loop-n.n + 1)
+    (below_more _ _ c.loop-n.invariant _ (c.is_decided.ensures (served-pawnless _ 0 _ c.standing_refusal-refusal.ensures c.if-refusal-ne0.false)) c.if-is_decided.false)
+    _ (omega arith))

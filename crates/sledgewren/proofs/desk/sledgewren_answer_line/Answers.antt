@@ -8,4 +8,4 @@ returns-then-slip-ne-SLIP_BYTES c = not-replied _ _ _ _ c.if-slip-ne-SLIP_BYTES.
 
 pub returns : goal.returns
 returns c =
-    line-replied _ _ _ _ _ _ _ c.if-slip-ne-SLIP_BYTES.false c.answer_line-reply.ensures c.write_slip.ensures
+    line-replied _ _ _ _ _ _ _ c.if-slip-ne-SLIP_BYTES.false c.answer_line-reply.ensures c.copy_from_slice.ensures.after

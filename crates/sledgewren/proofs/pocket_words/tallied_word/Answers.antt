@@ -4,5 +4,5 @@ use borrow.Author.Rules.{rules}
 use Rattle.sledgewren.specs.PocketWords.{tallied_word}
 use Rattle.sledgewren.proofs.pocket_words.tallied_word.Goals as goal
 
-pub returns-in-Counted : goal.returns-in-Counted
-returns-in-Counted c = c.tallies_word.ensures ∙ sym (ap tallied_word c.in-Counted.is)
+pub returns-in-Ok : goal.returns-in-Ok
+returns-in-Ok c = c.tallies_word.ensures ∙ sym (ap tallied_word c.in-Ok.is)

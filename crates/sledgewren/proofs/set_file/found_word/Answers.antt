@@ -4,5 +4,5 @@ use borrow.Author.Rules.{rules}
 use Rattle.sledgewren.specs.SetWords.{found_word}
 use Rattle.sledgewren.proofs.set_file.found_word.Goals as goal
 
-pub returns-in-At : goal.returns-in-At
-returns-in-At c = sym (ap found_word c.in-At.is)
+pub returns-in-Ok : goal.returns-in-Ok
+returns-in-Ok c = sym (ap found_word c.in-Ok.is)

@@ -1,6 +1,5 @@
 -- `successors::byte_after` meets its contract: by the frame, or by the place.
 use mathlib.Core.Path.{sym, ◌∙◌}
-use borrow.Author.Rules.{rules}
 use Rattle.successors.proofs.laws.ByteLaws.{byte-framed}
 use Rattle.successors.proofs.after.byte_after.Goals as goal
 

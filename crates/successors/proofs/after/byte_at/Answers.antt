@@ -1,5 +1,4 @@
 -- `successors::byte_at` meets its contract.
-use borrow.Author.Rules.{rules}
 use Rattle.successors.proofs.laws.PlaceLaws.{remains}
 use Rattle.successors.proofs.laws.ByteLaws.{all_there, own-seated, byte-own}
 use Rattle.successors.proofs.after.byte_at.Goals as goal

@@ -1,5 +1,4 @@
 -- `successors::byte_in` meets its contract: the first man taken, the second taken, or all there.
-use borrow.Author.Rules.{rules}
 use native.Mathlib.Omega.{arith}
 use Rattle.successors.proofs.laws.ByteLaws.{own-seated, byte-own, byte-first, lone-facts, there-all}
 use Rattle.successors.proofs.after.byte_in.Goals as goal

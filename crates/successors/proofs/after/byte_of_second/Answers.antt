@@ -1,5 +1,4 @@
 -- `successors::byte_of_second` meets its contract: bare kings, the table lent for both, or the second.
-use borrow.Author.Rules.{rules}
 use Rattle.successors.proofs.laws.ByteLaws.{byte-bare, byte-like, byte-second}
 use Rattle.successors.proofs.after.byte_of_second.Goals as goal
 

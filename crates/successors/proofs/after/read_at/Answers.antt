@@ -1,5 +1,4 @@
 -- `successors::read_at` meets its contract.
-use borrow.Author.Rules.{rules}
 use Rattle.successors.proofs.laws.ByteLaws.{read-beyond}
 use Rattle.successors.proofs.after.read_at.Goals as goal
 

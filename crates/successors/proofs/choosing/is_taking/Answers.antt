@@ -1,5 +1,4 @@
 -- `successors::is_taking` meets its contract.
-use borrow.Author.Rules.{rules}
 use Rattle.successors.proofs.laws.PlaceLaws.{place-taking}
 use Rattle.successors.proofs.choosing.is_taking.Goals as goal
 

@@ -1,5 +1,4 @@
 -- `successors::seen_from` meets its contract.
-use borrow.Author.Rules.{rules}
 use Rattle.successors.proofs.laws.ChoiceLaws.{seen_none, seen-lowest}
 use Rattle.successors.proofs.choosing.seen_from.Goals as goal
 

@@ -1,5 +1,4 @@
 -- `successors::seen_in` meets its contract.
-use borrow.Author.Rules.{rules}
 use Rattle.successors.proofs.laws.ChoiceLaws.{seen-is}
 use Rattle.successors.proofs.choosing.seen_in.Goals as goal
 

@@ -1,5 +1,4 @@
 -- `successors::chosen_digits` meets its contract.
-use borrow.Author.Rules.{rules}
 use Rattle.successors.proofs.laws.FramingLaws.{chosen_plain, chosen-turned, chosen_less, chosen_more}
 use Rattle.successors.proofs.framing.chosen_digits.Goals as goal
 

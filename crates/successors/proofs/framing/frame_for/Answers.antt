@@ -1,7 +1,6 @@
 -- `successors::frame_for` meets its contract.
 use mathlib.Core.Path.{refl}
 use native.Mathlib.Omega.{arith}
-use borrow.Author.Rules.{rules}
 use Rattle.successors.proofs.laws.FramingLaws.{frame_is}
 use Rattle.successors.proofs.framing.frame_for.Goals as goal
 

@@ -1,5 +1,4 @@
 -- `successors::men_digits` meets its contract.
-use borrow.Author.Rules.{rules}
 use Rattle.successors.proofs.laws.FramingLaws.{cond_yes, cond_no}
 use Rattle.successors.proofs.framing.men_digits.Goals as goal
 

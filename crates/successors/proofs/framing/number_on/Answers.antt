@@ -1,5 +1,4 @@
 -- `successors::number_on` meets its contract.
-use borrow.Author.Rules.{rules}
 use Rattle.successors.proofs.laws.FramingLaws.{number-single, number-double}
 use Rattle.successors.proofs.framing.number_on.Goals as goal
 

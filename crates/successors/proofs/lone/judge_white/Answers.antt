@@ -1,26 +1,21 @@
 -- `successors::judge_white` meets its contract: a piece at a time.
-use mathlib.Core.Path.{refl}
-use Rattle.position.proofs.laws.PosedLaws.{complete-spread}
+use mathlib.Core.Path.{refl, ◌∙◌}
 use Rattle.successors.proofs.laws.JudgeLaws.{no-moves, king-refuted, first-refuted, all-suited}
 use Rattle.successors.proofs.laws.LoneReach.{second_none}
-use Rattle.successors.proofs.laws.LoneBytes.{white-step}
-use borrow.Author.Rules.{rules}
 use Rattle.successors.proofs.lone.judge_white.Goals as goal
 
-pub returns-in_default : goal.returns-in_default
-returns-in_default c =
-    λ w h s r. king-refuted _ _ _ _ _ _ _
-    (c.sift_white-by_king.ensures _ _ _ _ _ (complete-spread w).black (complete-spread w).first r.king (white-step _ _ w h _ _ _ s))
-    c.in_default.is
+pub returns-in_err-king : goal.returns-in_err-king
+returns-in_err-king c =
+    λ w h s r. c.from_residual.ensures
+    ∙ king-refuted _ _ _ _ _ _ _ (c.sift_white.ensures _ w h s r.king _ _) c.in_err-king.was
 
-pub returns-in_default-by_man : goal.returns-in_default-by_man
-returns-in_default-by_man c =
-    λ w h s r. first-refuted _ _ _ _ _ _ _
-    (c.sift_white-by_king.ensures _ _ _ _ _ (complete-spread w).black (complete-spread w).first r.king (white-step _ _ w h _ _ _ s)) _
-    c.in-Suited.is _ (c.sift_lone-by_man.ensures w h s r.first) c.in_default-by_man.is
+pub returns-in_err-man : goal.returns-in_err-man
+returns-in_err-man c =
+    λ w h s r. c.from_residual-in_err-man.ensures
+    ∙ first-refuted _ _ _ _ _ _ _ (c.sift_white.ensures _ w h s r.king _ _) _ c.in_ok-king.was _
+    (c.sift_lone.ensures w h s r.first) c.in_err-man.was
 
 pub returns : goal.returns
 returns c =
-    λ w h s r. all-suited _ _ _ _ _ _ _
-    (c.sift_white-by_king.ensures _ _ _ _ _ (complete-spread w).black (complete-spread w).first r.king (white-step _ _ w h _ _ _ s)) _
-    c.in-Suited.is _ (c.sift_lone-by_man.ensures w h s r.first) _ c.in-Suited-by_man.is _ (no-moves _ _ _ _ _ _ (second_none _ _ w h) refl) _ refl
+    λ w h s r. all-suited _ _ _ _ _ _ _ (c.sift_white.ensures _ w h s r.king _ _) _ c.in_ok-king.was _
+    (c.sift_lone.ensures w h s r.first) _ c.in_ok-man.was _ (no-moves _ _ _ _ _ _ (second_none _ _ w h) refl) _ refl

@@ -3,7 +3,6 @@ use mathlib.Core.Path.{◌≡◌}
 use Prim.Native.Nat.{ℕ, ◌<◌}
 use native.Mathlib.Omega.{arith}
 use Rattle.position.proofs.laws.PosedLaws.{complete-spread}
-use borrow.Author.Rules.{rules}
 use Rattle.successors.proofs.lone.weigh_lone.Goals as goal
 
 black-moves : (side : ℕ) → side < 2 → (side ≡ 0 → ⊥) → side ≡ 1

@@ -1,7 +1,6 @@
 -- `successors::black_reach` meets its contract.
 use mathlib.Core.Path.{refl}
 use Rattle.successors.proofs.laws.LoneReach.{black-reaches}
-use borrow.Author.Rules.{rules}
 use Rattle.successors.proofs.lone_reach.black_reach.Goals as goal
 
 pub returns : goal.returns

@@ -1,7 +1,6 @@
 -- `successors::white_reach` meets its contract.
 use mathlib.Core.Path.{refl}
 use Rattle.successors.proofs.laws.LoneReach.{white-reaches}
-use borrow.Author.Rules.{rules}
 use Rattle.successors.proofs.lone_reach.white_reach.Goals as goal
 
 pub returns : goal.returns

@@ -1,7 +1,5 @@
 -- `successors::legal_at` meets its contract: not used, in check, or legal.
-use borrow.Author.Rules.{rules}
 use mathlib.Core.Path.{sym, ◌∙◌}
-use borrow.Author.Tests.{not-true, not-false}
 use Rattle.finite.specs.Truth.{of-true}
 use Rattle.index.proofs.laws.CompleteLaws.{used-complete}
 use Rattle.successors.proofs.laws.NumberLaws.{found-unused, found-illegal, found-legal, checked-other}

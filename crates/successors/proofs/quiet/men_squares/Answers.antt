@@ -3,7 +3,6 @@ use mathlib.Core.Path.{◌∙◌, ap₂}
 use mathlib.Core.Bool.{◌||◌}
 use Prim.Native.Nat.{ℕ}
 use lib.Dec.{eqb}
-use borrow.Author.Rules.{rules}
 use Rattle.board.proofs.laws.SetLaws.{has-or, set-has}
 use Rattle.finite.specs.Truth.{eqb-sym}
 use Rattle.successors.proofs.quiet.men_squares.Goals as goal

@@ -1,5 +1,4 @@
 -- `successors::sift_taking` meets its contract.
-use borrow.Author.Rules.{rules}
 use Rattle.successors.proofs.laws.JudgeLaws.{no-moves}
 use Rattle.successors.proofs.laws.TakingLaws.{taking-legal}
 use Rattle.successors.proofs.quiet.sift_taking.Goals as goal

@@ -1,47 +1,11 @@
--- `successors::sift_each` meets its contract. The loop's invariant: the targets left, and what was found among the others.
-use mathlib.Core.Path.{◌≡◌, refl, sym, ◌∙◌}
-use mathlib.Core.Bool.{Bool, not, ◌&&◌}
-use Prim.Native.Nat.{ℕ, ◌^◌, ◌<◌}
-use native.Mathlib.Omega.{arith}
-use lib.Dec.{T, eqb}
-use lib.ListN.{length}
-use Rattle.board.specs.Sets.{has, members, set_of}
-use Rattle.board.proofs.laws.LowestLaws.{Lowest, lowest-of}
-use Rattle.rules.specs.Rules.{can_move}
-use Rattle.position.specs.Posed.{board_in, Complete}
+-- `successors::sift_each` meets its contract.
+use borrow.Author.Rules.{rules}
 use Rattle.position.proofs.laws.PosedLaws.{complete-spread}
-use Rattle.successors.specs.Successors.{bytes_in}
 use Rattle.successors.proofs.laws.FramingLaws.{frame-side}
-use Rattle.successors.proofs.laws.SiftLaws.{Sifting, sift-start, sift-refuted, sift-turn, sift-end}
 use Rattle.successors.proofs.sifting.sift_each.Goals as goal
-
-pub loop-rest-init : goal.loop-rest-init
-loop-rest-init c = (c.ranges.targets.fits, omega arith, λ w goes e g. sift-start _ _ _ _ _ _ e)
-
-pub returns-then-refutes : goal.returns-then-refutes
-returns-then-refutes c =
-    let l = c.loop-rest in
-    λ w goes e g. let v = l.invariant.2 w goes e g in
-    sift-refuted _ _ _ _ _ _ _ _ _ _ (lowest-of c.loop-rest.rest _ _ c.loop-rest.invariant.0 c.loop-rest-test.true c.lowest-to.ensures refl) v
-    (c.byte_after-c.ensures w (g _ (v.legal-rest _ (lowest-of c.loop-rest.rest _ _ c.loop-rest.invariant.0 c.loop-rest-test.true c.lowest-to.ensures refl).square (lowest-of c.loop-rest.rest _ _ c.loop-rest.invariant.0 c.loop-rest-test.true c.lowest-to.ensures refl).here))
-    (frame-side _ _ _ _ _ c.other.ensures (c.frame_for-f.ensures (complete-spread w).white (complete-spread w).black))) (sym c.refutes.ensures ∙ c.if-refutes.true)
-
-pub loop-rest-smaller : goal.loop-rest-smaller
-loop-rest-smaller c = (lowest-of c.loop-rest.rest _ _ c.loop-rest.invariant.0 c.loop-rest-test.true c.lowest-to.ensures c.without-rest.ensures).fewer
-
-pub loop-rest-preserved : goal.loop-rest-preserved
-loop-rest-preserved c =
-    let l = c.loop-rest in (
-      c.without-rest.type_inv,
-      c.with_suited-found.type_inv,
-      λ w goes e g. let v = l.invariant.2 w goes e g in
-          sift-turn _ _ _ _ _ _ _ _ _ _ (lowest-of c.loop-rest.rest _ _ c.loop-rest.invariant.0 c.loop-rest-test.true c.lowest-to.ensures c.without-rest.ensures) v
-          (c.byte_after-c.ensures w (g _ (v.legal-rest _ (lowest-of c.loop-rest.rest _ _ c.loop-rest.invariant.0 c.loop-rest-test.true c.lowest-to.ensures refl).square (lowest-of c.loop-rest.rest _ _ c.loop-rest.invariant.0 c.loop-rest-test.true c.lowest-to.ensures refl).here))
-          (frame-side _ _ _ _ _ c.other.ensures (c.frame_for-f.ensures (complete-spread w).white (complete-spread w).black))) _
-          (sym c.refutes.ensures ∙ c.if-refutes.false)
-          (c.with_suited-found.ensures ∙ rw c.suits.ensures),
-    )
 
 pub returns : goal.returns
 returns c =
-    let l = c.loop-rest in λ w goes e g. sift-end _ _ _ _ _ _ _ l.invariant.1 c.loop-rest-test.false (l.invariant.2 w goes e g)
+    λ w goes e g. let s = complete-spread w in
+    let d = frame-side _ _ _ _ _ c.other.ensures (c.frame_for-f.ensures s.white s.black) in
+    c.sift.ensures _ _ _ _ e (λ t r h z p. let u = g t z in search rules)

@@ -1,5 +1,4 @@
 -- `successors::end_byte` meets its contract.
-use borrow.Author.Rules.{rules}
 use mathlib.Core.Path.{sym, ◌∙◌}
 use Rattle.successors.proofs.laws.PlaceVerdicts.{end-check, end_quiet}
 use Rattle.successors.proofs.verdicts.end_byte.Goals as goal

@@ -1,5 +1,4 @@
 -- `successors::requires_byte` meets its contract: each return by what is weighed.
-use borrow.Author.Rules.{rules}
 use mathlib.Core.Path.{refl, sym}
 use Rattle.successors.proofs.laws.VerdictLaws.{verdict-zero, told-wrong, told-right}
 use Rattle.successors.proofs.laws.PlaceVerdicts.{place-side, end-required, weighed-refuted, weighed-unmet, weighed-stuck, weighed-met}

@@ -1,7 +1,5 @@
 -- `successors::requires_depth` meets its contract: no mate without check or where the king may move, and else by the byte for that depth.
-use borrow.Author.Rules.{rules}
 use mathlib.Core.Path.{sym, ◌∙◌}
-use borrow.Author.Tests.{not-true}
 use Rattle.successors.proofs.laws.VerdictLaws.{depth-mate, depth-byte}
 use Rattle.successors.proofs.laws.PlaceVerdicts.{place-quiet, place-moving}
 use Rattle.successors.proofs.verdicts.requires_depth.Goals as goal

@@ -1,5 +1,4 @@
 -- `successors::verdict_on` meets its contract: each return by what is weighed.
-use borrow.Author.Rules.{rules}
 use mathlib.Core.Path.{◌∙◌}
 use Rattle.successors.proofs.laws.VerdictLaws.{verdict-zero}
 use Rattle.successors.proofs.laws.PlaceVerdicts.{weighed-refuted, weighed-unmet, weighed-stuck, weighed-on, weighed-met}

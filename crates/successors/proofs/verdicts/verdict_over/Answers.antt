@@ -1,5 +1,4 @@
 -- `successors::verdict_over` meets its contract.
-use borrow.Author.Rules.{rules}
 use Rattle.successors.proofs.laws.PlaceVerdicts.{end-right, end-wrong, place-side}
 use Rattle.successors.proofs.verdicts.verdict_over.Goals as goal
 

@@ -1,5 +1,4 @@
 -- `successors::weigh` meets its contract.
-use borrow.Author.Rules.{rules}
 use Rattle.successors.proofs.laws.PlaceVerdicts.{to-reaches}
 use Rattle.successors.proofs.verdicts.weigh.Goals as goal
 

@@ -6,33 +6,15 @@ use borrow.Author.Tests.{not-true, not-false}
 use native.Mathlib.Omega.{arith}
 use Rattle.table_set.proofs.header.write_header.Goals as goal
 
-pub put_word-requires : goal.put_word-requires
-put_word-requires c = omega arith
-
-pub overflow_mul-offset : goal.overflow_mul-offset
-overflow_mul-offset c = omega arith
-
-pub overflow_add-offset : goal.overflow_add-offset
-overflow_add-offset c = omega arith
-
 pub loop-code-init : goal.loop-code-init
 loop-code-init c =
     let p = c.requires in
     headed-start _ _ _ p.0 p.1 (omega (arith, c.put_word.auto.set, p.2))
 
-pub overflow_add-code : goal.overflow_add-code
-overflow_add-code c = omega arith
-
-pub loop-code-smaller-then-not-chosen : goal.loop-code-smaller-then-not-chosen
-loop-code-smaller-then-not-chosen c = omega arith
-
 pub loop-code-preserved-then-not-chosen : goal.loop-code-preserved-then-not-chosen
 loop-code-preserved-then-not-chosen c =
     headed-pass _ _ _ _ _ _ _ c.loop-code.invariant _ c.chosen.ensures
     c.loop-code-test.true c.if-not-chosen.true
-
-pub overflow_cast-c : goal.overflow_cast-c
-overflow_cast-c c = omega arith
 
 pub put_word-requires-in-loop-code : goal.put_word-requires-in-loop-code
 put_word-requires-in-loop-code c =
@@ -100,13 +82,6 @@ overflow_add-offset-in-loop-code c =
     omega (
       arith,
       c.loop-code.invariant.small,
-      c.loop-code-test.true,
-    )
-
-pub loop-code-smaller : goal.loop-code-smaller
-loop-code-smaller c =
-    omega (
-      arith,
       c.loop-code-test.true,
     )
 

@@ -5,13 +5,13 @@ use borrow.Author.Rules.{rules}
 use Rattle.table_set.proofs.reader.part.Goals as goal
 
 pub overflow_add-end : goal.overflow_add-end
-overflow_add-end c = omega (arith, part_room _ _ _ c.find-found.ensures _ c.in-At.is)
+overflow_add-end c = omega (arith, part_room _ _ _ c.find-found.ensures _ c.in-Ok.is)
 
 pub slice_bounds-result-end : goal.slice_bounds-result-end
-slice_bounds-result-end c = omega (arith, part_room _ _ _ c.find-found.ensures _ c.in-At.is)
+slice_bounds-result-end c = omega (arith, part_room _ _ _ c.find-found.ensures _ c.in-Ok.is)
 
-pub returns-in-At : goal.returns-in-At
-returns-in-At c = part-found _ _ _ c.find-found.ensures _ c.in-At.is
+pub returns-in-Ok : goal.returns-in-Ok
+returns-in-Ok c = part-found _ _ _ c.find-found.ensures _ c.in-Ok.is
 
-pub returns-in-Refused : goal.returns-in-Refused
-returns-in-Refused c = part-refused _ _ _ c.find-found.ensures _ c.in-Refused.is
+pub returns-in-Err : goal.returns-in-Err
+returns-in-Err c = part-refused _ _ _ c.find-found.ensures _ c.in-Err.is

@@ -9,18 +9,6 @@ use borrow.Author.Tests.{not-true, not-false}
 use native.Mathlib.Omega.{arith}
 use Rattle.table_set.proofs.writer.write.Goals as goal
 
-pub overflow_mul-first : goal.overflow_mul-first
-overflow_mul-first c = omega arith
-
-pub overflow_add-first : goal.overflow_add-first
-overflow_add-first c = omega arith
-
-pub overflow_mul-n : goal.overflow_mul-n
-overflow_mul-n c = omega arith
-
-pub overflow_add-first-2 : goal.overflow_add-first-2
-overflow_add-first-2 c = omega arith
-
 pub returns-then-set-first : goal.returns-then-set-first
 returns-then-set-first c = write-unlike _ _ _ c.count-n.ensures.0 c.if-set-first.true
 
@@ -31,12 +19,6 @@ pub loop-code-init : goal.loop-code-init
 loop-code-init c =
     tabled_start _ _ _ c.count-n.ensures.0
     (c.write_header.auto.set ∙ c.if-set-first.false)
-
-pub overflow_add-code : goal.overflow_add-code
-overflow_add-code c = omega arith
-
-pub loop-code-smaller-then-not-chosen : goal.loop-code-smaller-then-not-chosen
-loop-code-smaller-then-not-chosen c = omega arith
 
 pub loop-code-preserved-then-not-chosen : goal.loop-code-preserved-then-not-chosen
 loop-code-preserved-then-not-chosen c =
@@ -76,9 +58,6 @@ overflow_add-at c =
           c.loop-code-test.true
           c.if-not-chosen.false,
     )
-
-pub loop-code-smaller : goal.loop-code-smaller
-loop-code-smaller c = omega (arith, c.loop-code-test.true)
 
 pub loop-code-preserved : goal.loop-code-preserved
 loop-code-preserved c =

@@ -11,6 +11,3 @@ use Rattle.table_set.proofs.writer.write.Given as goal
 
 abbrev pub invariant-loop-code : goal.invariant-loop-code
 invariant-loop-code l = Tabled l.choice (finish (codes_of l.choice) l.first l.initial.set) l.initial.set l.set l.at l.code
-
-abbrev pub decreases-loop-code : goal.decreases-loop-code
-decreases-loop-code l = 4 - l.code

@@ -1,6 +1,5 @@
 -- `working_back::pass_back` meets its contract.
 use native.Mathlib.Omega.{arith}
-use borrow.Author.Rules.{rules}
 use Rattle.working_back.proofs.laws.Admitted.{most, admitted-kept}
 use Rattle.rules.specs.Chess.{chess}
 use Rattle.working_back.specs.Admitted.{over}

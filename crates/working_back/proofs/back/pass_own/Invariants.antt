@@ -2,16 +2,11 @@
 -- next such number or the table's end.
 use mathlib.Core.Path.{◌≡◌}
 use Prim.Native.Nat.{◌+◌, ◌≤◌, ◌<◌, ◌-◌}
-use native.Mathlib.Omega.{arith}
 use lib.ListN.{length, get_or}
-use borrow.Author.Rules.{rules}
 use Rattle.rules.specs.Chess.{chess}
 use Rattle.working_back.specs.Admitted.{over}
 use Rattle.working_back.specs.Trying.{Alive}
 use Rattle.working_back.specs.Back.{SweepsOwn}
-use Rattle.working_back.proofs.laws.Admitted.{most, in_size, admitted-kept}
-use Rattle.working_back.proofs.laws.Few.{alive-kept}
-use Rattle.working_back.proofs.laws.Own.{own-start, own_turn, own-skip, own-end, place-legal, standing-live, alive-number, at-legal, within, not_last}
 use Rattle.working_back.proofs.back.pass_own.Given as goal
 
 abbrev pub invariant-loop-j : goal.invariant-loop-j

@@ -1,7 +1,6 @@
 -- `working_back::lose_one` meets its contract.
 use mathlib.Core.Path.{sym, ap, ap₂, ◌∙◌}
 use mathlib.Core.Bool.{Bool, ◌||◌}
-use borrow.Author.Rules.{rules}
 use Rattle.retracting.specs.Retracting.{place_before}
 use Rattle.working_back.proofs.laws.Places.{tried_other}
 use Rattle.working_back.proofs.laws.Numbers.{holds-legal}

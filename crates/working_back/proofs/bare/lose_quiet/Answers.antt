@@ -1,7 +1,6 @@
 -- `working_back::lose_quiet` meets its contract.
 use mathlib.Core.Path.{refl, subst}
 use mathlib.Core.Bool.{Bool}
-use borrow.Author.Rules.{rules}
 use Rattle.working_back.specs.Bare.{Saves, QuietLoss}
 use Rattle.working_back.proofs.bare.lose_quiet.Goals as goal
 

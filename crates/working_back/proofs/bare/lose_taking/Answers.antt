@@ -1,6 +1,5 @@
 -- `working_back::lose_taking` meets its contract.
 use mathlib.Core.Path.{sym, ◌∙◌}
-use borrow.Author.Rules.{rules}
 use Rattle.retracting.specs.Retracting.{place_before}
 use Rattle.working_back.proofs.laws.BareLost.{tried-taking}
 use Rattle.working_back.proofs.bare.lose_taking.Goals as goal

@@ -2,7 +2,6 @@
 use mathlib.Core.Path.{refl}
 use mathlib.Core.Logic.{inl, inr}
 use native.Mathlib.Omega.{arith}
-use borrow.Author.Rules.{rules}
 use Rattle.rules.specs.Chess.{chess}
 use Rattle.working_back.specs.Admitted.{over}
 use Rattle.working_back.proofs.laws.Admitted.{admitted-kept}

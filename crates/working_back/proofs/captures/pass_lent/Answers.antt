@@ -2,14 +2,11 @@
 -- next such number or the table's end.
 use mathlib.Core.Path.{◌≡◌, subst}
 use mathlib.Core.List.{List}
-use Prim.Native.Nat.{ℕ, ◌+◌, ◌≤◌, ◌<◌, ◌-◌}
+use Prim.Native.Nat.{ℕ, ◌+◌, ◌<◌}
 use native.Mathlib.Omega.{arith}
 use lib.ListN.{length, get_or}
-use borrow.Author.Rules.{rules}
 use Rattle.rules.specs.Chess.{chess}
 use Rattle.working_back.specs.Admitted.{over}
-use Rattle.working_back.specs.Trying.{Alive}
-use Rattle.working_back.specs.Back.{Sweeps}
 use Rattle.working_back.proofs.laws.Few.{alive-kept}
 use Rattle.working_back.proofs.laws.Admitted.{admitted-kept}
 use Rattle.working_back.proofs.laws.Captures.{lent-small, sweep-start, sweep-turn, sweep-skip, sweeps-at}

@@ -1,12 +1,6 @@
 -- `working_back::next_before` meets its contract. The loop's invariant: no number passed holds the byte.
-use Prim.Native.Nat.{◌-◌, ◌≤◌}
-use native.Mathlib.Omega.{arith}
 use Rattle.working_back.specs.Back.{Passes}
-use Rattle.working_back.proofs.laws.Passing.{passes_none, passes-one}
 use Rattle.working_back.proofs.finding.next_before.Given as goal
 
 abbrev pub invariant-loop-n : goal.invariant-loop-n
-invariant-loop-n l = Passes l.table l.byte l.from l.n × (l.n ≤ l.end)
-
-abbrev pub decreases-loop-n : goal.decreases-loop-n
-decreases-loop-n l = l.end - l.n
+invariant-loop-n l = Passes l.table l.byte l.from l.n

@@ -1,9 +1,7 @@
 -- `working_back::past_runs` meets its contract. The loop's invariant: no number passed holds the byte.
 use Prim.Native.Nat.{◌-◌}
-use native.Mathlib.Omega.{arith}
 use lib.ListN.{length}
 use Rattle.working_back.specs.Back.{Passes}
-use Rattle.working_back.proofs.laws.Passing.{passes_none, passes-run}
 use Rattle.working_back.proofs.finding.past_runs.Given as goal
 
 abbrev pub invariant-loop-n : goal.invariant-loop-n

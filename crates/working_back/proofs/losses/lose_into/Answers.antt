@@ -2,7 +2,6 @@
 use mathlib.Core.Path.{refl, sym, ◌∙◌}
 use Prim.Native.Nat.{◌-◌}
 use native.Mathlib.Omega.{arith}
-use borrow.Author.Rules.{rules}
 use Rattle.working_back.proofs.laws.Admitted.{admitted-kept}
 use Rattle.working_back.proofs.laws.Into.{bare-told, black-king, bare-seat, tries-at, into-all, into-king}
 use Rattle.working_back.proofs.losses.lose_into.Goals as goal

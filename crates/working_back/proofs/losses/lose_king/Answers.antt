@@ -3,7 +3,6 @@ use mathlib.Core.Path.{ap, subst, ◌∙◌}
 use mathlib.Core.Bool.{cond}
 use Prim.Native.Nat.{ℕ}
 use lib.Dec.{eqb}
-use borrow.Author.Rules.{rules}
 use Rattle.retracting.specs.Retracting.{Seat}
 use Rattle.working_back.proofs.laws.Into.{king-seat, tries-at}
 use Rattle.working_back.proofs.losses.lose_king.Goals as goal

@@ -1,7 +1,8 @@
 -- `working_back::lose_man` meets its contract.
 use mathlib.Core.Path.{ap, ◌∙◌}
 use Prim.Native.Nat.{ℕ}
-use borrow.Author.Rules.{rules}
+use Rattle.board.specs.Sets.{members}
+use Rattle.board.proofs.laws.SetLaws.{members-none}
 use Rattle.successors.specs.Framing.{frame_for}
 use Rattle.working_back.proofs.laws.Sources.{taken_start, taken-end}
 use Rattle.working_back.proofs.laws.Into.{man-seat, man-none, man-moved, tries-at}
@@ -21,7 +22,7 @@ returns-then-squares-eq0 c =
     let s = man-seat x.m x.q x.taken p.3 x.latter _ _ _ c.again-kind.ensures c.again-owner.ensures c.again-to.ensures in
     let r = c.sources-squares.result in
     tries-at x.m x.q x.taken p.3 x.first.now x.second.now x.k _ p.2 _ _ _ _ c.again-to.ensures
-    (taken-end x.m x.first.now x.second.now x.k x.q x.taken _ _ p.2 r _ r 0 c.if-squares-eq0.true
+    (taken-end x.m x.first.now x.second.now x.k x.q x.taken _ _ p.2 r _ r 0 (ap members c.if-squares-eq0.true ∙ members-none)
     (taken_start x.m x.first.now x.second.now x.k x.q x.taken _ _ p.2 r) (c.sources-squares.ensures p.3 s.0).all)
 
 pub line_of-line-requires : goal.line_of-line-requires

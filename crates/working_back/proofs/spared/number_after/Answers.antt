@@ -1,6 +1,5 @@
 -- `working_back::number_after` meets its contract.
 use mathlib.Core.Path.{ap, subst⁻¹, ◌∙◌}
-use borrow.Author.Rules.{rules}
 use Rattle.numbering.specs.Number.{number_of}
 use Rattle.position.specs.Posed.{board_in}
 use Rattle.position.specs.declared.Place.{Place}

@@ -1,6 +1,4 @@
 -- `working_back::confirm` meets its contract.
-use borrow.Author.Rules.{rules}
-use borrow.Author.Tests.{not-true, not-false}
 use mathlib.Core.Path.{◌∙◌}
 use Rattle.retracting.specs.Retracting.{place_before}
 use Rattle.working_back.proofs.laws.Places.{tried-lost, tried-kept, told-required}

@@ -1,16 +1,16 @@
 -- `working_back::lose_each` meets its contract. The loop's invariant: the squares that are no longer in the rest have been tried.
 use mathlib.Core.Bool.{true}
-use mathlib.Core.Path.{subst⁻¹}
-use Prim.Native.Nat.{ℕ, ◌^◌, ◌<◌}
+use mathlib.Core.Path.{ap, subst⁻¹, ◌∙◌}
+use Prim.Native.Nat.{ℕ, ◌<◌}
 use native.Mathlib.Omega.{arith}
 use lib.Dec.{T, eqb}
-use lib.ListN.{length}
 use Rattle.finite.specs.Truth.{or_right}
 use Rattle.board.specs.Sets.{has, members}
 use Rattle.board.proofs.laws.LowestLaws.{lowest-of}
+use Rattle.board.proofs.laws.SetLaws.{members-none}
 use Rattle.retracting.proofs.laws.Stepping.{leads_goes}
 use Rattle.working_back.proofs.laws.Admitted.{admitted-kept}
-use Rattle.working_back.proofs.laws.Sources.{Taken, taken_start, taken-turn, taken-spared, taken-end, fewer-left, lowest-in}
+use Rattle.working_back.proofs.laws.Sources.{taken_start, taken-turn, taken-spared, taken-end, fewer-left, lowest-in}
 use Rattle.working_back.proofs.laws.Saved.{rest_in}
 use Rattle.working_back.proofs.trying.lose_each.Goals as goal
 
@@ -67,4 +67,4 @@ returns c =
     let x = c.args in
     let l = c.loop-rest in
     taken-end x.m x.first.now x.second.now x.k x.q x.taken x.to _ c.requires.2 _ _ l.rest l.settled
-    c.loop-rest-test.false l.invariant.2 c.requires.3.all
+    (ap members c.loop-rest-test.false ∙ members-none) l.invariant.2 c.requires.3.all

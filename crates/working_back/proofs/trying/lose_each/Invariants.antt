@@ -1,17 +1,9 @@
 -- `working_back::lose_each` meets its contract. The loop's invariant: the squares that are no longer in the rest have been tried.
-use mathlib.Core.Bool.{true}
-use mathlib.Core.Path.{subst⁻¹}
 use Prim.Native.Nat.{ℕ, ◌^◌, ◌<◌}
-use native.Mathlib.Omega.{arith}
-use lib.Dec.{T, eqb}
+use lib.Dec.{T}
 use lib.ListN.{length}
-use Rattle.finite.specs.Truth.{or_right}
 use Rattle.board.specs.Sets.{has, members}
-use Rattle.board.proofs.laws.LowestLaws.{lowest-of}
-use Rattle.retracting.proofs.laws.Stepping.{leads_goes}
-use Rattle.working_back.proofs.laws.Admitted.{admitted-kept}
-use Rattle.working_back.proofs.laws.Sources.{Taken, taken_start, taken-turn, taken-spared, taken-end, fewer-left, lowest-in}
-use Rattle.working_back.proofs.laws.Saved.{rest_in}
+use Rattle.working_back.proofs.laws.Sources.{Taken}
 use Rattle.working_back.proofs.trying.lose_each.Given as goal
 
 abbrev pub invariant-loop-rest : goal.invariant-loop-rest

@@ -1,5 +1,4 @@
 -- `working_back::lose_number` meets its contract.
-use borrow.Author.Rules.{rules}
 use Rattle.retracting.specs.Retracting.{place_before}
 use Rattle.working_back.proofs.laws.Places.{tried-out, tried_other}
 use Rattle.working_back.proofs.laws.Sparing.{found-spares, unsettled-none}

@@ -1,7 +1,6 @@
 -- `working_back::number_before` meets its contract.
 use mathlib.Core.Path.{◌∙◌}
 use mathlib.Core.List.{[]}
-use borrow.Author.Rules.{rules}
 use Rattle.working_back.proofs.laws.Sources.{number-of-source}
 use Rattle.working_back.proofs.trying.number_before.Goals as goal
 

@@ -1,83 +1,39 @@
--- `working_back::win_king` meets its contract. The loop's invariant: the squares that are no longer in the rest have been tried.
-use mathlib.Core.Path.{ap, subst, subst⁻¹, sym, ◌∙◌}
+-- `working_back::win_king` meets its contract: his number is told by the others, who stand still.
+use mathlib.Core.Path.{◌≡◌, ap, sym, ◌∙◌}
 use mathlib.Core.Bool.{cond}
-use Prim.Native.Nat.{ℕ, ◌^◌, ◌<◌}
-use native.Mathlib.Omega.{arith}
+use Prim.Native.Nat.{ℕ}
 use lib.Dec.{T, eqb}
-use lib.ListN.{length}
-use Rattle.finite.specs.Truth.{or_right}
-use Rattle.board.specs.Sets.{has, members}
-use Rattle.board.proofs.laws.LowestLaws.{lowest-beyond}
-use Rattle.index.specs.Moving.{king_on}
+use borrow.Author.Rules.{rules}
+use Rattle.numbering.specs.Kings.{separate}
+use Rattle.numbering.specs.Number.{number_of}
+use Rattle.position.specs.declared.Place.{Place}
+use Rattle.position.specs.Posed.{board_in}
+use Rattle.index.specs.Seats.{Seated}
+use Rattle.index.specs.Moving.{king_on, Stands}
 use Rattle.retracting.specs.Retracting.{place_before}
 use Rattle.retracting.proofs.laws.Sources.{free_of}
-use Rattle.working_back.proofs.laws.Admitted.{admitted-kept}
 use Rattle.working_back.proofs.laws.Numbers.{number-as}
 use Rattle.working_back.proofs.laws.KingBack.{king-back}
-use Rattle.working_back.proofs.laws.Sources.{Taken, taken_start, taken-turn, taken-end, lowest-in}
 use Rattle.working_back.proofs.winning.win_king.Goals as goal
 
-pub loop-rest-init : goal.loop-rest-init
-loop-rest-init c =
-    let x = c.args in (
-      c.ranges.squares.fits,
-      (λ i h t. t),
-      taken_start x.m x.first.now x.second.now x.k x.q x.taken x.to _ c.requires.2 _,
-    )
-
-pub still_number-n-requires : goal.still_number-n-requires
-still_number-n-requires c =
-    let l = c.loop-rest in
-    let e = c.still_king-others.ensures in
-    ((lowest-in l.rest c.lowest-s.result l.invariant.0 c.loop-rest-test.true c.lowest-s.ensures).0, e.base-fits, e.unit-fits)
-
-pub win_number-settled-requires : goal.win_number-settled-requires
-win_number-settled-requires c =
+pub win_from-requires : goal.win_from-requires
+win_from-requires c =
     let p = c.requires in
     let a = c.args in
-    let l = c.loop-rest in
-    let s = c.lowest-s.result in
+    let e = c.still_king-others.ensures in
     let mover = c.other-mover.result in
     let x = c.again-x.result in
     let y = c.again-y.result in
-    let z = lowest-in l.rest s l.invariant.0 c.loop-rest-test.true c.lowest-s.ensures in
-    let v = p.3.sound s z.0 (l.invariant.1 s z.0 z.1) in
-    let king = p.5 ∙ ap (λ (c : ℕ). cond (eqb c 0) a.q.white a.q.black) (sym c.other-mover.ensures) in
-    let place = king-back a.m a.q a.taken a.to s p.4 (free_of a.m a.q s v.square v.free) x y c.again-x.ensures c.again-y.ensures mover c.other-mover.ensures king in (
+    let king = p.5 ∙ ap (λ (c : ℕ). cond (eqb c 0) a.q.white a.q.black) (sym c.other-mover.ensures) in (
       p.0,
       p.1,
-      admitted-kept _ _ _ _ p.2 _ l.invariant.2.0.long,
-      v,
-      number-as a.m (place_before a.q a.taken s a.to) v.complete (king_on (eqb mover 0) a.q.white a.q.black x y mover s) place c.still_number-n.result
-          (c.still_number-n.ensures a.m (king_on (eqb mover 0) a.q.white a.q.black x y) c.still_king-others.ensures),
+      p.2,
+      p.3,
+      λ s w κs r f i u v b. (w.square, e.base-fits, e.unit-fits),
+      λ s n w f.
+          let place = king-back a.m a.q a.taken a.to s p.4 (free_of a.m a.q s w.square w.free) x y c.again-x.ensures c.again-y.ensures mover c.other-mover.ensures king in
+          let told : (at : ℕ → ℕ → Place) → Stands a.m c.still_king-others.result at → Seated a.m (at mover s) → T (separate (at mover s).white (at mover s).black)
+          → n ≡ number_of (board_in a.m (at mover s)) = search rules in
+          number-as a.m (place_before a.q a.taken s a.to) w.complete (king_on (eqb mover 0) a.q.white a.q.black x y mover s) place n
+          (told (king_on (eqb mover 0) a.q.white a.q.black x y) e),
     )
-
-pub overflow_add-settled : goal.overflow_add-settled
-overflow_add-settled c = omega (arith, c.loop-rest.invariant.2.0.few, c.win_number-settled.ensures.0.few)
-
-pub loop-rest-smaller : goal.loop-rest-smaller
-loop-rest-smaller c =
-    let l = c.loop-rest in
-    (lowest-beyond l.rest _ _ l.invariant.0 c.loop-rest-test.true c.lowest-s.ensures c.beyond_lowest-rest.ensures).fewer
-
-pub loop-rest-preserved : goal.loop-rest-preserved
-loop-rest-preserved c =
-    let x = c.args in
-    let l = c.loop-rest in
-    let w = lowest-beyond l.rest c.lowest-s.result c.beyond_lowest-rest.result l.invariant.0 c.loop-rest-test.true c.lowest-s.ensures
-    c.beyond_lowest-rest.ensures in (
-      c.beyond_lowest-rest.type_inv,
-      (λ j h u. l.invariant.1 j h (subst⁻¹ T (w.others j h) (or_right (eqb j c.lowest-s.result) (has c.beyond_lowest-rest.result j) u))),
-      taken-turn x.m x.first.now x.second.now x.k x.q x.taken x.to _ c.requires.2 _ _ _ l.rest
-          c.beyond_lowest-rest.result c.lowest-s.result l.settled _ l.invariant.2 w c.win_number-settled.ensures,
-    )
-
-pub shape_of-table : goal.shape_of-table
-shape_of-table c = c.loop-rest.invariant.2.0.long
-
-pub returns : goal.returns
-returns c =
-    let x = c.args in
-    let l = c.loop-rest in
-    taken-end x.m x.first.now x.second.now x.k x.q x.taken x.to _ c.requires.2 _ _ l.rest l.settled
-    c.loop-rest-test.false l.invariant.2 c.requires.3.all

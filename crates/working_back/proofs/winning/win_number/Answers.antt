@@ -1,5 +1,4 @@
 -- `working_back::win_number` meets its contract.
-use borrow.Author.Rules.{rules}
 use Rattle.retracting.specs.Retracting.{place_before}
 use Rattle.working_back.proofs.laws.Numbers.{number-inside}
 use Rattle.working_back.proofs.laws.Places.{tried_other, tried-odd}

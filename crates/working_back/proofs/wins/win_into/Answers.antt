@@ -4,7 +4,6 @@ use mathlib.Core.Bool.{cond}
 use Prim.Native.Nat.{ℕ}
 use native.Mathlib.Omega.{arith}
 use lib.Dec.{eqb}
-use borrow.Author.Rules.{rules}
 use Rattle.successors.specs.Framing.{frame_for}
 use Rattle.retracting.specs.Retracting.{Seat}
 use Rattle.working_back.proofs.laws.Admitted.{admitted-kept}

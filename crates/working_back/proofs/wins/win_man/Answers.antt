@@ -1,5 +1,4 @@
 -- `working_back::win_man` meets its contract.
-use borrow.Author.Rules.{rules}
 use Rattle.working_back.proofs.laws.Into.{man-seat, man-none, man-moved, tries-at}
 use Rattle.working_back.proofs.wins.win_man.Goals as goal
 
