@@ -1,9 +1,9 @@
 #!/usr/bin/env python3
 """Lays the statements of two checkouts beside each other, wherever they stand in specs/ or proofs/.
 
-usage: tools/compare_laws.py OLD NEW       each a folder that has crates/
+usage: tools/compare_laws.py [--proofs] OLD NEW       each a folder that has crates/
 
-Prints each statement or definition head of OLD's specs/ that NEW has nowhere in the same crate, word for word but for white
+Prints each statement or definition head of OLD's specs/ (with --proofs, of its proofs/ too) that NEW has nowhere in the same crate, word for word but for white
 space, and then how many there are. Answers and invariants of functions are left out.
 """
 import os
@@ -30,11 +30,11 @@ def heads(root, crate, parts):
     return found
 
 
-def main(old, new):
+def main(old, new, parts=("specs",)):
     count = lost = 0
     for crate in sorted(os.listdir(os.path.join(old, "crates"))):
         there = heads(new, crate, ("specs", "proofs"))
-        for it in sorted(heads(old, crate, ("specs",))):
+        for it in sorted(heads(old, crate, parts)):
             count += 1
             if it not in there:
                 lost += 1
@@ -43,4 +43,5 @@ def main(old, new):
 
 
 if __name__ == "__main__":
-    main(*sys.argv[1:3])
+    args = [a for a in sys.argv[1:] if a != "--proofs"]
+    main(*args[:2], parts=("specs", "proofs") if "--proofs" in sys.argv else ("specs",))

@@ -5,7 +5,9 @@ ghost use Rattle.std.specs.Prelude.{◌≡◌};
 ghost use Rattle.position.specs.Keyed.{man_kind};
 ghost use Rattle.adjudication.specs.Reply.{Gives, look_up_reply, filled_reply};
 ghost use Rattle.adjudication.specs.TrueSlip.{LinePromise};
+ghost use Rattle.desk_refusals.specs.Numbers.{by_number};
 
+use desk_refusals::Refusal;
 use filling::fill_one_back;
 use index::position_of;
 use lines::{Request, parse};
@@ -24,17 +26,17 @@ pub struct Reply {
 }
 
 // A position looked up in a table that filling just left.
-fn after_fill(p: Position, kind: u8, filled: Result<Option<u8>, u8>, table: &[u8]) -> Reply
+fn after_fill(p: Position, kind: u8, filled: Result<Option<u8>, Refusal>, table: &[u8]) -> Reply
     requires { kind ≡ man_kind p }
-    ensures { Gives result (filled_reply p filled table.now) }
+    ensures { Gives result (filled_reply p (by_number filled) table.now) }
 {
     match filled {
         Ok(_) => Reply {
             slip: answer_slip(look_up(table, p)),
             held: kind,
         },
-        Err(n) => Reply {
-            slip: answer_slip(Err(n)),
+        Err(r) => Reply {
+            slip: answer_slip(Err(r)),
             held: NONE,
         },
     }
@@ -53,15 +55,16 @@ fn look_up_line(p: Position, held: u8, table: &mut [u8]) -> Reply
             held,
         };
     }
-    let refusal = standing_refusal(p);
-    if refusal != 0 {
-        return Reply {
-            slip: answer_slip(Err(refusal)),
+    match standing_refusal(p) {
+        Err(r) => Reply {
+            slip: answer_slip(Err(r)),
             held,
-        };
+        },
+        Ok(()) => {
+            let filled = fill_one_back(kind, &mut *table);
+            after_fill(p, kind, filled, &*table)
+        },
     }
-    let filled = fill_one_back(kind, &mut *table);
-    after_fill(p, kind, filled, &*table)
 }
 
 // The slip of a line of any bytes and any length; the newline is not part of it. `held` is the man whose table the lent table is.
@@ -75,8 +78,8 @@ pub fn answer_line(line: &[u8], held: u8, table: &mut [u8]) -> Reply
             slip: placed_slip(position_of(man, n)),
             held,
         },
-        Err(n) => Reply {
-            slip: answer_slip(Err(n)),
+        Err(r) => Reply {
+            slip: answer_slip(Err(r)),
             held,
         },
     }

@@ -7,19 +7,21 @@ ghost use Rattle.four_men.specs.Lending.{lent, part_of};
 ghost use Rattle.four_men.specs.Answers.{accepts, parts_accepted, lent_accepted};
 ghost use Rattle.four_men.specs.CheckedTrue.{CheckPromiseWith};
 ghost use Rattle.checking.specs.Right.{Ended, found};
+ghost use Rattle.desk_refusals.specs.Numbers.{by_number};
 
 use super::numbers::is_right;
 use answers::Checked;
 use deciding::row_at;
-use four_men::{NOT_ACCEPTED, lengths_fit};
+use desk_refusals::Refusal;
+use four_men::lengths_fit;
 use index::{TABLE_SIZE, is_given, men_of, place_at};
 use numbering::Material;
-use position::{BAD_MAN, Men, TABLE_LENGTH};
+use position::Men;
 
 // Accepted, or the lowest wrong number.
-fn lowest_wrong(m: Men, table: &[u8], first: &[u8], second: &[u8]) -> Result<Checked, u8>
+fn lowest_wrong(m: Men, table: &[u8], first: &[u8], second: &[u8]) -> Result<Checked, Refusal>
     requires { Ended m (length table.now) }
-    ensures { result ≡ found (material_for m) (lent first.now second.now) table.now }
+    ensures { by_number result ≡ found (material_for m) (lent first.now second.now) table.now }
 {
     let mut row = place_at(m, 0);
     for n in 0..table.len() {
@@ -32,21 +34,21 @@ fn lowest_wrong(m: Men, table: &[u8], first: &[u8], second: &[u8]) -> Result<Che
 }
 
 // The table of one man's ending, which borrows none: accepted, the lowest wrong number, or a refusal, 1 or 7.
-pub fn check(kind: u8, table: &[u8]) -> Result<Checked, u8>
-    ensures { CheckPromise kind table.now result }
+pub fn check(kind: u8, table: &[u8]) -> Result<Checked, Refusal>
+    ensures { CheckPromise kind table.now (by_number result) }
 {
     let m = Material::One(kind);
     if !is_given(m) {
-        return Err(BAD_MAN);
+        return Err(Refusal::BadMan);
     }
     if !lengths_fit(m, table, table, table) {
-        return Err(TABLE_LENGTH);
+        return Err(Refusal::TableLength);
     }
     lowest_wrong(men_of(m), table, table, table)
 }
 
-fn is_accepted(c: Result<Checked, u8>) -> bool
-    ensures { result ≡ accepts c }
+fn is_accepted(c: Result<Checked, Refusal>) -> bool
+    ensures { result ≡ accepts (by_number c) }
 {
     match c {
         Ok(Checked::Accepted) => true,
@@ -88,17 +90,22 @@ pub fn lent_accepted(m: Material, first: &[u8], second: &[u8]) -> bool
 
 // The table of an ending with one man or two over the lent ones: accepted, the lowest wrong number, or a refusal, 1, 7
 // or 17.
-pub fn check_with(m: Material, table: &[u8], first: &[u8], second: &[u8]) -> Result<Checked, u8>
-    ensures { CheckPromiseWith m (lent first.now second.now) table.now result }
+pub fn check_with(
+    m: Material,
+    table: &[u8],
+    first: &[u8],
+    second: &[u8],
+) -> Result<Checked, Refusal>
+    ensures { CheckPromiseWith m (lent first.now second.now) table.now (by_number result) }
 {
     if !is_given(m) {
-        return Err(BAD_MAN);
+        return Err(Refusal::BadMan);
     }
     if !lengths_fit(m, table, first, second) {
-        return Err(TABLE_LENGTH);
+        return Err(Refusal::TableLength);
     }
     if !lent_accepted(m, first, second) {
-        return Err(NOT_ACCEPTED);
+        return Err(Refusal::NotAccepted);
     }
     lowest_wrong(men_of(m), table, first, second)
 }

@@ -15,11 +15,10 @@ use Rattle.endings.specs.Truth.{TrueAnswer}
 use Rattle.four_men.specs.Truth.{TrueAnswerIn}
 use Rattle.position.specs.Keyed.{keyed}
 use Rattle.endings.specs.GamePromise.{move_of_answer, GamePromise}
-use Rattle.fifty.specs.declared.Marked.{Marked}
 use Rattle.numbering.specs.declared.Material.{Material}
 use Rattle.four_men.specs.Lending.{Lent}
 use Rattle.four_men.specs.GamePromise.{table_then, GamePromiseWith}
-use Rattle.fifty.specs.Marks.{look_up_at, look_up_at_with}
+use Rattle.fifty.specs.Marks.{Marked, look_up_at, look_up_at_with}
 
 -- without pawns, the moves that set the count to 0 are those that take, as a legal move itself says (02, P6)
 abbrev pub zeroing : Board → Move → Bool

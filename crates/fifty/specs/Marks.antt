@@ -9,7 +9,8 @@ use Rattle.answers.specs.declared.Answer.{Answer}
 use Rattle.endings.specs.Answers.{look_up_of}
 use Rattle.four_men.specs.Lending.{Lent}
 use Rattle.four_men.specs.Answers.{look_up_with}
-use Rattle.fifty.specs.declared.Marked.{Marked}
+use Rattle.desk_refusals.specs.Numbers.{by_number}
+use Rattle.fifty.specs.declared.Marked as declared
 
 -- "Mark a win or a loss as 'within fifty' when that count plus the depth is at most 100"; "never on a draw"
 abbrev pub marks : ℕ → Result Answer ℕ → Bool
@@ -35,6 +36,14 @@ pawnless p = all (λ a. not (pawn a)) (board_of p).men
 abbrev pub slot_free : Option Piece → Bool
 slot_free None = true
 slot_free (Some m) = not (pawn m)
+
+-- look-up's answer at a count, its refusal by number, and whether it is marked
+pub record Marked : Type 0 where
+  pub answer : Result Answer ℕ
+  pub within_fifty : Bool
+
+abbrev pub marked_as : declared.Marked → Marked
+marked_as m = record { answer = by_number m.answer; within_fifty = m.within_fifty }
 
 -- an answer and its mark, by whether there is no pawn
 abbrev pub marked_for : Bool → ℕ → Result Answer ℕ → Marked

@@ -1,13 +1,30 @@
 -- What a start and a step answer (02, P8), on any bytes and any progress. Definitions only.
-use Rattle.std.specs.Prelude.{◌≡◌, Bool, false, cond, not, List, ℕ, zero, suc, leb, eqb, length, Err}
+use Rattle.std.specs.Prelude.{◌≡◌, Bool, false, cond, not, List, ℕ, zero, suc, leb, eqb, length, Err, Option, Result}
 use Rattle.table_theory.specs.declared.Progress.{Progress}
 use Rattle.table_theory.specs.Steps as over
 use Rattle.table_theory.specs.Steps.{going_on, Said, settled, ends, started, step_at, step_from}
 use Rattle.rules.specs.Chess.{chess}
 use Rattle.endings.specs.Ending.{table_size, ending}
 use Rattle.endings.specs.Answers.{result_of}
-use Rattle.filling.specs.declared.steps.Stepped.{Stepped}
-use Rattle.filling.specs.declared.steps.Step.{Step}
+use Rattle.desk_refusals.specs.Numbers.{by_number}
+use Rattle.filling.specs.declared.steps as declared
+
+-- what a call says, a refusal by its number
+pub data Stepped : Type 0 where
+  Settled : ℕ → Stepped
+  Says : Result (Option ℕ) ℕ → Stepped
+
+-- what a call hands back
+pub record Step : Type 0 where
+  pub said : Stepped
+  pub progress : Progress
+
+abbrev pub said_as : declared.Stepped.Stepped → Stepped
+said_as (declared.Stepped.TheVariants.Settled n) = Stepped.Settled n
+said_as (declared.Stepped.TheVariants.Says f) = Stepped.Says (by_number f)
+
+abbrev pub step_as : declared.Step.Step → Step
+step_as r = record { said = said_as r.said; progress = r.progress }
 
 -- what a call hands back, and the table's bytes after it
 pub record Taken : Type 0 where

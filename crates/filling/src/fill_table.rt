@@ -9,16 +9,18 @@ ghost use Rattle.four_men.specs.Lending.{lent, borrowed};
 ghost use Rattle.four_men.specs.Reading.{holds_depth};
 ghost use Rattle.working_back.specs.Admitted.{over, Admitted};
 ghost use Rattle.filling.specs.FillPromise.{Fills, FillPromiseWith, FillBackPromise};
+ghost use Rattle.desk_refusals.specs.Numbers.{by_number};
 
 use super::bytes::start;
 use super::deepest::deepest_lent;
 use super::steps::{Stepped, step_at};
 use super::ways::Way;
 use checking::lent_accepted;
-use four_men::{NOT_ACCEPTED, lengths_fit};
+use desk_refusals::Refusal;
+use four_men::lengths_fit;
 use index::{is_given, is_known, men_of};
 use numbering::Material;
-use position::{BAD_MAN, Men, TABLE_LENGTH};
+use position::Men;
 
 fn fill_men(
     way: Way,
@@ -26,9 +28,9 @@ fn fill_men(
     first: &[u8],
     second: &[u8],
     table: &mut [u8],
-) -> Result<Option<u8>, u8>
+) -> Result<Option<u8>, Refusal>
     requires { Admitted m first.now second.now table.old × (way ≡ Way.Back → T (known (material_for m))) }
-    ensures { Fills (filled_until chess (over m first.now second.now) (holds_depth (borrowed (material_for m) (lent first.now second.now))) table.old) result table.new }
+    ensures { Fills (filled_until chess (over m first.now second.now) (holds_depth (borrowed (material_for m) (lent first.now second.now))) table.old) (by_number result) table.new }
 {
     let deepest = deepest_lent(m, first, second);
     start(m, &mut *table);
@@ -56,18 +58,18 @@ fn fill_by(
     first: &[u8],
     second: &[u8],
     table: &mut [u8],
-) -> Result<Option<u8>, u8>
+) -> Result<Option<u8>, Refusal>
     requires { way ≡ Way.Back → T (known m) }
-    ensures { FillPromiseWith m (lent first.now second.now) table.old result table.new }
+    ensures { FillPromiseWith m (lent first.now second.now) table.old (by_number result) table.new }
 {
     if !is_given(m) {
-        return Err(BAD_MAN);
+        return Err(Refusal::BadMan);
     }
     if !lengths_fit(m, &*table, first, second) {
-        return Err(TABLE_LENGTH);
+        return Err(Refusal::TableLength);
     }
     if !lent_accepted(m, first, second) {
-        return Err(NOT_ACCEPTED);
+        return Err(Refusal::NotAccepted);
     }
     fill_men(way, men_of(m), first, second, &mut *table)
 }
@@ -79,8 +81,8 @@ pub fn fill_with(
     first: &[u8],
     second: &[u8],
     table: &mut [u8],
-) -> Result<Option<u8>, u8>
-    ensures { FillPromiseWith m (lent first.now second.now) table.old result table.new }
+) -> Result<Option<u8>, Refusal>
+    ensures { FillPromiseWith m (lent first.now second.now) table.old (by_number result) table.new }
 {
     fill_by(Way::Passes, m, first, second, &mut *table)
 }
@@ -92,11 +94,11 @@ pub fn fill_back(
     first: &[u8],
     second: &[u8],
     table: &mut [u8],
-) -> Result<Option<u8>, u8>
-    ensures { FillBackPromise m (lent first.now second.now) table.old result table.new }
+) -> Result<Option<u8>, Refusal>
+    ensures { FillBackPromise m (lent first.now second.now) table.old (by_number result) table.new }
 {
     if !is_known(m) {
-        return Err(BAD_MAN);
+        return Err(Refusal::BadMan);
     }
     fill_by(Way::Back, m, first, second, &mut *table)
 }
@@ -107,23 +109,23 @@ pub fn fill_every(
     first: &[u8],
     second: &[u8],
     table: &mut [u8],
-) -> Result<Option<u8>, u8>
-    ensures { FillPromiseWith m (lent first.now second.now) table.old result table.new }
+) -> Result<Option<u8>, Refusal>
+    ensures { FillPromiseWith m (lent first.now second.now) table.old (by_number result) table.new }
 {
     fill_by(Way::Every, m, first, second, &mut *table)
 }
 
 // With one man, who borrows nothing. Refusals 1 and 7 leave the table as it was, 10 all zero.
-pub fn fill(kind: u8, table: &mut [u8]) -> Result<Option<u8>, u8>
-    ensures { FillPromise kind table.old result table.new }
+pub fn fill(kind: u8, table: &mut [u8]) -> Result<Option<u8>, Refusal>
+    ensures { FillPromise kind table.old (by_number result) table.new }
 {
     let none: [u8; 0] = [];
     fill_with(Material::One(kind), &none, &none, &mut *table)
 }
 
 // The same, quicker: back from the positions just settled.
-pub fn fill_one_back(kind: u8, table: &mut [u8]) -> Result<Option<u8>, u8>
-    ensures { FillPromise kind table.old result table.new }
+pub fn fill_one_back(kind: u8, table: &mut [u8]) -> Result<Option<u8>, Refusal>
+    ensures { FillPromise kind table.old (by_number result) table.new }
 {
     let none: [u8; 0] = [];
     fill_back(Material::One(kind), &none, &none, &mut *table)

@@ -4,13 +4,15 @@ ghost use Rattle.table_theory.specs.Tables.{ended as ended_of};
 ghost use Rattle.endings.specs.Answers.{result_of};
 ghost use Rattle.working_back.specs.Admitted.{over, Admitted};
 ghost use Rattle.working_back.specs.Back.{Backwards};
-ghost use Rattle.filling.specs.Steps.{Hands};
+ghost use Rattle.filling.specs.Steps.{Hands, step_as};
 ghost use Rattle.filling.specs.Stepping.{last_of, step_over};
+ghost use Rattle.desk_refusals.specs.Numbers.{by_number};
 
 use super::bytes::clear;
 use super::pass::some_settles;
 use super::ways::{Way, pass_in};
-use position::{Men, TOO_DEEP};
+use desk_refusals::Refusal;
+use position::Men;
 use table_theory::Progress;
 
 // The first depth that no byte holds.
@@ -27,7 +29,7 @@ pub const GAVE_TEN: u8 = 2;
 #[derive(Clone, Copy)]
 pub enum Stepped {
     Settled(u32),
-    Says(Result<Option<u8>, u8>),
+    Says(Result<Option<u8>, Refusal>),
 }
 
 // What a call hands back.
@@ -38,8 +40,8 @@ pub struct Step {
 }
 
 // How filling ends where the last depth settled is `last` - 1.
-pub fn ended(last: u8) -> Result<Option<u8>, u8>
-    ensures { result ≡ result_of (ended_of last) }
+pub fn ended(last: u8) -> Result<Option<u8>, Refusal>
+    ensures { by_number result ≡ result_of (ended_of last) }
 {
     if last == 0 {
         return Ok(None);
@@ -84,7 +86,7 @@ fn step_below(
     table: &mut [u8],
 ) -> Step
     requires { (k < 254) × Admitted m first.now second.now table.old × (way ≡ Way.Back → Backwards m first.now second.now k table.old) }
-    ensures { Hands (step_over (over m first.now second.now) deepest k last table.old) result table.new }
+    ensures { Hands (step_over (over m first.now second.now) deepest k last table.old) (step_as result) table.new }
 {
     let before = last_before(k, last, deepest);
     let settled = pass_in(way, m, k, first, second, &mut *table);
@@ -113,14 +115,14 @@ fn step_below(
 // The step for depth 254, which no byte holds: nothing lent is as deep.
 fn last_step(m: Men, last: u8, deepest: u8, first: &[u8], second: &[u8], table: &mut [u8]) -> Step
     requires { (deepest < 256) × Admitted m first.now second.now table.old }
-    ensures { Hands (step_over (over m first.now second.now) deepest 254 last table.old) result table.new }
+    ensures { Hands (step_over (over m first.now second.now) deepest 254 last table.old) (step_as result) table.new }
 {
     let before = last_before(DEPTHS, last, deepest);
     if some_settles(m, DEPTHS, first, second, &*table) {
         clear(&mut *table);
         let over = progress_at(GAVE_TEN, DEPTHS, before);
         return Step {
-            said: Stepped::Says(Err(TOO_DEEP)),
+            said: Stepped::Says(Err(Refusal::TooDeep)),
             progress: over,
         };
     }
@@ -144,7 +146,7 @@ pub fn step_at(
     table: &mut [u8],
 ) -> Step
     requires { (k ≤ 254) × (deepest < 256) × Admitted m first.now second.now table.old × (way ≡ Way.Back → Backwards m first.now second.now k table.old) }
-    ensures { Hands (step_over (over m first.now second.now) deepest k last table.old) result table.new }
+    ensures { Hands (step_over (over m first.now second.now) deepest k last table.old) (step_as result) table.new }
 {
     if k < DEPTHS {
         return step_below(way, m, k, last, deepest, first, second, &mut *table);

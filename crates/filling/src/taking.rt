@@ -7,39 +7,41 @@ ghost use Rattle.four_men.specs.Lending.{lent, borrowed};
 ghost use Rattle.four_men.specs.Reading.{holds_depth};
 ghost use Rattle.four_men.specs.Steps.{start_with, step_with};
 ghost use Rattle.working_back.specs.Admitted.{over, Admitted};
-ghost use Rattle.filling.specs.Steps.{Hands, taken_of, refusing, start_of, step_of};
+ghost use Rattle.filling.specs.Steps.{Hands, step_as, taken_of, refusing, start_of, step_of};
 ghost use Rattle.filling.specs.Handed.{handed};
+ghost use Rattle.desk_refusals.specs.Numbers.{number_of};
 
 use super::bytes::start;
 use super::deepest::deepest_lent;
 use super::steps::{DEPTHS, DONE, GOING, Step, Stepped, ended, progress_at, step_at};
 use super::ways::Way;
+use desk_refusals::Refusal;
 use four_men::lengths_fit;
 use index::{is_given, men_of, size_of};
 use numbering::Material;
-use position::{BAD_MAN, Men, TABLE_LENGTH, TOO_DEEP};
+use position::Men;
 use table_theory::Progress;
 
 // A refusal, the progress as it was.
-fn refuse(k: u8, progress: Progress) -> Step
-    ensures { result ≡ refusing k progress }
+fn refuse(r: Refusal, progress: Progress) -> Step
+    ensures { step_as result ≡ refusing (number_of r) progress }
 {
     Step {
-        said: Stepped::Says(Err(k)),
+        said: Stepped::Says(Err(r)),
         progress,
     }
 }
 
 // Sets every legal number to 1 and the rest to 0. Refusals 1 and 7 leave the table as it was.
 pub fn start_with(m: Material, table: &mut [u8]) -> Step
-    ensures { Hands (handed table.old (going_on 0 0) (start_with m table.old)) result table.new }
+    ensures { Hands (handed table.old (going_on 0 0) (start_with m table.old)) (step_as result) table.new }
 {
     let progress = progress_at(GOING, 0, 0);
     if !is_given(m) {
-        return refuse(BAD_MAN, progress);
+        return refuse(Refusal::BadMan, progress);
     }
     if table.len() != size_of(m) as usize {
-        return refuse(TABLE_LENGTH, progress);
+        return refuse(Refusal::TableLength, progress);
     }
     start(men_of(m), &mut *table);
     Step {
@@ -58,7 +60,7 @@ fn next_depth(next: u16) -> u8
 // Once a step has said done, or has given 10 and cleared the table, later ones repeat it and write nothing.
 fn step_from(m: Men, progress: Progress, first: &[u8], second: &[u8], table: &mut [u8]) -> Step
     requires { Admitted m first.now second.now table.old }
-    ensures { Hands (taken_of (step_from chess (over m first.now second.now) (holds_depth (borrowed (material_for m) (lent first.now second.now))) progress table.old)) result table.new }
+    ensures { Hands (taken_of (step_from chess (over m first.now second.now) (holds_depth (borrowed (material_for m) (lent first.now second.now))) progress table.old)) (step_as result) table.new }
 {
     match progress.stage {
         GOING => {
@@ -82,7 +84,7 @@ fn step_from(m: Men, progress: Progress, first: &[u8], second: &[u8], table: &mu
                 progress,
             }
         },
-        _ => refuse(TOO_DEEP, progress),
+        _ => refuse(Refusal::TooDeep, progress),
     }
 }
 
@@ -95,27 +97,27 @@ pub fn step_with(
     second: &[u8],
     table: &mut [u8],
 ) -> Step
-    ensures { Hands (handed table.old progress (step_with m (lent first.now second.now) table.old progress)) result table.new }
+    ensures { Hands (handed table.old progress (step_with m (lent first.now second.now) table.old progress)) (step_as result) table.new }
 {
     if !is_given(m) {
-        return refuse(BAD_MAN, progress);
+        return refuse(Refusal::BadMan, progress);
     }
     if !lengths_fit(m, &*table, first, second) {
-        return refuse(TABLE_LENGTH, progress);
+        return refuse(Refusal::TableLength, progress);
     }
     step_from(men_of(m), progress, first, second, &mut *table)
 }
 
 // With one man.
 pub fn start_filling(kind: u8, table: &mut [u8]) -> Step
-    ensures { Hands (start_of kind table.old) result table.new }
+    ensures { Hands (start_of kind table.old) (step_as result) table.new }
 {
     start_with(Material::One(kind), &mut *table)
 }
 
 // One man borrows nothing.
 pub fn take_step(kind: u8, table: &mut [u8], progress: Progress) -> Step
-    ensures { Hands (step_of kind table.old progress) result table.new }
+    ensures { Hands (step_of kind table.old progress) (step_as result) table.new }
 {
     let none: [u8; 0] = [];
     step_with(Material::One(kind), progress, &none, &none, &mut *table)

@@ -11,9 +11,6 @@ use numbering::Material;
 use pawn_numbers::PAWN_SIZE;
 use position::Men;
 
-// Refusal 17: a lent table is not accepted by the checker.
-pub const NOT_ACCEPTED: u8 = 17;
-
 // The length of a table with two men.
 pub const LARGE_SIZE: usize = 3784704;
 

@@ -1,6 +1,7 @@
 // The number of a position, and the position of a number.
 #![tactic(auto)]
 
+use desk_refusals::Refusal;
 use numbering::Material;
 use pairs::PAIR_COUNT;
 use position::{Map, Men, Place, Position};
@@ -19,6 +20,7 @@ ghost use Rattle.std.specs.Prelude.{◌≡◌, ◌++◌, ◌+◌, ◌*◌, ◌^�
 ghost use Rattle.numbering.specs.Keys.{key_from};
 ghost use Rattle.position.specs.Keyed.{slot_men};
 ghost use Rattle.index.specs.Answers.{number_answer, placed_at};
+ghost use Rattle.desk_refusals.specs.Numbers.{by_number};
 
 pub use answers::{number_with, placed_number, position_with};
 pub use arranging::{arrange, normal_place};
@@ -88,19 +90,16 @@ pub fn key_of(p: Position, pair: u16) -> u32
 }
 
 // The number of a position with one man; two are refused.
-pub fn number(p: Position) -> Result<u32, u8>
-    ensures { result ≡ number_answer p }
+pub fn number(p: Position) -> Result<u32, Refusal>
+    ensures { by_number result ≡ number_answer p }
 {
-    let refusal = position::placing_refusal(p);
-    if refusal != 0 {
-        return Err(refusal);
-    }
+    position::placing_refusal(p)?;
     Ok(placed_number(p))
 }
 
 // The position of a number of the ending with one man.
-pub fn position_of(kind: u8, n: u32) -> Result<Position, u8>
-    ensures { result ≡ placed_at kind n }
+pub fn position_of(kind: u8, n: u32) -> Result<Position, Refusal>
+    ensures { by_number result ≡ placed_at kind n }
 {
     position_with(Material::One(kind), n)
 }

@@ -3,10 +3,12 @@ ghost use Rattle.std.specs.Prelude.{◌≡◌};
 ghost use Rattle.numbering.specs.declared.Material.{Material};
 ghost use Rattle.index.specs.Answers.{found_at};
 ghost use Rattle.index.specs.Arranging.{pawn_men, pawn_place, pawn_normal_as};
+ghost use Rattle.desk_refusals.specs.Numbers.{by_number};
 
 use super::NormalPlace;
+use desk_refusals::Refusal;
 use pawn_numbers::{PawnPlace, is_pawn_used, pawn_normal, pawn_place_at};
-use position::{Map, Men, NUMBER_UNUSED, Place, Position, man_in, posed};
+use position::{Map, Men, Place, Position, man_in, posed};
 
 // The pawn is White's.
 pub fn pawn_men() -> Men
@@ -53,12 +55,12 @@ pub fn pawn_normal_place(p: Position) -> NormalPlace
 }
 
 // What stands at a number, if it is used.
-pub fn pawn_found(n: u32) -> Result<Position, u8>
-    ensures { result ≡ found_at Material.Pawn n }
+pub fn pawn_found(n: u32) -> Result<Position, Refusal>
+    ensures { by_number result ≡ found_at Material.Pawn n }
 {
     let q = pawn_place_at(n);
     if !is_pawn_used(q) {
-        return Err(NUMBER_UNUSED);
+        return Err(Refusal::NumberUnused);
     }
     Ok(posed(pawn_men(), pawn_place(q)))
 }

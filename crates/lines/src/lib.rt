@@ -6,10 +6,12 @@ mod shape;
 
 ghost use Rattle.std.specs.Prelude.{◌≡◌, length};
 ghost use Rattle.lines.specs.Grammar.{request_of, keyed_of, number_request};
+ghost use Rattle.desk_refusals.specs.Numbers.{by_number};
 
 use check_digits::is_right;
+use desk_refusals::Refusal;
 use fields::{as_white, colour_code, man_code, number_in, side_code, square_named};
-use position::{BAD_CHECK, BAD_LINE, BAD_MAN, Position, one_man};
+use position::{Position, one_man};
 use shape::shaped;
 
 // What a line asks: to look a position up, or for the position of a man's number; or its refusal. A wrong byte in a position's part puts it out of
@@ -21,8 +23,8 @@ pub enum Request {
 }
 
 // The request of a line of any length; its newline is no part of it.
-pub fn parse(line: &[u8]) -> Result<Request, u8>
-    ensures { result ≡ request_of line.now }
+pub fn parse(line: &[u8]) -> Result<Request, Refusal>
+    ensures { by_number result ≡ request_of line.now }
 {
     if shaped(b". . .. .. ..", line) {
         return Ok(Request::LookUp(keyed(line)));
@@ -30,7 +32,7 @@ pub fn parse(line: &[u8]) -> Result<Request, u8>
     if shaped(b". # 0000000", line) {
         return number_request(line);
     }
-    Err(BAD_LINE)
+    Err(Refusal::BadLine)
 }
 
 // The parts of a line with the shape of a position line.
@@ -49,18 +51,18 @@ fn keyed(line: &[u8]) -> Position
 }
 
 // The request of a line with the shape of a number line: a wrong check comes before a wrong man.
-fn number_request(line: &[u8]) -> Result<Request, u8>
+fn number_request(line: &[u8]) -> Result<Request, Refusal>
     requires { length line.now ≡ 11 }
-    ensures { result ≡ number_request line.now }
+    ensures { by_number result ≡ number_request line.now }
 {
     let five = number_in(&line[4..9]);
     let check = number_in(&line[9..11]);
     if !is_right(five * 100 + check) {
-        return Err(BAD_CHECK);
+        return Err(Refusal::BadCheck);
     }
     let kind = man_code(line[0]);
     if kind < 4 {
         return Ok(Request::Back(kind, five));
     }
-    Err(BAD_MAN)
+    Err(Refusal::BadMan)
 }

@@ -11,23 +11,22 @@ ghost use Rattle.index.specs.Arranging.{Normalises};
 ghost use Rattle.four_men.specs.Lending.{lent};
 ghost use Rattle.four_men.specs.Answers.{look_up_with};
 ghost use Rattle.look_up.specs.Told.{told_of};
+ghost use Rattle.desk_refusals.specs.Numbers.{by_number};
 
 use answers::Answer;
 use deciding::{PAWN, pawn_verdict};
+use desk_refusals::Refusal;
 use four_men::{lengths_fit, material_for};
 use index::{NormalPlace, normal_place, pawn_normal_place};
 use movegen::checked;
 use pawn_moves::pawn_byte;
-use position::{
-    BAD_MAN, INCONSISTENT, Map, OTHER_IN_CHECK, Position, TABLE_LENGTH, in_check, man_in, other,
-    placing_with,
-};
+use position::{Map, Position, in_check, man_in, other, placing_with};
 use rules::{Move, promotion_of};
 use successors::{Verdict, byte_at, verdict_on};
 
 // What a byte that stands says of the side to move.
-fn answer(byte: u8, advice: Option<Move>) -> Result<Answer, u8>
-    ensures { result ≡ answer_of byte advice }
+fn answer(byte: u8, advice: Option<Move>) -> Result<Answer, Refusal>
+    ensures { by_number result ≡ answer_of byte advice }
 {
     if byte <= 1 {
         return Ok(Answer::Draw(advice));
@@ -49,31 +48,28 @@ fn carried_back(via: Map, advice: Option<Move>) -> Option<Move>
 }
 
 // What a verdict on the normal position's byte says of the position as keyed.
-fn told(via: Map, byte: u8, verdict: Verdict) -> Result<Answer, u8>
-    ensures { result ≡ told_of via byte verdict }
+fn told(via: Map, byte: u8, verdict: Verdict) -> Result<Answer, Refusal>
+    ensures { by_number result ≡ told_of via byte verdict }
 {
     match verdict {
-        Verdict::Wrong => Err(INCONSISTENT),
+        Verdict::Wrong => Err(Refusal::Inconsistent),
         Verdict::Right(advice) => answer(byte, carried_back(via, advice)),
     }
 }
 
 // A position with a pawn; the tables that it borrows are one run, the first.
-fn look_up_pawn(p: Position, table: &[u8], first: &[u8], second: &[u8]) -> Result<Answer, u8>
-    ensures { man_kind p ≡ 4 → result ≡ look_up_with (lent first.now second.now) table.now p }
+fn look_up_pawn(p: Position, table: &[u8], first: &[u8], second: &[u8]) -> Result<Answer, Refusal>
+    ensures { man_kind p ≡ 4 → by_number result ≡ look_up_with (lent first.now second.now) table.now p }
 {
-    let refusal = placing_with(p);
-    if refusal != 0 {
-        return Err(refusal);
-    }
+    placing_with(p)?;
     if in_check(p, other(p.side)) {
-        return Err(OTHER_IN_CHECK);
+        return Err(Refusal::OtherInCheck);
     }
     let normal = pawn_normal_place(p);
     let m = normal.men;
     let q = normal.place;
     if !lengths_fit(material_for(m), table, first, second) {
-        return Err(TABLE_LENGTH);
+        return Err(Refusal::TableLength);
     }
     let byte = pawn_byte(q, table);
     told(normal.via, byte, pawn_verdict(q, byte, table, first))
@@ -85,17 +81,17 @@ fn look_up_normal(
     table: &[u8],
     first: &[u8],
     second: &[u8],
-) -> Result<Answer, u8>
-    ensures { (p : Position) → placing_with p ≡ 0 → (man_kind p ≡ 4 → ⊥) → Normalises p normal → result ≡ look_up_with (lent first.now second.now) table.now p }
+) -> Result<Answer, Refusal>
+    ensures { (p : Position) → placing_with p ≡ 0 → (man_kind p ≡ 4 → ⊥) → Normalises p normal → by_number result ≡ look_up_with (lent first.now second.now) table.now p }
 {
     let m = normal.men;
     let q = normal.place;
     let via = normal.via;
     if checked(m, q, other(q.side)) {
-        return Err(OTHER_IN_CHECK);
+        return Err(Refusal::OtherInCheck);
     }
     if !lengths_fit(material_for(m), table, first, second) {
-        return Err(TABLE_LENGTH);
+        return Err(Refusal::TableLength);
     }
     let byte = byte_at(m, q, table);
     let verdict = verdict_on(m, q, byte, table, first, second);
@@ -105,8 +101,13 @@ fn look_up_normal(
 // The value, the depth and a move, by the table of the position's own ending and the lent ones; or a refusal, 1 to 7,
 // 11 or 18. It asks the normal position, so that one study has one move. The normal place is made before the refusals are
 // asked, from the bytes as they were handed over: a copy kept for later would be waited for.
-pub fn look_up_with(p: Position, table: &[u8], first: &[u8], second: &[u8]) -> Result<Answer, u8>
-    ensures { result ≡ look_up_with (lent first.now second.now) table.now p }
+pub fn look_up_with(
+    p: Position,
+    table: &[u8],
+    first: &[u8],
+    second: &[u8],
+) -> Result<Answer, Refusal>
+    ensures { by_number result ≡ look_up_with (lent first.now second.now) table.now p }
 {
     let slot = p.first;
     let man = man_in(slot);
@@ -114,26 +115,23 @@ pub fn look_up_with(p: Position, table: &[u8], first: &[u8], second: &[u8]) -> R
         return look_up_pawn(p, table, first, second);
     }
     let normal = normal_place(p);
-    let refusal = placing_with(p);
-    if refusal != 0 {
-        return Err(refusal);
-    }
+    placing_with(p)?;
     look_up_normal(normal, table, first, second)
 }
 
 // The same for the parts that keep to three men, whose tables borrow none: two men are refused 1, and so is a
 // pawn.
-pub fn look_up(table: &[u8], p: Position) -> Result<Answer, u8>
-    ensures { result ≡ look_up_of table.now p }
+pub fn look_up(table: &[u8], p: Position) -> Result<Answer, Refusal>
+    ensures { by_number result ≡ look_up_of table.now p }
 {
     let first = p.first;
     let second = p.second;
     let man = man_in(first);
     if man.kind == PAWN {
-        return Err(BAD_MAN);
+        return Err(Refusal::BadMan);
     }
     match second {
-        Some(_) => Err(BAD_MAN),
+        Some(_) => Err(Refusal::BadMan),
         None => look_up_with(p, table, table, table),
     }
 }

@@ -6,12 +6,23 @@ use Rattle.rules.specs.Rules.{moves}
 use Rattle.position.specs.declared.Position.{Position}
 use Rattle.position.specs.Keyed.{board_of}
 use Rattle.position.specs.Refusals.{standing_with}
-use Rattle.move_list.specs.declared.Listed.{Listed}
+use Rattle.desk_refusals.specs.declared.Refusal.{Refusal}
+use Rattle.desk_refusals.specs.Numbers.{number_of}
+use Rattle.move_list.specs.declared.MoveList.{MoveList}
 use Rattle.move_list.specs.Lists.{list_of}
 
 -- the legal moves of a position as keyed; none where it is refused
 unfoldable pub moves_of : Position → List Move
 moves_of p = cond (eqb (standing_with p) 0) (moves (board_of p)) []
+
+-- refusal 0 and the moves, or a refusal and a list that is all zero
+pub record Listed : Type 0 where
+  pub refusal : ℕ
+  pub list : MoveList
+
+abbrev pub listed_as : Result MoveList Refusal → Listed
+listed_as (Ok l) = record { refusal = 0; list = l }
+listed_as (Err r) = record { refusal = number_of r; list = list_of [] }
 
 -- "A refusal gives its number and nothing else; any other field is zero" (01)
 unfoldable pub listed : Position → Listed

@@ -2,14 +2,16 @@
 ghost use Rattle.std.specs.Prelude.{◌≡◌, length};
 ghost use Rattle.rules.specs.Rules.{all_moves};
 ghost use Rattle.position.specs.Keyed.{board_of};
-ghost use Rattle.move_list.specs.Answers.{listed, Counts};
+ghost use Rattle.move_list.specs.Answers.{listed_as, listed, Counts};
+ghost use Rattle.desk_refusals.specs.Numbers.{by_number};
 
-use super::Listed;
+use super::MoveList;
 use super::counting::placed_count;
-use super::lists::{moves_of, no_moves};
+use super::lists::moves_of;
 use super::promoting::promoting_set;
 use board::{size, squares_of};
-use position::{OTHER_IN_CHECK, Position, own, placing_with, standing_with};
+use desk_refusals::Refusal;
+use position::{Position, own, placing_with, standing_with};
 use position_moves::{legal_targets, movers_of};
 
 // How many moves there are, bare kings or not.
@@ -26,34 +28,22 @@ pub fn count_of(p: Position) -> u8
 }
 
 // The legal moves, or a refusal from 1 to 6.
-pub fn legal_moves(p: Position) -> Listed
-    ensures { result ≡ listed p }
+pub fn legal_moves(p: Position) -> Result<MoveList, Refusal>
+    ensures { listed_as result ≡ listed p }
 {
-    let refusal = standing_with(p);
-    if refusal != 0 {
-        return Listed {
-            refusal,
-            list: no_moves(),
-        };
-    }
-    Listed {
-        refusal,
-        list: moves_of(p),
-    }
+    standing_with(p)?;
+    Ok(moves_of(p))
 }
 
 // Their count, or a refusal from 1 to 6: the sixth by the same sets that are counted. Before the refusals they are
 // found more quickly than after them.
-pub fn move_count(p: Position) -> Result<u8, u8>
-    ensures { Counts p result }
+pub fn move_count(p: Position) -> Result<u8, Refusal>
+    ensures { Counts p (by_number result) }
 {
     let all = movers_of(p);
-    let refusal = placing_with(p);
-    if refusal != 0 {
-        return Err(refusal);
-    }
+    placing_with(p)?;
     if all.check {
-        return Err(OTHER_IN_CHECK);
+        return Err(Refusal::OtherInCheck);
     }
     Ok(placed_count(p, all))
 }

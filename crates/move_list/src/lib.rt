@@ -21,10 +21,3 @@ pub struct MoveList {
     pub moves: [Move; ROOM],
     pub count: u8,
 }
-
-// Refusal 0 and the moves, or a refusal from 1 to 6 and a list that is all zero.
-#[derive(Clone, Copy)]
-pub struct Listed {
-    pub refusal: u8,
-    pub list: MoveList,
-}

@@ -5,8 +5,10 @@ mod promoting;
 
 ghost use Rattle.std.specs.Prelude.{◌≡◌};
 ghost use Rattle.playing.specs.Playing.{closed_up, play_of};
+ghost use Rattle.desk_refusals.specs.Numbers.{by_number};
 
 use board::has;
+use desk_refusals::Refusal;
 use move_list::promoting_set;
 use position::{Position, standing_with};
 use position_moves::legal_targets;
@@ -31,13 +33,10 @@ fn closed_up(p: Position) -> Position
 }
 
 // A promotion names the piece by 1 and its kind; any other move has 0.
-pub fn play(p: Position, from: u8, to: u8, becomes: u8) -> Result<Option<Position>, u8>
-    ensures { result ≡ play_of p from to becomes }
+pub fn play(p: Position, from: u8, to: u8, becomes: u8) -> Result<Option<Position>, Refusal>
+    ensures { by_number result ≡ play_of p from to becomes }
 {
-    let refusal = standing_with(p);
-    if refusal != 0 {
-        return Err(refusal);
-    }
+    standing_with(p)?;
     if !has(legal_targets(p, from), to) {
         return Ok(None);
     }

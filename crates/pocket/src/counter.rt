@@ -1,8 +1,10 @@
 // The four tallies of a pocket, by counting set bits.
 ghost use Rattle.std.specs.Prelude.{◌≡◌, ◌+◌, ◌<◌, ◌≤◌, length};
 ghost use Rattle.pocket.specs.Tally.{tally_of, Part};
+ghost use Rattle.desk_refusals.specs.Numbers.{by_number};
 
 use crate::{POCKET_SIZE, Tallies};
+use desk_refusals::Refusal;
 
 // The bytes of a word.
 const WORD: usize = 8;
@@ -30,11 +32,11 @@ fn word(pocket: &[u8], i: usize) -> u64
 }
 
 // How many numbers have each of the four entries; or refusal 7. A draw sets the low bit of its entry, a win the high bit, a loss both.
-pub fn tally(pocket: &[u8]) -> Result<Tallies, u8>
-    ensures { result ≡ tally_of pocket.now }
+pub fn tally(pocket: &[u8]) -> Result<Tallies, Refusal>
+    ensures { by_number result ≡ tally_of pocket.now }
 {
     if pocket.len() != POCKET_SIZE {
-        return Err(7);
+        return Err(Refusal::TableLength);
     }
     let mut low: u32 = 0;
     let mut high: u32 = 0;

@@ -1,8 +1,10 @@
 // Packing a table: four numbers to a byte.
 ghost use Rattle.std.specs.Prelude.{◌≡◌, ◌+◌, ◌*◌, ◌<◌, ◌≤◌, length};
 ghost use Rattle.pocket.specs.Pocket.{entry_of, packed_byte, pack_of};
+ghost use Rattle.desk_refusals.specs.Numbers.{by_number};
 
 use crate::POCKET_SIZE;
+use desk_refusals::Refusal;
 use index::TABLE_SIZE;
 
 // The entry of a table's byte.
@@ -32,14 +34,14 @@ fn packed_byte(table: &[u8], i: usize) -> u8
 }
 
 // Packs any bytes of a table's length. Refusal 7 leaves the pocket as it was.
-pub fn pack(table: &[u8], pocket: &mut [u8]) -> Result<(), u8>
-    ensures { (result ≡ (pack_of table.now pocket.old).answer) × (pocket.new ≡ (pack_of table.now pocket.old).bytes) }
+pub fn pack(table: &[u8], pocket: &mut [u8]) -> Result<(), Refusal>
+    ensures { (by_number result ≡ (pack_of table.now pocket.old).answer) × (pocket.new ≡ (pack_of table.now pocket.old).bytes) }
 {
     if table.len() != TABLE_SIZE {
-        return Err(7);
+        return Err(Refusal::TableLength);
     }
     if pocket.len() != POCKET_SIZE {
-        return Err(7);
+        return Err(Refusal::TableLength);
     }
     for i in 0..pocket.len() {
         pocket[i] = packed_byte(table, i);

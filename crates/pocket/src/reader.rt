@@ -1,10 +1,12 @@
 // Looking a position up in its ending's pocket.
 ghost use Rattle.std.specs.Prelude.{◌≡◌};
 ghost use Rattle.pocket.specs.Pocket.{entry_at, told_by, entry_tells, pocket_look_up_of};
+ghost use Rattle.desk_refusals.specs.Numbers.{by_number};
 
 use super::rows::number_by_rows;
 use crate::{POCKET_SIZE, PocketAnswer};
-use position::{INCONSISTENT, Position, TABLE_LENGTH, standing_refusal};
+use desk_refusals::Refusal;
+use position::{Position, standing_refusal};
 
 // The entry of number k; 0 beyond the pocket's end.
 fn entry_at(pocket: &[u8], k: u32) -> u8
@@ -18,11 +20,11 @@ fn entry_at(pocket: &[u8], k: u32) -> u8
 }
 
 // What an entry says of the side to move.
-fn answer(entry: u8) -> Result<PocketAnswer, u8>
-    ensures { told_by result ≡ entry_tells entry }
+fn answer(entry: u8) -> Result<PocketAnswer, Refusal>
+    ensures { told_by (by_number result) ≡ entry_tells entry }
 {
     match entry {
-        0 => Err(INCONSISTENT),
+        0 => Err(Refusal::Inconsistent),
         1 => Ok(PocketAnswer::Draw),
         2 => Ok(PocketAnswer::Win),
         _ => Ok(PocketAnswer::Loss),
@@ -30,15 +32,12 @@ fn answer(entry: u8) -> Result<PocketAnswer, u8>
 }
 
 // The value; or a refusal, 1 to 7 or 11. One entry is read.
-pub fn look_up(pocket: &[u8], p: Position) -> Result<PocketAnswer, u8>
-    ensures { told_by result ≡ pocket_look_up_of pocket.now p }
+pub fn look_up(pocket: &[u8], p: Position) -> Result<PocketAnswer, Refusal>
+    ensures { told_by (by_number result) ≡ pocket_look_up_of pocket.now p }
 {
-    let refusal = standing_refusal(p);
-    if refusal != 0 {
-        return Err(refusal);
-    }
+    standing_refusal(p)?;
     if pocket.len() != POCKET_SIZE {
-        return Err(TABLE_LENGTH);
+        return Err(Refusal::TableLength);
     }
     answer(entry_at(pocket, number_by_rows(p)))
 }

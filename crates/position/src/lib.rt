@@ -19,41 +19,6 @@ pub use occupancy::{occupied, own, pieces_of};
 pub use places::posed;
 pub use refusals::{placing_refusal, placing_with, standing_refusal, standing_with};
 
-// The numbers of the refusals.
-pub const BAD_MAN: u8 = 1;
-
-pub const BAD_SIDE: u8 = 2;
-
-pub const BAD_SQUARE: u8 = 3;
-
-pub const SHARED_SQUARE: u8 = 4;
-
-pub const KINGS_TOUCH: u8 = 5;
-
-pub const OTHER_IN_CHECK: u8 = 6;
-
-pub const TABLE_LENGTH: u8 = 7;
-
-pub const NUMBER_TOO_HIGH: u8 = 8;
-
-pub const NUMBER_UNUSED: u8 = 9;
-
-pub const TOO_DEEP: u8 = 10;
-
-pub const INCONSISTENT: u8 = 11;
-
-pub const BAD_LINE: u8 = 12;
-
-pub const BAD_CHECK: u8 = 13;
-
-pub const WRONG_SET: u8 = 14;
-
-pub const NOT_IN_SET: u8 = 15;
-
-pub const TOO_MANY_PLIES: u8 = 16;
-
-pub const BAD_PAWN: u8 = 18;
-
 // The side to move, the kings' squares, and up to two men. As keyed: any bytes may come in.
 #[derive(Clone, Copy)]
 pub struct Position {

@@ -1,13 +1,12 @@
 // The refusals of a position, the lowest that applies.
 ghost use Rattle.std.specs.Prelude.{◌≡◌, cond, false};
+ghost use Rattle.desk_refusals.specs.Numbers.{refused};
 ghost use Rattle.position.specs.Refusals.{bad_men, bad_side, bad_square, bad_pawn, shared_square, slot_foreign, slot_off, slot_astray, slot_on, slots_share, slot_misplaced, kings_touch, later_refusal, placing_refusal, or_in_check, standing_refusal, bad_men_of, placing_with, standing_with};
 
 use super::attack::men_check;
-use super::{
-    BAD_MAN, BAD_PAWN, BAD_SIDE, BAD_SQUARE, KINGS_TOUCH, OTHER_IN_CHECK, Position, SHARED_SQUARE,
-    other,
-};
+use super::{Position, other};
 use board::{has, targets};
+use desk_refusals::Refusal;
 use rules::Piece;
 
 // Whether the men are none that have a table.
@@ -162,44 +161,44 @@ fn is_refused(p: Position) -> bool
     has(targets(0, 5, white), black)
 }
 
-// Refusals 2 to 5 and 18, the first that applies; 0 where none does.
-fn later_refusal(p: Position) -> u8
-    ensures { result ≡ later_refusal p }
+// Refusals 2 to 5 and 18, the first that applies.
+fn later_refusal(p: Position) -> Result<(), Refusal>
+    ensures { refused result ≡ later_refusal p }
 {
     if bad_side(p) {
-        return BAD_SIDE;
+        return Err(Refusal::BadSide);
     }
     if bad_square(p) {
-        return BAD_SQUARE;
+        return Err(Refusal::BadSquare);
     }
     if bad_pawn(p) {
-        return BAD_PAWN;
+        return Err(Refusal::BadPawn);
     }
     if shared_square(p) {
-        return SHARED_SQUARE;
+        return Err(Refusal::SharedSquare);
     }
     if has(targets(0, 5, p.white_king), p.black_king) {
-        return KINGS_TOUCH;
+        return Err(Refusal::KingsTouch);
     }
-    0
+    Ok(())
 }
 
-// Refusal 1 where the men are bad, or else 2 to 5 and 18, the first that applies; 0 where none does.
-fn refusal_of(p: Position, is_bad: bool) -> u8
-    ensures { result ≡ cond is_bad 1 (later_refusal p) }
+// Refusal 1 where the men are bad, or else 2 to 5 and 18, the first that applies.
+fn refusal_of(p: Position, is_bad: bool) -> Result<(), Refusal>
+    ensures { refused result ≡ cond is_bad 1 (later_refusal p) }
 {
     if is_bad {
-        return BAD_MAN;
+        return Err(Refusal::BadMan);
     }
     if !is_refused(p) {
-        return 0;
+        return Ok(());
     }
     later_refusal(p)
 }
 
-// Refusals 1 to 5, the lowest that applies; 0 where none does. Two men are refused, and a pawn.
-pub fn placing_refusal(p: Position) -> u8
-    ensures { result ≡ placing_refusal p }
+// Refusals 1 to 5, the lowest that applies. Two men are refused, and a pawn.
+pub fn placing_refusal(p: Position) -> Result<(), Refusal>
+    ensures { refused result ≡ placing_refusal p }
 {
     let first = p.first;
     let second = p.second;
@@ -207,8 +206,8 @@ pub fn placing_refusal(p: Position) -> u8
 }
 
 // The same for one man and for two, and for a lone pawn, with 18 after 3.
-pub fn placing_with(p: Position) -> u8
-    ensures { result ≡ placing_with p }
+pub fn placing_with(p: Position) -> Result<(), Refusal>
+    ensures { refused result ≡ placing_with p }
 {
     let first = p.first;
     let second = p.second;
@@ -216,28 +215,26 @@ pub fn placing_with(p: Position) -> u8
 }
 
 // Such a refusal, or else 6 where it applies: once the kings do not touch, men alone give check.
-fn or_in_check(p: Position, refusal: u8) -> u8
-    ensures { (refusal ≡ 0 → kings_touch p ≡ false) → result ≡ or_in_check p refusal }
+fn or_in_check(p: Position, placed: Result<(), Refusal>) -> Result<(), Refusal>
+    ensures { (refused placed ≡ 0 → kings_touch p ≡ false) → refused result ≡ or_in_check p (refused placed) }
 {
-    if refusal != 0 {
-        return refusal;
-    }
+    placed?;
     if men_check(p, other(p.side)) {
-        return OTHER_IN_CHECK;
+        return Err(Refusal::OtherInCheck);
     }
-    0
+    Ok(())
 }
 
-// Refusals 1 to 6, the lowest that applies; 0 where none does. Two men are refused, and a pawn.
-pub fn standing_refusal(p: Position) -> u8
-    ensures { result ≡ standing_refusal p }
+// Refusals 1 to 6, the lowest that applies. Two men are refused, and a pawn.
+pub fn standing_refusal(p: Position) -> Result<(), Refusal>
+    ensures { refused result ≡ standing_refusal p }
 {
     or_in_check(p, placing_refusal(p))
 }
 
 // The same for one man and for two, and for a lone pawn, with 18 after 3.
-pub fn standing_with(p: Position) -> u8
-    ensures { result ≡ standing_with p }
+pub fn standing_with(p: Position) -> Result<(), Refusal>
+    ensures { refused result ≡ standing_with p }
 {
     or_in_check(p, placing_with(p))
 }

@@ -3,10 +3,12 @@ ghost use Rattle.std.specs.Prelude.{◌≡◌};
 ghost use Rattle.position.specs.Keyed.{board_of};
 ghost use Rattle.search.specs.Opinions.{asked_in, opinion_of};
 ghost use Rattle.search.specs.Tried.{Pawnless};
+ghost use Rattle.desk_refusals.specs.Numbers.{by_number};
 
 use super::Opinion;
 use super::within::{lost_within, won_within};
-use position::{Position, TOO_MANY_PLIES, standing_refusal};
+use desk_refusals::Refusal;
+use position::{Position, standing_refusal};
 
 // The most plies that may be asked.
 const MOST: u8 = 6;
@@ -22,15 +24,12 @@ fn is_decided(s: Position, n: u8) -> bool
 }
 
 // The exact depth if at most k, asked in rising order; or a refusal from 1 to 6, or 16.
-pub fn second_opinion(p: Position, k: u8) -> Result<Opinion, u8>
-    ensures { result ≡ opinion_of p k }
+pub fn second_opinion(p: Position, k: u8) -> Result<Opinion, Refusal>
+    ensures { by_number result ≡ opinion_of p k }
 {
-    let refusal = standing_refusal(p);
-    if refusal != 0 {
-        return Err(refusal);
-    }
+    standing_refusal(p)?;
     if MOST < k {
-        return Err(TOO_MANY_PLIES);
+        return Err(Refusal::TooManyPlies);
     }
     for n in 0..=k {
         if is_decided(p, n) {

@@ -1,9 +1,7 @@
 -- The word of a progress and of a step's answer (include/sledgewren.h). Definitions only.
 use Rattle.std.specs.Prelude.{List, ℕ, ◌+◌, ◌*◌, ◌^◌, ◌/◌, ◌%◌, Err, None, Ok, Option, Result, Some}
 use Rattle.table_theory.specs.declared.Progress.{Progress}
-use Rattle.filling.specs.declared.steps.Step.{Step}
-use Rattle.filling.specs.declared.steps.Stepped.{Stepped}
-use Rattle.filling.specs.Steps.{Taken}
+use Rattle.filling.specs.Steps.{Stepped, Step, Taken}
 use Rattle.filling.specs.Handed.{handed}
 use Rattle.table_theory.specs.Steps.{going_on}
 use Rattle.numbering.specs.declared.Material.{Material}

@@ -1,6 +1,6 @@
 -- What a host reads from the word of a number written with its check, by the bit ranges of include/sledgewren.h. Definitions only.
 use Rattle.std.specs.Prelude.{◌≡◌, [], ◌∷◌, ℕ, length, get_or}
-use Rattle.typed.specs.declared.Written.{Written}
+use Rattle.typed.specs.Writing.{Written}
 use Rattle.words.specs.Reading.{bits, Byte}
 
 -- "bits 0-7 refusal, 8-15 the first digit as a character, and so on to 56-63, the seventh"

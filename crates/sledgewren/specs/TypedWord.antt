@@ -1,6 +1,6 @@
 -- The word of a number written with its check (include/sledgewren.h). Definitions only.
 use Rattle.std.specs.Prelude.{List, [], ◌∷◌, ℕ, ◌+◌, ◌*◌, ◌^◌}
-use Rattle.typed.specs.declared.Written.{Written}
+use Rattle.typed.specs.Writing.{Written}
 
 -- bytes as one word, the first one lowest
 abbrev pub bytes_word : List ℕ → ℕ

@@ -2,10 +2,11 @@
 ghost use Rattle.given_words.specs.Men.{position_read};
 ghost use Rattle.sledgewren.specs.Words.{WroteList, listing_of};
 
+use desk_refusals::Refusal;
 use filling::clear;
 use given_words::position_read;
 use move_bytes::write_moves;
-use position::{OTHER_IN_CHECK, placing_with};
+use position::placing_with;
 use position_moves::movers_of;
 
 // A lent list has room for the moves of two men besides the kings, which are four bytes each.
@@ -31,13 +32,15 @@ pub fn sledgewren_moves(
     }
     let p = position_read(side, white, black, first, second);
     let all = movers_of(p);
-    let refusal = placing_with(p);
+    let placed = placing_with(p);
     clear(&mut *moves);
-    if refusal != 0 {
-        return refusal as u32;
+    match placed {
+        Err(r) => r.number() as u32,
+        Ok(()) => {
+            if all.check {
+                return Refusal::OtherInCheck.number() as u32;
+            }
+            write_moves(p, all, &mut *moves) as u32 * 0x100
+        },
     }
-    if all.check {
-        return OTHER_IN_CHECK as u32;
-    }
-    write_moves(p, all, &mut *moves) as u32 * 0x100
 }

@@ -3,7 +3,9 @@ ghost use Rattle.std.specs.Prelude.{◌≡◌};
 ghost use Rattle.sets.specs.Answers.{write_of, start_of, fill_in_of, find_of};
 ghost use Rattle.sledgewren.specs.Words.{filled_word};
 ghost use Rattle.sledgewren.specs.SetWords.{choice_by, set_written_word, found_word};
+ghost use Rattle.desk_refusals.specs.Numbers.{by_number};
 
+use desk_refusals::Refusal;
 use sets::Choice;
 use table_set::{fill_ending, find, start, write};
 use words::filled_word;
@@ -19,21 +21,21 @@ fn choice_by(queen: u8, rook: u8, bishop: u8, knight: u8) -> Choice
     }
 }
 
-fn written_word(w: Result<(), u8>) -> u32
-    ensures { result ≡ set_written_word w }
+fn written_word(w: Result<(), Refusal>) -> u32
+    ensures { result ≡ set_written_word (by_number w) }
 {
     match w {
         Ok(()) => 0,
-        Err(k) => k as u32,
+        Err(r) => r.number() as u32,
     }
 }
 
-fn found_word(f: Result<u32, u8>) -> u64
-    ensures { result ≡ found_word f }
+fn found_word(f: Result<u32, Refusal>) -> u64
+    ensures { result ≡ found_word (by_number f) }
 {
     match f {
         Ok(offset) => 59136 * 0x100 + offset as u64 * 0x1_0000_0000,
-        Err(k) => k as u64,
+        Err(r) => r.number() as u64,
     }
 }
 

@@ -1,10 +1,12 @@
 // Filling in steps: the progress as one word, and each call's answer as one word.
 ghost use Rattle.std.specs.Prelude.{◌≡◌, ◌^◌, ◌<◌, ◌≤◌};
 ghost use Rattle.four_men.specs.Lending.{lent};
-ghost use Rattle.filling.specs.Steps.{settled_of};
+ghost use Rattle.filling.specs.Steps.{said_as, step_as, settled_of};
 ghost use Rattle.given_words.specs.Endings.{material_read};
 ghost use Rattle.sledgewren.specs.StepWord.{progress_of, progress_word, end_word, said_word, step_word, start_for, step_for};
+ghost use Rattle.desk_refusals.specs.Numbers.{by_number};
 
+use desk_refusals::Refusal;
 use filling::{Step, Stepped, start_with, step_with};
 use given_words::material_read;
 use table_theory::Progress;
@@ -28,19 +30,19 @@ fn progress_word(p: Progress) -> u32
     u32::from_le_bytes([p.stage, low, high, p.last])
 }
 
-fn end_word(f: Result<Option<u8>, u8>) -> u64
-    ensures { (result ≡ end_word f) × (result < 2 ^ 8) }
+fn end_word(f: Result<Option<u8>, Refusal>) -> u64
+    ensures { (result ≡ end_word (by_number f)) × (result < 2 ^ 8) }
 {
     match f {
-        Err(k) => k as u64,
+        Err(r) => r.number() as u64,
         Ok(Some(_)) => 0,
         Ok(None) => 0,
     }
 }
 
 fn said_word(s: Stepped) -> u64
-    requires { settled_of s ≤ 3784704 }
-    ensures { (result ≡ said_word s) × (result < 2 ^ 32) }
+    requires { settled_of (said_as s) ≤ 3784704 }
+    ensures { (result ≡ said_word (said_as s)) × (result < 2 ^ 32) }
 {
     match s {
         Stepped::Settled(n) => n as u64 * 0x100,
@@ -49,8 +51,8 @@ fn said_word(s: Stepped) -> u64
 }
 
 fn step_word(s: Step) -> u64
-    requires { settled_of s.said ≤ 3784704 }
-    ensures { result ≡ step_word s }
+    requires { settled_of (said_as s.said) ≤ 3784704 }
+    ensures { result ≡ step_word (step_as s) }
 {
     let said = s.said;
     let progress = s.progress;

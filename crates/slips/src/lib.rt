@@ -6,8 +6,10 @@ mod writing;
 ghost use Rattle.std.specs.Prelude.{◌≡◌, [], Ok};
 ghost use Rattle.slips.specs.Slip.{word_and_number, mark_text, advice_text, side_letter, gapped, padded, slip_of, placed_slip, refused_slip};
 ghost use Rattle.slips.specs.Appending.{appended};
+ghost use Rattle.desk_refusals.specs.Numbers.{by_number};
 
 use answers::Answer;
+use desk_refusals::Refusal;
 use position::{Position, man_in};
 use rules::Move;
 use writing::{blank, with_byte, with_number, with_square, with_text};
@@ -31,22 +33,22 @@ fn value_slip(a: Answer) -> Slip
 }
 
 // The slip of look-up's answer.
-pub fn answer_slip(a: Result<Answer, u8>) -> Slip
-    ensures { result ≡ padded (slip_of a) }
+pub fn answer_slip(a: Result<Answer, Refusal>) -> Slip
+    ensures { result ≡ padded (slip_of (by_number a)) }
 {
     match a {
         Ok(value) => value_slip(value),
-        Err(n) => refused_slip(n),
+        Err(r) => refused_slip(r.number()),
     }
 }
 
 // The slip of numbering back's answer.
-pub fn placed_slip(p: Result<Position, u8>) -> Slip
-    ensures { result ≡ padded (placed_slip p) }
+pub fn placed_slip(p: Result<Position, Refusal>) -> Slip
+    ensures { result ≡ padded (placed_slip (by_number p)) }
 {
     match p {
         Ok(at) => position_slip(at),
-        Err(n) => refused_slip(n),
+        Err(r) => refused_slip(r.number()),
     }
 }
 

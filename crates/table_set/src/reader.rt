@@ -1,9 +1,11 @@
 // Reading a set: whether it is right, where an ending's table starts, and that table's part.
 ghost use Rattle.std.specs.Prelude.{◌≡◌, ◌+◌, ◌≤◌, length};
 ghost use Rattle.sets.specs.Answers.{right_entry, right_set, find_of, part_of};
+ghost use Rattle.desk_refusals.specs.Numbers.{by_number};
 
 use super::TABLE_SIZE;
 use super::words::word;
+use desk_refusals::Refusal;
 
 // Whether the entry at a place is the one that the rules give: a code of at least `least`, the offset, a table's length.
 #[tactic(auto, unfolding(sets::specs::Answers::right_entry))]
@@ -40,14 +42,14 @@ pub fn is_set(set: &[u8]) -> bool
 }
 
 // Where the ending's table starts. Refusal 1 for a code above 3, 14 for bytes that are no set, 15 where the set lacks the ending.
-pub fn find(set: &[u8], code: u8) -> Result<u32, u8>
-    ensures { result ≡ find_of set.now code }
+pub fn find(set: &[u8], code: u8) -> Result<u32, Refusal>
+    ensures { by_number result ≡ find_of set.now code }
 {
     if 3 < code {
-        return Err(1);
+        return Err(Refusal::BadMan);
     }
     if !is_set(set) {
-        return Err(14);
+        return Err(Refusal::WrongSet);
     }
     let wanted = usize::from(code);
     let n = word(set, 0);
@@ -57,7 +59,7 @@ pub fn find(set: &[u8], code: u8) -> Result<u32, u8>
             return Ok((first + TABLE_SIZE * k) as u32);
         }
     }
-    Err(15)
+    Err(Refusal::NotInSet)
 }
 
 // The very part of the set that holds the ending's table; an empty part where `find` refuses.

@@ -75,46 +75,19 @@ fn counting(rt: &impl Print, label: &str, p: Position) -> io::Result<()> {
 }
 
 fn legality(rt: &impl Print, label: &str, p: Position) -> io::Result<()> {
-    let refusal = standing_refusal(p);
-    if refusal == 0 {
-        say(rt, label, "legal")
-    } else {
-        say_number(rt, label, "refused ", refusal as u64)
-    }
-}
-
-fn fill_refusal(table: &mut [u8]) -> u8 {
-    match fill(QUEEN, &mut *table) {
-        Ok(Some(_)) => 0,
-        Ok(None) => 0,
-        Err(n) => n,
-    }
-}
-
-fn check_refusal(table: &[u8]) -> u8 {
-    match check(QUEEN, table) {
-        Ok(Checked::Accepted) => 0,
-        Ok(Checked::Wrong(_)) => 0,
-        Err(n) => n,
-    }
-}
-
-fn look_up_refusal(table: &[u8]) -> u8 {
-    match look_up(table, lone(QUEEN, 0, 0, 1, 63)) {
-        Ok(Answer::Win(_, _)) => 0,
-        Ok(Answer::Loss(_, _)) => 0,
-        Ok(Answer::Draw(_)) => 0,
-        Err(n) => n,
+    match standing_refusal(p) {
+        Ok(()) => say(rt, label, "legal"),
+        Err(refusal) => say_number(rt, label, "refused ", refusal as u64),
     }
 }
 
 // A table of another length, at filling, checking and looking up.
 fn length(rt: &impl Print, label: &str, table: &mut [u8]) -> io::Result<()> {
-    let filled = fill_refusal(&mut *table);
-    let checked = check_refusal(&*table);
-    let looked_up = look_up_refusal(&*table);
-    if (filled == checked) & (checked == looked_up) {
-        say_number(rt, label, "refused ", filled as u64)
+    let filled = fill(QUEEN, &mut *table).err();
+    let checked = check(QUEEN, &*table).err();
+    let looked_up = look_up(&*table, lone(QUEEN, 0, 0, 1, 63)).err();
+    if filled == checked && checked == looked_up {
+        say_number(rt, label, "refused ", filled.map_or(0, |r| r as u64))
     } else {
         say(rt, label, "not one refusal")
     }

@@ -2,6 +2,7 @@
 // number, the count of moves, and the first and the last of them, as the second program does.
 #![tactic(auto)]
 
+use desk_refusals::Refusal;
 use move_list::MoveList;
 use position::Position;
 use rules::{Move, Piece};
@@ -54,7 +55,7 @@ fn show_move(rt: &impl Print, m: Move) -> io::Result<()> {
     show_square(rt, m.to)
 }
 
-fn refused(rt: &impl Print, number: u8) -> io::Result<()> {
+fn refused(rt: &impl Print, number: Refusal) -> io::Result<()> {
     print!(rt; "refused {number}")
 }
 
@@ -74,7 +75,10 @@ fn show_moves(rt: &impl Print, p: Position) -> io::Result<()> {
         Err(number) => refused(rt, number),
         Ok(count) => {
             print!(rt; "moves {count}")?;
-            show_ends(rt, move_list::legal_moves(p).list)
+            let Ok(list) = move_list::legal_moves(p) else {
+                return Ok(());
+            };
+            show_ends(rt, list)
         }
     }
 }

@@ -65,7 +65,9 @@ fn answer(rt: &impl Print, p: Position) -> io::Result<()> {
         Err(number) => print!(rt; "refused {number}")?,
         Ok(count) => {
             print!(rt; "{count}")?;
-            show_list(rt, move_list::legal_moves(p).list)?;
+            if let Ok(list) = move_list::legal_moves(p) {
+                show_list(rt, list)?;
+            }
         }
     }
     println!(rt)

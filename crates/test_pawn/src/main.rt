@@ -3,6 +3,7 @@
 #![tactic(auto)]
 
 use answers::Answer;
+use desk_refusals::Refusal;
 use filling::{fill, fill_with};
 use index::TABLE_SIZE;
 use look_up::look_up_with;
@@ -87,7 +88,7 @@ fn show_best(rt: &impl Print, best: Option<Move>) -> io::Result<()> {
     }
 }
 
-fn show_slip(rt: &impl Print, answer: Result<Answer, u8>) -> io::Result<()> {
+fn show_slip(rt: &impl Print, answer: Result<Answer, Refusal>) -> io::Result<()> {
     match answer {
         Ok(Answer::Win(depth, best)) => {
             show_number(rt, " slip win ", depth as u64)?;
@@ -118,7 +119,9 @@ fn show_moves(rt: &impl Print, p: Position, table: &[u8], run: &[u8]) -> io::Res
         Err(number) => show_number(rt, " refused ", number as u64),
         Ok(count) => {
             show_number(rt, " moves ", count as u64)?;
-            show_list(rt, move_list::legal_moves(p).list)?;
+            if let Ok(list) = move_list::legal_moves(p) {
+                show_list(rt, list)?;
+            }
             show_slip(rt, look_up_with(p, table, run, &[]))
         }
     }

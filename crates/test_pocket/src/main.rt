@@ -1,6 +1,7 @@
 // Fills each man's table, packs it and prints the pocket's four tallies and its checksum, as the second program does.
 #![tactic(auto)]
 
+use desk_refusals::Refusal;
 use filling::fill;
 use pocket::{Tallies, pack, tally};
 use std::io;
@@ -29,7 +30,7 @@ fn print_tallies(rt: &impl Print, t: Tallies) -> io::Result<()> {
     print_line(rt, "loss ", t.losses as u64)
 }
 
-fn print_tallied(rt: &impl Print, tallied: Result<Tallies, u8>) -> io::Result<()> {
+fn print_tallied(rt: &impl Print, tallied: Result<Tallies, Refusal>) -> io::Result<()> {
     match tallied {
         Ok(t) => print_tallies(rt, t),
         Err(number) => print_line(rt, "refused ", number as u64),

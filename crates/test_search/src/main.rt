@@ -2,6 +2,7 @@
 // program does.
 #![tactic(auto)]
 
+use desk_refusals::Refusal;
 use position::{Position, man_in, one_man};
 use search::{Opinion, second_opinion};
 use std::io;
@@ -38,7 +39,7 @@ impl Line {
     }
 }
 
-fn show_opinion(rt: &impl Print, o: Result<Opinion, u8>, k: u8) -> io::Result<()> {
+fn show_opinion(rt: &impl Print, o: Result<Opinion, Refusal>, k: u8) -> io::Result<()> {
     match o {
         Ok(Opinion::Win(n)) => print!(rt; "win {n}"),
         Ok(Opinion::Loss(n)) => print!(rt; "loss {n}"),

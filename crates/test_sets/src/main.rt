@@ -1,6 +1,7 @@
 // Writes three sets, reads each code back and prints what was found, as the second program does.
 #![tactic(auto)]
 
+use desk_refusals::Refusal;
 use sets::Choice;
 use std::io;
 use table_set::{find, part, write};
@@ -46,7 +47,7 @@ fn print_found(rt: &impl Print, set: &[u8], code: u8) -> io::Result<()> {
     println!(rt)
 }
 
-fn print_written(rt: &impl Print, written: Result<(), u8>, set: &[u8]) -> io::Result<()> {
+fn print_written(rt: &impl Print, written: Result<(), Refusal>, set: &[u8]) -> io::Result<()> {
     match written {
         Ok(()) => {
             print_number(rt, " length ", set.len() as u64)?;

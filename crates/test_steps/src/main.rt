@@ -1,6 +1,7 @@
 // Fills each man's table in steps and prints what each step says and the table's checksum after it, as the second program does.
 #![tactic(auto)]
 
+use desk_refusals::Refusal;
 use filling::{Stepped, start_filling, take_step};
 use std::io;
 use table_theory::Progress;
@@ -22,7 +23,7 @@ fn print_line(rt: &impl Print, label: &str, number: u64) -> io::Result<()> {
     println!(rt; "{label}{number}")
 }
 
-fn print_filled(rt: &impl Print, filled: Result<Option<u8>, u8>) -> io::Result<()> {
+fn print_filled(rt: &impl Print, filled: Result<Option<u8>, Refusal>) -> io::Result<()> {
     match filled {
         Ok(Some(depth)) => print!(rt; " done, greatest depth {depth}"),
         Ok(None) => print!(rt; " done, none decided"),

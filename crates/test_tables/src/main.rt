@@ -4,6 +4,7 @@
 
 ghost use Rattle.std.specs.Prelude.{◌<◌, ◌≤◌, length};
 
+use desk_refusals::Refusal;
 use filling::{fill, fill_back, fill_one_back};
 use index::{HALF, TABLE_SIZE};
 use numbering::Material;
@@ -59,7 +60,7 @@ fn print_side(rt: &impl Print, side: &str, half: &[u8]) -> io::Result<()> {
     print_depths(rt, half)
 }
 
-fn print_filled(rt: &impl Print, filled: Result<Option<u8>, u8>) -> io::Result<()> {
+fn print_filled(rt: &impl Print, filled: Result<Option<u8>, Refusal>) -> io::Result<()> {
     match filled {
         Ok(Some(depth)) => print_line(rt, "greatest depth ", depth as u64),
         Ok(None) => println!(rt; "none decided"),
@@ -70,7 +71,7 @@ fn print_filled(rt: &impl Print, filled: Result<Option<u8>, u8>) -> io::Result<(
 fn print_table(
     rt: &impl Print,
     name: &str,
-    filled: Result<Option<u8>, u8>,
+    filled: Result<Option<u8>, Refusal>,
     half: usize,
     table: &[u8],
 ) -> io::Result<()>
@@ -97,13 +98,17 @@ fn print_man_back(rt: &impl Print, kind: u8, name: &str) -> io::Result<()> {
 }
 
 // Bishop and knight by the second fill. The array goes by reference: its length is then its type's, and nobody counts it.
-fn fill_two(bishop: &[u8], knight: &[u8], table: &mut [u8; LARGE_SIZE]) -> Result<Option<u8>, u8> {
+fn fill_two(
+    bishop: &[u8],
+    knight: &[u8],
+    table: &mut [u8; LARGE_SIZE],
+) -> Result<Option<u8>, Refusal> {
     fill_back(Material::Two(2, 3, false), bishop, knight, &mut *table)
 }
 
 fn print_large(
     rt: &impl Print,
-    filled: Result<Option<u8>, u8>,
+    filled: Result<Option<u8>, Refusal>,
     table: &[u8; LARGE_SIZE],
 ) -> io::Result<()> {
     print_table(rt, "KBNK", filled, LARGE_SIZE / 2, table)

@@ -14,12 +14,9 @@ fn with_digit(number: u32, digit: u8) -> u32 {
 }
 
 fn answer(rt: &impl Print, number: u32) -> io::Result<()> {
-    let written = write_number(number);
-    let refusal = written.refusal;
-    if refusal == 0 {
-        rt.write_all(&written.digits)?;
-    } else {
-        print!(rt; "refused {refusal}")?;
+    match write_number(number) {
+        Ok(digits) => rt.write_all(&digits)?,
+        Err(refusal) => print!(rt; "refused {refusal}")?,
     }
     println!(rt)
 }

@@ -8,7 +8,17 @@ use Rattle.index.specs.Answers.{placed_at, position_at}
 use Rattle.lines.specs.declared.Request.{Request}
 use Rattle.lines.specs.Grammar.{kind_named, request_of}
 use Rattle.lines.specs.Typed.{RightLine}
-use Rattle.typed.specs.declared.Written.{Written}
+use Rattle.desk_refusals.specs.declared.Refusal.{Refusal}
+use Rattle.desk_refusals.specs.Numbers.{number_of}
+
+-- refusal 0 and the bytes of seven digits, or a refusal and seven zero bytes
+pub record Written : Type 0 where
+  pub refusal : ℕ
+  pub digits : List ℕ
+
+abbrev pub written_as : Result (List ℕ) Refusal → Written
+written_as (Ok ds) = record { refusal = 0; digits = ds }
+written_as (Err r) = record { refusal = number_of r; digits = replicate 7 0 }
 
 -- by what numbering back answers: its refusal and seven zero bytes, or refusal 0 and the bytes of the seven digits
 unfoldable pub written_by : ℕ → Result Position ℕ → Written

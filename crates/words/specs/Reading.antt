@@ -5,7 +5,7 @@ use Rattle.std.specs.Prelude.{◌≡◌, Bool, cond, List, ℕ, ◌^◌, ◌≤�
 use Rattle.rules.specs.Rules.{piece_of, promotion_of}
 use Rattle.answers.specs.declared.Answer.{Answer}
 use Rattle.answers.specs.declared.Checked.{Checked}
-use Rattle.fifty.specs.declared.Marked.{Marked}
+use Rattle.fifty.specs.Marks.{Marked}
 use Rattle.numbering.specs.declared.Material.{Material}
 use Rattle.position.specs.declared.Position.{Position}
 use Rattle.position.specs.Keyed.{lone, man_square}

@@ -3,7 +3,7 @@ use Rattle.rules.specs.declared.Move.{Move}
 use Rattle.std.specs.Prelude.{ℕ, ◌+◌, ◌*◌, ◌^◌, Err, None, Ok, Option, Result, Some}
 use Rattle.answers.specs.declared.Answer.{Answer}
 use Rattle.answers.specs.declared.Checked.{Checked}
-use Rattle.fifty.specs.declared.Marked.{Marked}
+use Rattle.fifty.specs.Marks.{Marked}
 use Rattle.position.specs.declared.Position.{Position}
 use Rattle.position.specs.Keyed.{man_in, man_square}
 pub use Rattle.move_bytes.specs.MoveBytes.{flag_of}

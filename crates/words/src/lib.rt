@@ -6,29 +6,32 @@ mod version;
 
 ghost use Rattle.std.specs.Prelude.{◌≡◌, ◌+◌, ◌*◌, ◌^◌, ◌≤◌, ◌<◌};
 ghost use Rattle.words.specs.Words.{number_word, placed_word, count_word, filled_word, checked_word, advice_word, answer_word, marked_word};
+ghost use Rattle.desk_refusals.specs.Numbers.{by_number};
+ghost use Rattle.fifty.specs.Marks.{marked_as};
 
 use answers::{Answer, Checked};
+use desk_refusals::Refusal;
 use fifty::Marked;
 pub use played::played_word;
 use position::{Position, man_in};
 use rules::Move;
 pub use version::version_word;
 
-pub fn number_word(n: Result<u32, u8>) -> u32
-    ensures { result ≡ number_word n }
+pub fn number_word(n: Result<u32, Refusal>) -> u32
+    ensures { result ≡ number_word (by_number n) }
 {
     match n {
         Ok(k) => k,
-        Err(k) => 0x8000_0000 + k as u32,
+        Err(r) => 0x8000_0000 + r.number() as u32,
     }
 }
 
-pub fn placed_word(p: Result<Position, u8>) -> u64
-    ensures { result ≡ placed_word p }
+pub fn placed_word(p: Result<Position, Refusal>) -> u64
+    ensures { result ≡ placed_word (by_number p) }
 {
     match p {
         Ok(at) => position_word(at),
-        Err(k) => k as u64,
+        Err(r) => r.number() as u64,
     }
 }
 
@@ -51,32 +54,32 @@ fn position_word(p: Position) -> u64
     ])
 }
 
-pub fn count_word(n: Result<u8, u8>) -> u32
-    ensures { result ≡ count_word n }
+pub fn count_word(n: Result<u8, Refusal>) -> u32
+    ensures { result ≡ count_word (by_number n) }
 {
     match n {
         Ok(k) => k as u32 * 0x100,
-        Err(k) => k as u32,
+        Err(r) => r.number() as u32,
     }
 }
 
-pub fn filled_word(f: Result<Option<u8>, u8>) -> u32
-    ensures { result ≡ filled_word f }
+pub fn filled_word(f: Result<Option<u8>, Refusal>) -> u32
+    ensures { result ≡ filled_word (by_number f) }
 {
     match f {
         Ok(Some(n)) => 0x100 + n as u32 * 0x1_0000,
         Ok(None) => 0,
-        Err(k) => k as u32,
+        Err(r) => r.number() as u32,
     }
 }
 
-pub fn checked_word(c: Result<Checked, u8>) -> u64
-    ensures { result ≡ checked_word c }
+pub fn checked_word(c: Result<Checked, Refusal>) -> u64
+    ensures { result ≡ checked_word (by_number c) }
 {
     match c {
         Ok(Checked::Accepted) => 0,
         Ok(Checked::Wrong(n)) => 0x100 + n as u64 * 0x1_0000_0000,
-        Err(k) => k as u64,
+        Err(r) => r.number() as u64,
     }
 }
 
@@ -103,19 +106,19 @@ fn value_word(value: u8, depth: u8, a: Option<Move>) -> u64
     u64::from(value) * 0x100 + u64::from(depth) * 0x1_0000 + advice_word(a)
 }
 
-fn answer_word(a: Result<Answer, u8>) -> u64
-    ensures { (result ≡ answer_word a) × (result < 255 * 2 ^ 56 + 2 ^ 50) }
+fn answer_word(a: Result<Answer, Refusal>) -> u64
+    ensures { (result ≡ answer_word (by_number a)) × (result < 255 * 2 ^ 56 + 2 ^ 50) }
 {
     match a {
         Ok(Answer::Win(n, advice)) => value_word(1, n, advice),
         Ok(Answer::Loss(n, advice)) => value_word(2, n, advice),
         Ok(Answer::Draw(advice)) => value_word(3, 0, advice),
-        Err(k) => k as u64,
+        Err(r) => r.number() as u64,
     }
 }
 
 pub fn marked_word(m: Marked) -> u64
-    ensures { result ≡ marked_word m }
+    ensures { result ≡ marked_word (marked_as m) }
 {
     let answer = m.answer;
     answer_word(answer) + u64::from(m.within_fifty) * 0x200_0000

@@ -1,5 +1,6 @@
 -- `adjudication::look_up_line` meets its contract.
-use mathlib.Core.Path.{ap}
+use mathlib.Core.Path.{ap, sym, ◌∙◌}
+use Rattle.desk_refusals.proofs.laws.Numbers.{none-refused, some-number, some-refused}
 use borrow.Author.Rules.{rules}
 use Rattle.rules.specs.declared.Piece.{Piece}
 use Rattle.adjudication.proofs.laws.Laws.{refused-position, held-position, filled-position}
@@ -10,10 +11,10 @@ returns-then-kind-held c =
     held-position _ _ _ _ c.man_in-man.ensures _ _
     c.if-kind-held.true c.look_up.ensures c.answer_slip.ensures
 
-pub returns-then-refusal-ne0 : goal.returns-then-refusal-ne0
-returns-then-refusal-ne0 c =
-    refused-position _ _ _ _ c.man_in-man.ensures _
-    c.standing_refusal-refusal.ensures _ c.if-refusal-ne0.true c.answer_slip-then-refusal-ne0.ensures
+pub returns-in-Err : goal.returns-in-Err
+returns-in-Err c =
+    let e = sym (some-refused _ _ c.in-Err.is) ∙ c.standing_refusal.ensures in
+    refused-position _ _ _ _ c.man_in-man.ensures _ e _ (some-number _) c.answer_slip-in-Err.ensures
 
 pub after_fill-requires : goal.after_fill-requires
 after_fill-requires c = ap (λ (m : Piece). m.kind) c.man_in-man.ensures
@@ -21,12 +22,12 @@ after_fill-requires c = ap (λ (m : Piece). m.kind) c.man_in-man.ensures
 pub shape_of-table : goal.shape_of-table
 shape_of-table c = c.fill_one_back-filled.auto.table
 
-pub returns : goal.returns
-returns c =
+pub returns-in-Ok : goal.returns-in-Ok
+returns-in-Ok c =
     filled-position _ _ _ _
     c.man_in-man.ensures _
-    c.standing_refusal-refusal.ensures _ _ _
-    c.if-refusal-ne0.false
+    c.standing_refusal.ensures _ _ _
+    (none-refused _ _ c.in-Ok.is)
     c.if-kind-held.false
     c.fill_one_back-filled.ensures.answered
     c.fill_one_back-filled.ensures.left c.after_fill.ensures

@@ -39,8 +39,7 @@ use Rattle.four_men.proofs.laws.Materials.{lone-material}
 use Rattle.four_men.proofs.laws.Turned.{known_of}
 use Rattle.four_men.proofs.laws.Checking.{accepted-with}
 use Rattle.four_men.proofs.laws.Games.{games-with}
-use Rattle.fifty.specs.declared.Marked.{Marked}
-use Rattle.fifty.specs.Marks.{marks, is_refused, at_count, look_up_at, look_up_at_with}
+use Rattle.fifty.specs.Marks.{Marked, marks, is_refused, at_count, look_up_at, look_up_at_with}
 use Rattle.fifty.specs.FiftyPromise.{zeroing, answer_at, answer_at_with, move_at, counted_move, counted_move_with, PlaysBy, PlaysCounted, PlaysCountedWith, ClearBy, Pawnless, Timely, Within, CountsPromise, FiftyPromise, FiftyPromiseWith}
 use Rattle.fifty.proofs.laws.Pawnless.{both_of, within-at, keyed-pawnless, stays-pawnless}
 

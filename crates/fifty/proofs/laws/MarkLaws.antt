@@ -5,8 +5,7 @@ use Rattle.std.proofs.Common.{ap, ◌∙◌}
 use Rattle.std.proofs.Math.Bool.{true, false}
 use borrow.Author.Tests.{lt-ltb, le-ltb}
 use Rattle.answers.specs.declared.Answer.{Answer}
-use Rattle.fifty.specs.declared.Marked.{Marked}
-use Rattle.fifty.specs.Marks.{marks, is_refused, at_count, marked_for}
+use Rattle.fifty.specs.Marks.{Marked, marks, is_refused, at_count, marked_for}
 
 module _ (c : ℕ) (a : Result Answer ℕ) (r : Bool) (e : r ≡ is_refused a) where
   pub kept-refused : r ≡ true → a ≡ at_count c a

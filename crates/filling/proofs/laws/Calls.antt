@@ -18,9 +18,7 @@ use Rattle.four_men.specs.Reading.{numbered, holds_depth}
 use Rattle.four_men.specs.Answers.{lengths_fit}
 use Rattle.four_men.specs.Steps.{Call, nothing, start_with, step_with}
 use Rattle.four_men.proofs.laws.Steps.{step-with-is}
-use Rattle.filling.specs.declared.steps.Stepped.{Stepped}
-use Rattle.filling.specs.declared.steps.Step.{Step}
-use Rattle.filling.specs.Steps.{Hands, taken_of, refusing}
+use Rattle.filling.specs.Steps.{Stepped, Step, Hands, taken_of, refusing}
 use Rattle.filling.specs.Handed.{handed}
 use Rattle.working_back.specs.Admitted.{over, Admitted}
 use Rattle.working_back.proofs.laws.Admitted.{admitted_of}

@@ -11,8 +11,7 @@ use Rattle.numbering.specs.declared.Material.{Material}
 use Rattle.four_men.specs.Lending.{Lent, lent}
 use Rattle.four_men.specs.Steps.{Call, start_with, step_with}
 use Rattle.four_men.proofs.laws.Alone.{start-alone, step-alone}
-use Rattle.filling.specs.declared.steps.Step.{Step}
-use Rattle.filling.specs.Steps.{Taken, Hands, taken_of, refused, admitted, none_deeper, start_of, step_of}
+use Rattle.filling.specs.Steps.{Step, Taken, Hands, taken_of, refused, admitted, none_deeper, start_of, step_of}
 use Rattle.filling.specs.Handed.{handed}
 
 -- the refusals are asked alike

@@ -13,9 +13,7 @@ use Rattle.table_theory.specs.Steps.{going_on, said_done, gave_ten, settled_by, 
 use Rattle.table_theory.proofs.laws.StepLaws.{settled-some, step-done, step-more, step_skip, step-deep, from-going, from-done, from-ten}
 use Rattle.rules.specs.Chess.{chess}
 use Rattle.endings.specs.Answers.{result_of}
-use Rattle.filling.specs.declared.steps.Stepped.{Stepped}
-use Rattle.filling.specs.declared.steps.Step.{Step}
-use Rattle.filling.specs.Steps.{Taken, Hands, taken_of, refusing}
+use Rattle.filling.specs.Steps.{Stepped, Step, Taken, Hands, taken_of, refusing}
 use Rattle.filling.specs.Stepping.{deeper_than, last_of, step_over}
 use Rattle.working_back.specs.Trying.{Ready}
 use Rattle.filling.proofs.laws.Laws.{passed_none}

@@ -10,8 +10,7 @@ use Rattle.table_theory.proofs.laws.StepLaws.{step-done, step-more, from-going, 
 use Rattle.rules.specs.Chess.{chess}
 use Rattle.endings.specs.Ending.{table_size, ending}
 use Rattle.endings.specs.Answers.{result_of}
-use Rattle.filling.specs.declared.steps.Stepped.{Stepped}
-use Rattle.filling.specs.Steps.{Taken, taken_of, admitted, none_deeper, start_of, step_alone, step_of}
+use Rattle.filling.specs.Steps.{Stepped, Taken, taken_of, admitted, none_deeper, start_of, step_alone, step_of}
 
 pub size_is : (kind : ℕ) → (ending kind).size ≡ table_size
 unfolding ending

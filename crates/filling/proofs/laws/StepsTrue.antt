@@ -37,9 +37,8 @@ use Rattle.endings.specs.Ending.{Ending, table_size, lone_board_at, legal_number
 use Rattle.endings.proofs.laws.EndingLaws.{Turned, turned-alike, lawful, outer-true, outer-drawn}
 use Rattle.endings.proofs.laws.Checking.{keyed-lone, keyed-ending}
 use Rattle.endings.specs.Answers.{result_of, Fill, fill_of}
-use Rattle.filling.specs.declared.steps.Stepped.{Stepped}
 use Rattle.filling.proofs.laws.Laws.{passed_none}
-use Rattle.filling.specs.Steps.{Taken, said_of, taken_of, refused, admitted, none_deeper, start_of, step_alone, step_of, steps_of, settled_of}
+use Rattle.filling.specs.Steps.{Stepped, Taken, said_of, taken_of, refused, admitted, none_deeper, start_of, step_alone, step_of, steps_of, settled_of}
 use Rattle.filling.proofs.laws.StepLaws.{size_is, start_is, step_is, step-going, alone-done, alone-more}
 
 -- ---- on any bytes

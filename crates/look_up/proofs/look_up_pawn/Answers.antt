@@ -1,4 +1,6 @@
 -- `look_up::look_up_pawn` meets its contract.
+use Rattle.std.proofs.lemmas.Result.{err_from_is_err_and}
+use Rattle.desk_refusals.proofs.laws.Numbers.{handed-on, none-refused}
 use mathlib.Core.Path.{refl, sym, ap, ◌∙◌}
 use Prim.Native.Nat.{ℕ}
 use native.Mathlib.Omega.{arith}
@@ -11,21 +13,22 @@ use Rattle.look_up.proofs.laws.Checked.{placing-stands, check-stands, none-stand
 use Rattle.look_up.proofs.laws.Laws.{of-pawn, refused-standing, refused-length, told-answer, fit_of}
 use Rattle.look_up.proofs.look_up_pawn.Goals as goal
 
-pub returns-then-refusal-ne0 : goal.returns-then-refusal-ne0
-returns-then-refusal-ne0 c =
-    λ k.
-    refused-standing _ _ _ _ (placing-stands _ _ c.placing_with-refusal.ensures c.if-refusal-ne0.true) c.if-refusal-ne0.true
+pub returns-in_err-placing_with : goal.returns-in_err-placing_with
+returns-in_err-placing_with c =
+    let p = err_from_is_err_and c.from_residual.result c.from_residual.ensures.1 in
+    let x = handed-on _ _ _ _ _ c.in_err-placing_with.was c.placing_with.ensures p.1 p.2 in
+    λ k. x.0 ∙ refused-standing _ _ _ _ (placing-stands _ _ refl x.2) x.2
 
 pub returns-then-in_check : goal.returns-then-in_check
 returns-then-in_check c =
-    let z = sym c.placing_with-refusal.ensures ∙ c.if-refusal-ne0.false in
+    let z = sym c.placing_with.ensures ∙ (none-refused _ _ c.in_ok-placing_with.was) in
     λ k. refused-standing _ _ _ 6
     (check-stands _ z _ (c.in_check.ensures ∙ ap (in_check _) c.other.ensures) c.if-in_check.true)
     (λ e. omega arith)
 
 pub returns-then-not-lengths_fit : goal.returns-then-not-lengths_fit
 returns-then-not-lengths_fit c =
-    let z = sym c.placing_with-refusal.ensures ∙ c.if-refusal-ne0.false in
+    let z = sym c.placing_with.ensures ∙ (none-refused _ _ c.in_ok-placing_with.was) in
     λ k. refused-length _ _ _
     (none-stands _ z _ (c.in_check.ensures ∙ ap (in_check _) c.other.ensures) c.if-in_check.false) _
     (λ y. pawn-place-told _ _ refl k y _ c.pawn_normal_place-normal.ensures) _
@@ -34,7 +37,7 @@ returns-then-not-lengths_fit c =
 
 pub returns : goal.returns
 returns c =
-    let z = sym c.placing_with-refusal.ensures ∙ c.if-refusal-ne0.false in
+    let z = sym c.placing_with.ensures ∙ (none-refused _ _ c.in_ok-placing_with.was) in
     let own = c.pawn_normal_place-normal.ensures in
     λ k. told-answer _ _ _
     (none-stands _ z _ (c.in_check.ensures ∙ ap (in_check _) c.other.ensures) c.if-in_check.false) _

@@ -1,5 +1,5 @@
 -- The answers by what code has found: a refusal, or none and the moves.
-use Rattle.std.specs.Prelude.{◌≡◌, true, false, [], ℕ, eqb, Err, Ok}
+use Rattle.std.specs.Prelude.{◌≡◌, true, false, [], ℕ, eqb, Err, Ok, Result, refl}
 use Rattle.std.proofs.Math.Path.{sym, ap}
 use Rattle.std.proofs.Common.{ap₂, ◌∙◌, eq-eqb, ne_eqb}
 use Rattle.std.proofs.Math.ListN.{length}
@@ -7,11 +7,12 @@ use Rattle.rules.specs.Rules.{all_moves}
 use Rattle.position.specs.declared.Position.{Position}
 use Rattle.position.specs.Keyed.{board_of}
 use Rattle.position.specs.Refusals.{standing_with}
+use Rattle.desk_refusals.specs.declared.Refusal.{Refusal}
+use Rattle.desk_refusals.specs.Numbers.{number_of, refused}
 use Rattle.move_list.specs.declared.MoveList.{MoveList}
-use Rattle.move_list.specs.declared.Listed.{Listed}
 use Rattle.move_list.specs.Lists.{list_of}
 use Rattle.move_list.proofs.laws.Served.{served-moves}
-use Rattle.move_list.specs.Answers.{moves_of, listed, count_answer, Counts}
+use Rattle.move_list.specs.Answers.{Listed, listed_as, moves_of, listed, count_answer, Counts}
 
 -- an answer from its two fields
 listed-eq : {r r' : ℕ} {l l' : MoveList} → r ≡ r' → l ≡ l'
@@ -57,3 +58,10 @@ module _ (p : Position) (r : ℕ) (e : r ≡ standing_with p) where
               ∙ e;
           count = rw all-moves q;
         }
+
+-- a refusal handed on, as what the list's answer is by number
+pub listed-refused : (p : Position) (r : Result MoveList Refusal) (d : Refusal) → r ≡ Err d → refused r ≡ standing_with p
+    → (standing_with p ≡ 0 → ⊥) → listed_as r ≡ listed p
+listed-refused p r d f k n =
+    let m = sym (ap refused f) ∙ k in
+    ap listed_as f ∙ refused-list p (number_of d) m (λ z. n (sym m ∙ z)) (list_of []) refl

@@ -19,9 +19,7 @@ use Rattle.four_men.specs.Lending.{Lent, borrowed}
 use Rattle.four_men.specs.Reading.{numbered, holds_depth}
 use Rattle.four_men.specs.Answers.{lengths_fit}
 use Rattle.four_men.specs.Steps.{Call, nothing, start_with, step_with}
-use Rattle.filling.specs.declared.steps.Step.{Step}
-use Rattle.filling.specs.declared.steps.Stepped.{Stepped}
-use Rattle.filling.specs.Steps.{Taken, Hands, said_of, settled_of}
+use Rattle.filling.specs.Steps.{Stepped, Step, Taken, Hands, said_of, settled_of}
 use Rattle.filling.specs.Handed.{handed}
 use Rattle.sledgewren.specs.StepWord.{progress_of, progress_word, said_word, step_word, start_for, step_for}
 

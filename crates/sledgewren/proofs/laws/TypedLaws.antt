@@ -2,7 +2,7 @@
 use Rattle.std.specs.Prelude.{◌≡◌, List, [], ◌∷◌, ℕ, ◌+◌, ◌*◌, length, get_or, drop}
 use Rattle.std.proofs.Common.{ap, sym, ◌∙◌, arith, drop-cons}
 use Rattle.std.proofs.Math.Seq.{drop-length}
-use Rattle.typed.specs.declared.Written.{Written}
+use Rattle.typed.specs.Writing.{Written}
 use Rattle.sledgewren.specs.TypedWord.{bytes_word, written_word}
 
 pub seven-list : (ds : List ℕ) → length ds ≡ 7

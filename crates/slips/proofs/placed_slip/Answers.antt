@@ -8,4 +8,4 @@ returns-in-Ok c = rw c.in-Ok.is c.position_slip.ensures
 
 pub returns-in-Err : goal.returns-in-Err
 unfolding placed_text placed_slip refused_slip
-returns-in-Err c = rw c.in-Err.is c.refused_slip.ensures
+returns-in-Err c = rw (c.in-Err.is, ← c.number.ensures) c.refused_slip.ensures

@@ -10,8 +10,7 @@ use Rattle.index.proofs.laws.AnswerLaws.{placed-above, placed-unused, placed-use
 use Rattle.lines.specs.Grammar.{kind_named}
 use Rattle.lines.specs.Typed.{number_line}
 use Rattle.lines.proofs.laws.WrittenLines.{written-line, written-request, no-space}
-use Rattle.typed.specs.declared.Written.{Written}
-use Rattle.typed.specs.Writing.{written_by, written_of, typed_line, LeadsBack}
+use Rattle.typed.specs.Writing.{Written, written_by, written_of, typed_line, LeadsBack}
 
 -- ---- for the code: by what numbering back answers
 

@@ -24,7 +24,7 @@ use Rattle.four_men.specs.Answers.{check_with}
 use Rattle.four_men.specs.Truth.{TrueAnswerIn}
 use Rattle.four_men.specs.GamePromise.{table_then, desk_move_with}
 use Rattle.four_men.proofs.laws.Parts.{part-byte}
-use Rattle.fifty.specs.declared.Marked.{Marked}
+use Rattle.fifty.specs.Marks.{Marked}
 use Rattle.fifty.specs.FiftyPromise.{answer_at_with, counted_move_with, PlaysCountedWith, ClearBy, Within}
 use Rattle.fifty.proofs.laws.FiftyGames.{counted-desk-with, fifty-games-with}
 use Rattle.words.specs.Words.{checked_word}

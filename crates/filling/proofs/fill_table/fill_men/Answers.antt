@@ -1,5 +1,7 @@
 -- `filling::fill_men` meets its contract. The loop's invariant: the passes left, from the table as it stands, give what
 -- all passes give.
+use Rattle.filling.specs.Steps.{said_as}
+use mathlib.Core.Path.{ap}
 use mathlib.Core.Path.{refl, ◌∙◌}
 use native.Mathlib.Omega.{arith}
 use Rattle.working_back.specs.Admitted.{over}
@@ -38,7 +40,7 @@ returns-in-Says c =
     let i = c.loop-end.invariant in
     let d = c.deepest_lent-deepest.ensures in
     let w = step-ended (over c.args.m c.args.first.now c.args.second.now) _ _ _ _ i.0 d.small i.2
-    _ _ c.step_at-step.ensures _ c.in-Says.is in
+    _ _ c.step_at-step.ensures _ (ap said_as c.in-Says.is) in
     filled-so c.args.m c.args.first.now c.args.second.now _ _ c.start.ensures _ c.loop-end.k
     c.loop-end.last _ _ _ d i.3 w
 
@@ -49,14 +51,14 @@ pub loop-end-smaller : goal.loop-end-smaller
 loop-end-smaller c =
     let i = c.loop-end.invariant in
     let w = step_went (over c.args.m c.args.first.now c.args.second.now) _ _ _ _ i.0
-    c.deepest_lent-deepest.ensures.small i.2 _ _ c.step_at-step.ensures _ c.in-Settled.is in
+    c.deepest_lent-deepest.ensures.small i.2 _ _ c.step_at-step.ensures _ (ap said_as c.in-Settled.is) in
     omega (arith, w.below)
 
 pub loop-end-preserved : goal.loop-end-preserved
 loop-end-preserved c =
     let i = c.loop-end.invariant in
     let w = step_went (over c.args.m c.args.first.now c.args.second.now) _ _ _ _ i.0
-    c.deepest_lent-deepest.ensures.small i.2 _ _ c.step_at-step.ensures _ c.in-Settled.is in (
+    c.deepest_lent-deepest.ensures.small i.2 _ _ c.step_at-step.ensures _ (ap said_as c.in-Settled.is) in (
       omega (arith, w.below),
       c.step_at-step.auto.table
           ∙ i.1,
