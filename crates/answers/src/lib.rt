@@ -11,7 +11,7 @@ pub enum Answer {
     Draw(Option<Move>),
 }
 
-// What checking says: accepted, the lowest wrong number, or a refusal.
+// What checking says: accepted, or the lowest wrong number. An enum: an option would call an accepted table none.
 #[derive(Clone, Copy)]
 pub enum Checked {
     Accepted,

@@ -10,6 +10,7 @@ use super::steps::{ends_of, step_at, stepped};
 use constants::{king_steps, knight_steps};
 
 // The squares of the lines in the directions `first` up to `end`: a line stops at the first piece it meets.
+// A labelled loop over directions and steps, as 01 shapes it.
 fn lines(occ: u64, from: u8, first: u8, end: u8) -> u64
     requires { (from < 64) × (end ≤ 8) }
     ensures { (t : ℕ) → t < 64 → holds result t ≡ any (line_of (holds occ) 0 from t) (numbers (end - first) first) }

@@ -11,6 +11,7 @@ use super::sets::{has, lowest, with};
 use super::steps::{ends_of, step_at, stepped};
 
 // The first occupied square after `from` in one direction; none where the edge comes first. The rook's directions are 0 to 3, the bishop's 4 to 7.
+// A loop: a step at a time, and how many is not known before.
 pub fn walk(occ: u64, from: u8, direction: u8) -> Option<u8>
     ensures { result ≡ walk_of (holds occ) from direction }
 {

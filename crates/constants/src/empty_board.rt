@@ -1,4 +1,5 @@
-// The squares that a piece attacks on the empty board, a constant for each square.
+// The squares that a piece attacks on the empty board, a constant for each square. A `match` for each table: an array is
+// built anew at each read.
 ghost use Rattle.std.specs.Prelude.{◌≡◌, get_or};
 ghost use Rattle.constants.specs.EmptyBoard.{king_steps, knight_steps, rook_lines, bishop_lines};
 

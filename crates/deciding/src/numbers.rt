@@ -65,6 +65,7 @@ pub fn legal_in(m: Men, row: Place, n: u32) -> Option<Place>
 }
 
 // Whether there is one.
+// As successors has it for pieces alone: the same two arms over another answer.
 pub fn is_legal_number(m: Men, n: u32) -> bool
     ensures { T (given (material_for m)) → m.colour < 2 → n < size_of (material_for m) → result ≡ legal_number_of (material_for m) n }
 {

@@ -14,7 +14,7 @@ use fields::{as_white, colour_code, man_code, number_in, side_code, square_named
 use position::{Position, one_man};
 use shape::shaped;
 
-// What a line asks: to look a position up, or for the position of a man's number; or its refusal. A wrong byte in a position's part puts it out of
+// What a line asks: to look a position up, or for the position of a man's number. A wrong byte in a position's part puts it out of
 // range, and the position is refused with it.
 #[derive(Clone, Copy)]
 pub enum Request {

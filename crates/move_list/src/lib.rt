@@ -16,6 +16,7 @@ pub use promoting::promoting_set;
 pub const ROOM: usize = 62;
 
 // The moves, in order; the places from `count` on hold zero.
+// An array beside its count, as 01 shapes it.
 #[derive(Clone, Copy)]
 pub struct MoveList {
     pub moves: [Move; ROOM],

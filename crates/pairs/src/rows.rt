@@ -6,6 +6,7 @@ ghost use Rattle.numbering.specs.Kings.{pair_of};
 ghost use Rattle.pairs.specs.Rows.{partners_of, first_of};
 
 // The black king's squares that form a pair with the white king's.
+// A `match`, as `first_of` below: an array is built anew at each read.
 pub fn partners_of(white: u8) -> u64
     ensures { result ≡ partners_of white }
 {

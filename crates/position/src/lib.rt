@@ -38,7 +38,8 @@ pub struct Men {
     pub colour: u8,
 }
 
-// Where an ending's pieces stand: five bytes, 64 for a man who has been taken or is not there.
+// Where an ending's pieces stand: five bytes, 64 for a man who has been taken or is not there: a square that no set holds,
+// so that no test asks first whether he is there.
 #[derive(Clone, Copy)]
 pub struct Place {
     pub side: u8,

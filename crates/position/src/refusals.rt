@@ -36,6 +36,7 @@ fn bad_men_of(first: Option<Piece>, second: Option<Piece>) -> bool
 }
 
 // Whether a man is of neither side.
+// Each test of a slot by itself: one over a closure is no plainer.
 fn is_foreign(slot: Option<Piece>) -> bool
     ensures { result ≡ slot_foreign slot }
 {

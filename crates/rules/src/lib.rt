@@ -10,6 +10,7 @@ ghost use Rattle.rules.specs.Rules.{move_of, promotion_of};
 pub use pawn::{pawn_goes, pawn_hits};
 
 // A piece on a square. Kinds: queen 0, rook 1, bishop 2, knight 3, pawn 4, king 5. Colours: White 0, Black 1.
+// Numbers, since a position is keyed from any bytes, of which refusals 1 and 2 speak.
 #[derive(Clone, Copy)]
 pub struct Piece {
     pub kind: u8,

@@ -30,6 +30,7 @@ pub fn won_within(s: Position, k: u8) -> bool
 }
 
 // Lost within k plies: it is mate, or there are moves and each leaves the other side won within k - 1. Leaves at the first that does not.
+// Not one with the search for a win: this asks mate and stalemate first, and goes over all targets.
 #[cycle(lost_within_won_within)]
 pub fn lost_within(s: Position, k: u8) -> bool
     ensures { Pawnless (board_of s) → result ≡ lost chess k (board_of s) }

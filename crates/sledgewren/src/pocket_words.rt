@@ -7,6 +7,7 @@ ghost use Rattle.desk_refusals.specs.Numbers.{by_number};
 use desk_refusals::Refusal;
 use pocket::{PocketAnswer, Tallies};
 
+// Each answer has its word, by two or three arms: over another type, no shared form is plainer.
 pub fn packed_word(p: Result<(), Refusal>) -> u32
     ensures { result ≡ packed_word (by_number p) }
 {

@@ -1,5 +1,5 @@
 // The functions that C calls (include/sledgewren.h), for the archive: each calls the library's function of its name, and
-// promises what that one promises.
+// promises what that one promises. One export for each name that C knows.
 #![tactic(auto)]
 
 mod desk;

@@ -15,6 +15,7 @@ use rules::Move;
 use writing::{blank, with_byte, with_number, with_square, with_text};
 
 // The line is the first `len` bytes; the rest are zero.
+// An array beside its count: no heap.
 #[derive(Clone, Copy)]
 pub struct Slip {
     pub bytes: [u8; 16],
@@ -43,6 +44,7 @@ pub fn answer_slip(a: Result<Answer, Refusal>) -> Slip
 }
 
 // The slip of numbering back's answer.
+// The same two arms as above, over another value.
 pub fn placed_slip(p: Result<Position, Refusal>) -> Slip
     ensures { result ≡ padded (placed_slip (by_number p)) }
 {

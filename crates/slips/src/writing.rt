@@ -15,6 +15,7 @@ pub fn blank() -> Slip
     }
 }
 
+// By index: what a slice ends as behind `get_mut` is not known.
 #[tactic(auto, unfolding(crate::specs::Appending::pushed))]
 pub fn with_byte(s: Slip, byte: u8) -> Slip
     ensures { result ≡ pushed s byte }

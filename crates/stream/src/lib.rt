@@ -10,6 +10,7 @@ use slips::Slip;
 
 // What is kept from byte to byte: the unfinished line, the man whose table is held, and how much of the output waits.
 // Of a line the first 13 bytes are kept: any longer one has another length too.
+// An array beside its count: no heap.
 #[derive(Clone, Copy)]
 pub struct State {
     pub line: [u8; 13],
@@ -41,6 +42,7 @@ pub fn flushed(state: State) -> State
 }
 
 // The state with one byte more of its line.
+// By index: what a slice ends as behind `get_mut` is not known.
 #[tactic(auto, unfolding(crate::specs::Keeping::with_byte))]
 fn with_byte(state: State, b: u8) -> State
     ensures { result ≡ with_byte state b }

@@ -54,6 +54,7 @@ pub enum Weighed {
 }
 
 // The verdict on a byte: it is not the one required; or it is, with the move that it advises.
+// An enum: in an option of an option nobody sees which of the two is missing.
 #[derive(Clone, Copy)]
 pub enum Verdict {
     Wrong,

@@ -2,6 +2,7 @@
 // settled, and 0 where none was.
 #![tactic(auto)]
 
+// A word of C, in which the stage is any number.
 #[derive(Clone, Copy)]
 pub struct Progress {
     pub stage: u8,

@@ -11,6 +11,7 @@ fn folded(sum: u64, byte: u8) -> u64 {
     (sum % 1000000007 * 31 + byte as u64) % 1000000007
 }
 
+// In each of four programs: a shared one would need a crate of its own.
 fn checksum(bytes: &[u8]) -> u64 {
     let mut sum: u64 = 1;
     for byte in bytes {

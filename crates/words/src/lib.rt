@@ -26,6 +26,7 @@ pub fn number_word(n: Result<u32, Refusal>) -> u32
     }
 }
 
+// Each answer has its word, by two or three arms: over another type, no shared form is plainer.
 pub fn placed_word(p: Result<Position, Refusal>) -> u64
     ensures { result ≡ placed_word (by_number p) }
 {

@@ -1,4 +1,5 @@
-// A pass that works back from the positions just settled, for pieces.
+// A pass that works back from the positions just settled, for pieces. The men and the lent tables go as three parameters:
+// in a struct of references each clause reads through two fields more.
 #![tactic(auto)]
 
 mod back;

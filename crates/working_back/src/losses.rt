@@ -17,6 +17,7 @@ use successors::frame_for;
 const KING: u8 = 5;
 
 // Tries the positions with the mover's king put back.
+// Apart from a man: the king has no line, and no early ways out.
 fn lose_king(
     m: Men,
     k: u8,
