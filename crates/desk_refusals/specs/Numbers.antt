@@ -23,10 +23,14 @@ number_of Refusal.NotAccepted = 17
 number_of Refusal.BadPawn = 18
 number_of Refusal.TooManyQuiet = 19
 
+-- an answer with what stands for its refusal by number
+abbrev pub numbered : {A R : Type 0} → (R → ℕ) → Result A R → Result A ℕ
+numbered f (Ok x) = Ok x
+numbered f (Err r) = Err (f r)
+
 -- an answer with its refusal by number
 abbrev pub by_number : {A : Type 0} → Result A Refusal → Result A ℕ
-by_number (Ok x) = Ok x
-by_number (Err r) = Err (number_of r)
+by_number r = numbered number_of r
 
 -- what is refused, by number; 0 where nothing is
 abbrev pub refused : {A : Type 0} → Result A Refusal → ℕ

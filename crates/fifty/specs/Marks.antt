@@ -9,7 +9,8 @@ use Rattle.answers.specs.declared.Answer.{Answer}
 use Rattle.endings.specs.Answers.{look_up_of}
 use Rattle.four_men.specs.Lending.{Lent}
 use Rattle.four_men.specs.Answers.{look_up_with}
-use Rattle.desk_refusals.specs.Numbers.{by_number}
+use Rattle.desk_refusals.specs.declared.Refusal.{Refusal}
+use Rattle.desk_refusals.specs.Numbers.{number_of, numbered}
 use Rattle.fifty.specs.declared.Marked as declared
 
 -- "Mark a win or a loss as 'within fifty' when that count plus the depth is at most 100"; "never on a draw"
@@ -42,8 +43,11 @@ pub record Marked : Type 0 where
   pub answer : Result Answer ℕ
   pub within_fifty : Bool
 
-abbrev pub marked_as : declared.Marked → Marked
-marked_as m = record { answer = by_number m.answer; within_fifty = m.within_fifty }
+abbrev pub marked_by : {R : Type 0} → (R → ℕ) → declared.Marked R → Marked
+marked_by f m = record { answer = numbered f m.answer; within_fifty = m.within_fifty }
+
+abbrev pub marked_as : declared.Marked Refusal → Marked
+marked_as m = marked_by number_of m
 
 -- an answer and its mark, by whether there is no pawn
 abbrev pub marked_for : Bool → ℕ → Result Answer ℕ → Marked

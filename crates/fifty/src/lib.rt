@@ -16,8 +16,8 @@ use rules::Piece;
 
 // Look-up's answer at a count, and whether it is marked "within fifty".
 #[derive(Clone, Copy)]
-pub struct Marked {
-    pub answer: Result<Answer, Refusal>,
+pub struct Marked<R = Refusal> {
+    pub answer: Result<Answer, R>,
     pub within_fifty: bool,
 }
 

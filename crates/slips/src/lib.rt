@@ -6,10 +6,10 @@ mod writing;
 ghost use Rattle.std.specs.Prelude.{◌≡◌, [], Ok};
 ghost use Rattle.slips.specs.Slip.{word_and_number, mark_text, advice_text, side_letter, gapped, padded, slip_of, placed_slip, refused_slip};
 ghost use Rattle.slips.specs.Appending.{appended};
-ghost use Rattle.desk_refusals.specs.Numbers.{by_number};
+ghost use Rattle.desk_refusals.specs.Numbers.{numbered};
 
 use answers::Answer;
-use desk_refusals::Refusal;
+use desk_refusals::Numbered;
 use position::{Position, man_in};
 use rules::Move;
 use writing::{blank, with_byte, with_number, with_square, with_text};
@@ -34,23 +34,23 @@ fn value_slip(a: Answer) -> Slip
 }
 
 // The slip of look-up's answer.
-pub fn answer_slip(a: Result<Answer, Refusal>) -> Slip
-    ensures { result ≡ padded (slip_of (by_number a)) }
+pub fn answer_slip<R: Numbered>(a: Result<Answer, R>) -> Slip
+    ensures { result ≡ padded (slip_of (numbered R.shown_number a)) }
 {
     match a {
         Ok(value) => value_slip(value),
-        Err(r) => refused_slip(r.number()),
+        Err(r) => refused_slip(r.shown()),
     }
 }
 
 // The slip of numbering back's answer.
 // The same two arms as above, over another value.
-pub fn placed_slip(p: Result<Position, Refusal>) -> Slip
-    ensures { result ≡ padded (placed_slip (by_number p)) }
+pub fn placed_slip<R: Numbered>(p: Result<Position, R>) -> Slip
+    ensures { result ≡ padded (placed_slip (numbered R.shown_number p)) }
 {
     match p {
         Ok(at) => position_slip(at),
-        Err(r) => refused_slip(r.number()),
+        Err(k) => refused_slip(k.shown()),
     }
 }
 

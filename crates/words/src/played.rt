@@ -1,9 +1,9 @@
 // The position after a move as one word.
 ghost use Rattle.std.specs.Prelude.{◌≡◌, Ok, Some};
 ghost use Rattle.words.specs.Played.{played_word};
-ghost use Rattle.desk_refusals.specs.Numbers.{by_number};
+ghost use Rattle.desk_refusals.specs.Numbers.{numbered};
 
-use desk_refusals::Refusal;
+use desk_refusals::Numbered;
 use given_words::short_man;
 use position::Position;
 
@@ -18,12 +18,12 @@ fn after_word(p: Position) -> u64
         + u64::from(short_man(second)) * 0x1_0000_0000_0000
 }
 
-pub fn played_word(p: Result<Option<Position>, Refusal>) -> u64
-    ensures { result ≡ played_word (by_number p) }
+pub fn played_word<R: Numbered>(p: Result<Option<Position>, R>) -> u64
+    ensures { result ≡ played_word (numbered R.shown_number p) }
 {
     match p {
         Ok(Some(at)) => after_word(at),
         Ok(None) => 0x8000,
-        Err(r) => r.number() as u64,
+        Err(r) => r.shown() as u64,
     }
 }

@@ -45,3 +45,14 @@ handed-on r s d e n q k f g =
       ap refused f ∙ ap number_of g ∙ m,
       λ z. some-number e (m ∙ z),
     )
+
+-- two refusals have two numbers
+pub one-number : (r s : Refusal) → number_of r ≡ number_of s → r ≡ s
+one-number = grind arith
+
+-- and two answers that are one by number are one
+pub one-answer : {A : Type 0} (r s : Result A Refusal) → by_number r ≡ by_number s → r ≡ s
+one-answer (Ok x) (Ok y) e = grind arith
+one-answer (Ok x) (Err s) e = grind arith
+one-answer (Err r) (Ok y) e = grind arith
+one-answer (Err r) (Err s) e = grind arith

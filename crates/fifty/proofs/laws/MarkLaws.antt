@@ -5,7 +5,10 @@ use Rattle.std.proofs.Common.{ap, ◌∙◌}
 use Rattle.std.proofs.Math.Bool.{true, false}
 use borrow.Author.Tests.{lt-ltb, le-ltb}
 use Rattle.answers.specs.declared.Answer.{Answer}
-use Rattle.fifty.specs.Marks.{Marked, marks, is_refused, at_count, marked_for}
+use Rattle.desk_refusals.specs.declared.Refusal.{Refusal}
+use Rattle.desk_refusals.proofs.laws.Numbers.{one-answer}
+use Rattle.fifty.specs.declared.Marked as declared
+use Rattle.fifty.specs.Marks.{Marked, marked_as, marks, is_refused, at_count, marked_for}
 
 module _ (c : ℕ) (a : Result Answer ℕ) (r : Bool) (e : r ≡ is_refused a) where
   pub kept-refused : r ≡ true → a ≡ at_count c a
@@ -32,3 +35,11 @@ pub marked-found : (free is : Bool) (c : ℕ) (found looked : Result Answer ℕ)
 marked-found free is c found looked r f e h =
     h ∙ ap (λ (a : Result Answer ℕ). marked_for free c (at_count c a)) e
     ∙ ap (λ (x : Bool). marked_for x c (at_count c looked)) f
+
+-- two answers at a count that are one by number, and marked alike, are one
+pub one-mark : (m n : declared.Marked Refusal) → marked_as m ≡ marked_as n → m ≡ n
+one-mark m n e =
+    ap {B = declared.Marked Refusal} (λ (a : Result Answer Refusal). record { answer = a; within_fifty = m.within_fifty })
+    (one-answer m.answer n.answer (ap (λ (x : Marked). x.answer) e))
+    ∙ ap {B = declared.Marked Refusal} (λ (w : Bool). record { answer = n.answer; within_fifty = w })
+    (ap (λ (x : Marked). x.within_fifty) e)

@@ -1,5 +1,5 @@
 -- One turn of the loop that weighs a byte against the moves of a list.
-use Rattle.std.specs.Prelude.{◌≡◌, refl, true, false, List, [], ◌∷◌, ℕ, zero, suc, ◌+◌, ◌≤◌, ◌<◌, length, drop, get_or, take}
+use Rattle.std.specs.Prelude.{◌≡◌, refl, true, false, List, [], ◌∷◌, ◌++◌, ℕ, zero, suc, ◌+◌, ◌-◌, ◌≤◌, ◌<◌, length, drop, get_or, replicate, take}
 use Rattle.std.specs.Prelude.{Option as Found, Some, None}
 use Rattle.std.specs.Option.{option_or}
 use Rattle.std.specs.Bool.{then_some}
@@ -59,6 +59,18 @@ module _ (q : Place) (byte : ℕ) (table run : List ℕ) where
         all = ap (λ (l : MoveList). take l.count l.moves) f ∙ take_at (all_moves (pawn_at q)) _ _ refl;
         left = λ o. refl;
       }
+
+  -- the list that the loop goes over: all the moves, then zero moves; how many they are; and they fit
+  pub weighing-list : (p : Position) (list : MoveList)
+      → p ≡ keyed.lone 4 q.side q.white q.first q.black → list ≡ list_of (all_moves (keyed.board_of p))
+      → (list.moves ≡ all_moves (pawn_at q) ++ replicate (room - length (all_moves (pawn_at q))) zero_move)
+      × (list.count ≡ length (all_moves (pawn_at q)))
+      × (list.count ≤ room)
+  unfolding list_of
+  weighing-list p list e d =
+      let b = ap keyed.board_of e ∙ posed-board q in
+      let f = d ∙ ap (λ b. list_of (all_moves b)) b in
+      (ap (λ (l : MoveList). l.moves) f, ap (λ (l : MoveList). l.count) f, moves-fit p list d)
 
   module _ (moves : List Move) (best : Found Move) (i : ℕ) (w : Weighing q byte table run moves best i) where
     module _ (h : i < length moves) where

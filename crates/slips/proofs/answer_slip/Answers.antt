@@ -4,8 +4,8 @@ use borrow.Author.Rules.{rules}
 use Rattle.slips.proofs.answer_slip.Goals as goal
 
 pub returns-in-Ok : goal.returns-in-Ok
-returns-in-Ok c = rw c.in-Ok.is c.value_slip.ensures
+returns-in-Ok g c = rw c.in-Ok.is c.value_slip.ensures
 
 pub returns-in-Err : goal.returns-in-Err
 unfolding answer_text slip_of refused_slip
-returns-in-Err c = rw (c.in-Err.is, ← c.number.ensures) c.refused_slip.ensures
+returns-in-Err g c = rw (c.in-Err.is, ← c.shown.ensures) c.refused_slip.ensures

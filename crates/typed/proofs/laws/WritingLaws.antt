@@ -1,7 +1,7 @@
 -- Writing a number with its check: refusals 8 and 9 exactly in their cases and for any man alike; what is written is accepted on a line, and leads
 -- back.
-use Rattle.std.specs.Prelude.{◌≡◌, refl, Bool, true, false, cond, List, ℕ, ◌<◌, ◌≤◌, leb, replicate, Err, Ok}
-use Rattle.std.proofs.Common.{ap, ◌∙◌, arith, lit<, leb-true, leb-false}
+use Rattle.std.specs.Prelude.{◌≡◌, refl, Bool, true, false, cond, List, ℕ, ◌<◌, ◌≤◌, leb, replicate, Err, Ok, Result}
+use Rattle.std.proofs.Common.{ap, sym, ◌∙◌, arith, lit<, leb-true, leb-false}
 use Rattle.std.proofs.lemmas.Bool.{lt-leb}
 use Rattle.check_digits.specs.Check.{with_check, digit_bytes}
 use Rattle.position.specs.declared.Position.{Position}
@@ -10,7 +10,9 @@ use Rattle.index.proofs.laws.AnswerLaws.{placed-above, placed-unused, placed-use
 use Rattle.lines.specs.Grammar.{kind_named}
 use Rattle.lines.specs.Typed.{number_line}
 use Rattle.lines.proofs.laws.WrittenLines.{written-line, written-request, no-space}
-use Rattle.typed.specs.Writing.{Written, written_by, written_of, typed_line, LeadsBack}
+use Rattle.desk_refusals.specs.declared.Refusal.{Refusal}
+use Rattle.desk_refusals.proofs.laws.Numbers.{some-number, one-number}
+use Rattle.typed.specs.Writing.{Written, written_as, written_by, written_of, typed_line, LeadsBack}
 
 -- ---- for the code: by what numbering back answers
 
@@ -87,3 +89,10 @@ written_back letter n m z = go (leb 59136 n) refl (unused (position_at 0 n)) ref
     go true e u f = refused 8 (writes-8 n (leb-true 59136 n e)) (lit< tt)
     go false e true f = refused 9 (writes-9 n (leb-false 59136 n e) f) (lit< tt)
     go false e false f = rw (writes-used n (leb-false 59136 n e) f) (used-back letter n m (leb-false 59136 n e) f)
+
+-- what two calls write is one where it is one by number
+pub one-written : (r s : Result (List ℕ) Refusal) → written_as r ≡ written_as s → r ≡ s
+one-written (Ok ds) (Ok es) e = ap (λ (w : Written). Ok w.digits) e
+one-written (Ok ds) (Err s) e = absurd (some-number s (sym (ap (λ (w : Written). w.refusal) e)))
+one-written (Err r) (Ok es) e = absurd (some-number r (ap (λ (w : Written). w.refusal) e))
+one-written (Err r) (Err s) e = ap Err (one-number r s (ap (λ (w : Written). w.refusal) e))
